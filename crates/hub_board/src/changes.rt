@@ -1,6 +1,7 @@
 //! The changes of a state that threads wait for.
 
 use crate::bells::Bells;
+use crate::pause::Pause;
 use crate::ringer::Ringer;
 use std::sync::atomic::{AtomicU64, Ordering};
 use std::sync::{Condvar, Wait};
@@ -20,6 +21,8 @@ pub struct Changes {
     outcomes: Bells,
     /// Wakes the threads whose commands are answered.
     pub ringer: Ringer,
+    /// How long the flusher waits for commands, and for how many.
+    pub pause: Pause,
     /// The place below which the outcome of each command is known, or 2^64 - 1 once the state has
     /// stopped.
     reached: AtomicU64,
@@ -33,6 +36,7 @@ impl Changes {
             seal: Condvar::new(),
             outcomes: Bells::new(),
             ringer: Ringer::new(),
+            pause: Pause::new(),
             reached: AtomicU64::new(0),
         }
     }
@@ -72,8 +76,12 @@ impl Changes {
 
     /// Waits until there are more changes of a kind than `seen`, at most 10 milliseconds.
     pub fn rest<R: Wait>(&self, rt: &R, awaited: Awaited, seen: u64) {
-        self.bell(awaited)
-            .sleep(rt, seen, Duration::from_millis(LONGEST_REST));
+        self.rest_for(rt, awaited, seen, Duration::from_millis(LONGEST_REST));
+    }
+
+    /// Waits until there are more changes of a kind than `seen`, at most this long.
+    pub fn rest_for<R: Wait>(&self, rt: &R, awaited: Awaited, seen: u64, most: Duration) {
+        self.bell(awaited).sleep(rt, seen, most);
     }
 
     fn bell(&self, awaited: Awaited) -> &Condvar {

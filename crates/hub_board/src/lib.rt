@@ -9,10 +9,12 @@
 mod bells;
 mod board;
 mod changes;
+mod pause;
 mod ringer;
 mod tally;
 
 pub use board::Board;
 pub use changes::{Changes, LONGEST_REST};
+pub use pause::Pause;
 pub use ringer::Ringer;
 pub use tally::{Completed, Done};

@@ -22,7 +22,15 @@ use Rattle.atomic_table.proofs.shared.Shared.TheSendSync as shared
 use Rattle.atomic_table.proofs.send_lease.SendLease.TheSendSync as lease
 use Rattle.hub_board.specs.contracts.board.Board as Board
 use Rattle.sector_dev.specs.declared.device.Device as device
+use Rattle.command_log.specs.declared.name.LogName as named
+use Rattle.command_log.specs.contracts.claims.Accepted as Accepted
+use Rattle.command_log.specs.contracts.claims.Logged as Logged
+use Rattle.command_log.specs.contracts.log.CommandLog as CommandLog
+use Rattle.logged_state.specs.declared.name.StateName as opened
+use Rattle.logged_state.specs.contracts.receipt.LoggedReceipt as LoggedReceipt
+use Rattle.logged_state.specs.contracts.state.LoggedState as LoggedState
 use Rattle.path_hub.specs.declared.name.HubName as hub
+use Rattle.path_hub.specs.contracts.show.HubNote as HubNote
 use Rattle.path_hub.specs.contracts.answer.Answer as Answer
 use Rattle.path_hub.specs.contracts.answer.Slot as Slot
 use Rattle.path_hub.specs.contracts.handing.UnderWay as UnderWay
@@ -41,29 +49,47 @@ use Rattle.path_hub.specs.contracts.hub.Hub as Hub
 use Rattle.path_hub.specs.contracts.show.HubShow as HubShow
 use Rattle.path_hub.specs.contracts.reader.HubReader as HubReader
 
-module _ (N : RattleType) (h : hub.Ghosts N.Denot) (q : queue.Ghosts N.Denot) (n : IsSend N) where
-  answer_send : IsSend (Answer.the_row N h q)
-  answer_send = recorded_send _ _ _ (Answer.the_type N h q).to_one (struct_send (shape (Answer.the_type N h q)) (claim_send N q n, (search (sendable, crosses) depth 30 fits 20000, tt)))
+-- what a pass of a log is in
+module _ (N : RattleType) (l : named.Ghosts N.Denot) (n : IsSend N) where
+  accepted_send : IsSend (Accepted.the_row N l)
+  accepted_send = search (sendable, crosses, seat.the_send) depth 30 fits 20000
 
-  slot_send : IsSend (Slot.the_row N h q)
-  slot_send = recorded_send _ _ _ (Slot.the_type N h q).to_one (struct_send (shape (Slot.the_type N h q)) (search (sendable, crosses, answer_send) depth 12, tt))
+  logged_send : IsSend (Logged.the_row N l)
+  logged_send = search (sendable, crosses, seat.the_send) depth 30 fits 20000
 
-  slot_sync : IsSync (Slot.the_row N h q)
-  slot_sync = recorded_sync _ _ _ (Slot.the_type N h q).to_one (struct_sync (shape (Slot.the_type N h q)) (search (sendable, crosses, answer_send) depth 12, tt))
+  log_send : IsSend (CommandLog.the_row N l)
+  log_send = search (sendable, crosses, seat.the_send, shared.the_send, shared.the_sync, lease.the_send, lease.the_sync) depth 60 fits 20000
 
-  slots_send : IsSend (Arc.the_row (Slot.the_row N h q) Global.the_row heap.ghosts)
-  slots_send = Arc-send (Slot.the_row N h q) slot_send slot_sync
+module _ (N : RattleType) (s : opened.Ghosts N.Denot) (l : named.Ghosts N.Denot) (q : queue.Ghosts N.Denot) (n : IsSend N) where
+  note_send : IsSend (HubNote.the_row N s l q)
+  note_send = search (sendable, crosses) depth 20
 
-  under_way_send : IsSend (UnderWay.the_row N h q)
-  under_way_send = recorded_send _ _ _ (UnderWay.the_type N h q).to_one (struct_send (shape (UnderWay.the_type N h q)) (search (sendable, crosses) depth 30 fits 20000, (claim_send N q n, (slots_send, tt))))
+  receipt_send : IsSend (LoggedReceipt.the_row N (HubNote.the_row N s l q) s l)
+  receipt_send = search (sendable, crosses, note_send, logged_send) depth 30 fits 20000
 
-  pub queue_sync : IsSync (Mutex.the_row (CommandQueue.the_row N (Arc.the_row (Slot.the_row N h q) Global.the_row heap.ghosts) q))
+  answer_send : IsSend (Answer.the_row N s l q)
+  answer_send = recorded_send _ _ _ (Answer.the_type N s l q).to_one (struct_send (shape (Answer.the_type N s l q)) (claim_send N q n, (search (sendable, crosses, receipt_send) depth 30 fits 20000, tt)))
+
+  slot_send : IsSend (Slot.the_row N s l q)
+  slot_send = recorded_send _ _ _ (Slot.the_type N s l q).to_one (struct_send (shape (Slot.the_type N s l q)) (search (sendable, crosses, answer_send) depth 12, tt))
+
+  slot_sync : IsSync (Slot.the_row N s l q)
+  slot_sync = recorded_sync _ _ _ (Slot.the_type N s l q).to_one (struct_sync (shape (Slot.the_type N s l q)) (search (sendable, crosses, answer_send) depth 12, tt))
+
+  slots_send : IsSend (Arc.the_row (Slot.the_row N s l q) Global.the_row heap.ghosts)
+  slots_send = Arc-send (Slot.the_row N s l q) slot_send slot_sync
+
+  under_way_send : IsSend (UnderWay.the_row N s l q)
+  under_way_send =
+      recorded_send _ _ _ (UnderWay.the_type N s l q).to_one (struct_send (shape (UnderWay.the_type N s l q)) (search (sendable, crosses) depth 30 fits 20000, (claim_send N q n, (accepted_send N l n, (slots_send, tt)))))
+
+  pub queue_sync : IsSync (Mutex.the_row (CommandQueue.the_row N (Arc.the_row (Slot.the_row N s l q) Global.the_row heap.ghosts) q))
   queue_sync =
-      let slots = Arc.the_row (Slot.the_row N h q) Global.the_row heap.ghosts in
+      let slots = Arc.the_row (Slot.the_row N s l q) Global.the_row heap.ghosts in
       let queue : IsSend (CommandQueue.the_row N slots q) = recorded_send _ _ _ (CommandQueue.the_type N slots q).to_one (queue_send N slots q n slots_send) in search crosses
 
-  pub under_way_sync : IsSync (Mutex.the_row (VecDeque.the_row (UnderWay.the_row N h q) Global.the_row heap.ghosts))
-  under_way_sync = let all = Deque-send (UnderWay.the_row N h q) under_way_send in search crosses
+  pub under_way_sync : IsSync (Mutex.the_row (VecDeque.the_row (UnderWay.the_row N s l q) Global.the_row heap.ghosts))
+  under_way_sync = let all = Deque-send (UnderWay.the_row N s l q) under_way_send in search crosses
 
 segment_send : IsSend Segment.the_row
 segment_send = search (sendable, crosses) depth 60 fits 20000
@@ -111,16 +137,20 @@ module _ (D S M : RattleType) (d : device.Ghosts D.Denot) (g : show.Ghosts S.Den
   state_send : IsSend (State.the_row D S M d g)
   state_send = search (sendable, crosses, kept_send, db_send, command_send, merge_send) depth 60 fits 20000
 
-module _ (N R : RattleType) (h : hub.Ghosts N.Denot) (q : queue.Ghosts N.Denot) (n : IsSend N) (m : IsSync N) (r : IsSend R) where
-  show_send : IsSend (HubShow.the_row N R h q)
+module _ (D S N M : RattleType) (d : device.Ghosts D.Denot) (g : show.Ghosts S.Denot M.Denot) (s : opened.Ghosts N.Denot) (l : named.Ghosts N.Denot) (e : IsSend D) (t : IsSend S) (n : IsSend N) where
+  with_log_send : IsSend (LoggedState.the_row D S N M d g s l)
+  with_log_send = search (sendable, crosses, state_send, log_send) depth 30 fits 20000
+
+module _ (N R : RattleType) (h : hub.Ghosts N.Denot) (s : opened.Ghosts N.Denot) (l : named.Ghosts N.Denot) (q : queue.Ghosts N.Denot) (n : IsSend N) (m : IsSync N) (r : IsSend R) where
+  show_send : IsSend (HubShow.the_row N R h s l q)
   show_send = search (sendable, crosses, published_send, published_sync, command_send, part.the_send, part.the_sync, deed.the_send, seat.the_send, shared.the_send, shared.the_sync, lease.the_send, lease.the_sync) depth 80 fits 50000
 
-  readers_sync : IsSync (Mutex.the_row (Vec.the_row (HubReader.the_row N h q) Global.the_row heap.ghosts))
+  readers_sync : IsSync (Mutex.the_row (Vec.the_row (HubReader.the_row N h s l q) Global.the_row heap.ghosts))
   readers_sync = search (sendable, crosses, published_send, published_sync, part.the_send, part.the_sync, deed.the_send, seat.the_send, shared.the_send, shared.the_sync, lease.the_send, lease.the_sync) depth 80 fits 50000
 
 board_sync : IsSync (Board.the_field).row
 board_sync = search (sendable, crosses) depth 80 fits 50000
 
-module _ (D N R : RattleType) (d : device.Ghosts D.Denot) (h : hub.Ghosts N.Denot) (q : queue.Ghosts N.Denot) (w : wait.Ghosts R.Denot) (e : IsSend D) (n : IsSend N) (m : IsSync N) (r : IsSend R) (s : IsSync R) where
-  pub hub_sync : IsSync (Hub.the_row D N R h q d w)
-  hub_sync = recorded_sync _ _ _ (Hub.the_type D N R h q d w).to_one (struct_sync (shape (Hub.the_type D N R h q d w)) (s, (search (sendable, crosses), (queue_sync N h q n, (search (sendable, crosses), (under_way_sync N h q n, (search (crosses, state_send, show_send) depth 12, (search (sendable, crosses) depth 20 fits 5000, (board_sync, (search (sendable, crosses), (readers_sync N R h q n m r, tt)))))))))))
+module _ (D N R : RattleType) (s : opened.Ghosts N.Denot) (l : named.Ghosts N.Denot) (q : queue.Ghosts N.Denot) (d : device.Ghosts D.Denot) (h : hub.Ghosts N.Denot) (w : wait.Ghosts R.Denot) (e : IsSend D) (n : IsSend N) (m : IsSync N) (r : IsSend R) (t : IsSync R) where
+  pub hub_sync : IsSync (Hub.the_row D N R s l q d h w)
+  hub_sync = recorded_sync _ _ _ (Hub.the_type D N R s l q d h w).to_one (struct_sync (shape (Hub.the_type D N R s l q d h w)) (t, (search (sendable, crosses), (queue_sync N s l q n, (search (sendable, crosses), (under_way_sync N s l q n, (search (crosses, with_log_send, show_send) depth 12, (search (sendable, crosses) depth 20 fits 5000, (board_sync, (search (sendable, crosses), (readers_sync N R h s l q n m r, tt)))))))))))

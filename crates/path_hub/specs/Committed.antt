@@ -1,13 +1,18 @@
 -- What a hub returns for a command that was handed in.
-use Rattle.std.specs.Prelude.{◌≡◌, ℕ, ◌<◌, nat_lt, Bool, false, Option, Some, None, MatchOption}
+use Rattle.std.specs.Prelude.{◌≡◌, ℕ, ◌+◌, ◌<◌, nat_lt, Bool, false, List, Option, Some, None, MatchOption}
+use Rattle.path_rows.specs.Database.{RowView}
 use Rattle.path_rows.specs.declared.command.Command.{Command}
-use Rattle.group_core.specs.declared.ticket.Receipt.{Receipt}
+use Rattle.store_layout.specs.Opening.{StoreValue}
+use Rattle.logged_state.specs.ReceiptView.{ReceiptView}
 use Rattle.path_hub.specs.declared.error.HubError.{HubError}
 use Rattle.path_hub.specs.declared.error.HubError.TheVariants as hub
 
--- A hub's receipt of a command shows that command, and its note is a place above the command's own.
-pub record ReceiptShows (handed : Command) (receipt : Receipt ℕ) : Type 0 where
-  pub command : receipt.command.value ≡ handed
+-- A hub's receipt of a command claims that the log of the hub's state has that command at its index
+-- among the committed ones. The receipt's place counts from that of the value that the hub opened
+-- with, and its note is a place above its own.
+pub record ReceiptShows (opening : StoreValue (List RowView)) (handed : Command) (receipt : ReceiptView ℕ) : Type 0 where
+  pub command : receipt.logged.command ≡ handed
+  pub place : receipt.place ≡ opening.place + receipt.logged.index
   pub note : MatchOption receipt.note ⊥ (λ shown. receipt.place < shown)
 
 -- Why a command that was handed in has no receipt: it was not accepted, or the state stopped before
@@ -17,6 +22,13 @@ RefusesCommand hub.NoMemory = ⊥
 RefusesCommand hub.NoReader = ⊥
 RefusesCommand (hub.Stopped place) = Unit {0}
 RefusesCommand (hub.Submit e) = Unit {0}
+
+-- Why a command is not handed in: it was not accepted.
+abbrev pub RefusesHandingIn : HubError → Type 0
+RefusesHandingIn hub.NoMemory = ⊥
+RefusesHandingIn hub.NoReader = ⊥
+RefusesHandingIn (hub.Stopped place) = ⊥
+RefusesHandingIn (hub.Submit e) = Unit {0}
 
 -- Whether there is a note, which is a place above this one.
 abbrev pub is_above : ℕ → Option ℕ → Bool

@@ -1,6 +1,5 @@
 pub mod Committed
 pub mod Learnt
-pub mod Left
 pub mod Showcase
 pub mod Showing
 pub mod Shown

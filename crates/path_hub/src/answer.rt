@@ -1,18 +1,20 @@
 //! The answers to commands that were handed in.
 
-ghost use Rattle.std.specs.Prelude.{◌≡◌, true, IfSome, IfOk};
-ghost use Rattle.std.specs.Result.{ForOk};
+ghost use Rattle.std.specs.Prelude.{◌≡◌, ◌+◌, true, IfSome, IfOk, OnErr};
+ghost use Rattle.std.specs.Result.{ForOk, ForErr};
 ghost use Rattle.path_hub.specs.Committed.{ReceiptShows, is_above};
 
 use crate::error::HubError;
 use crate::name::HubName;
 use crate::show::HubNote;
 use command_queue::Claim;
-use group_core::{Receipt, SubmitError};
+use group_core::SubmitError;
+use logged_state::LoggedReceipt;
 use std::sync::{Mutex, Wait};
 
-/// A receipt of a command that a hub has committed.
-pub type HubReceipt<N> = Receipt<HubNote<N>>;
+/// A receipt of a command that a hub has committed, with the claim that the log of the hub's state
+/// has the command at its index.
+pub type HubReceipt<N> = LoggedReceipt<N, HubNote<N>>;
 
 /// Why a command that was handed in has no receipt.
 #[derive(Clone, Copy, Debug, PartialEq, Eq)]
@@ -41,15 +43,17 @@ impl From<NotCommitted> for HubError {
 pub(crate) struct Answer<N: HubName> {
     claim: Claim<N>,
     outcome: Result<HubReceipt<N>, NotCommitted>,
-    ghost shows: { ForOk outcome (λ receipt. receipt.command.value ≡ claim.command.value) },
+    ghost shows: { ForOk outcome (λ receipt. receipt.logged.command ≡ claim.command.value) },
+    ghost placed: { ForOk outcome (λ receipt. receipt.place ≡ N.opening.place + receipt.logged.index) },
     ghost noted: { ForOk outcome (λ receipt. is_above receipt.place receipt.note ≡ true) },
+    ghost refused: { ForErr outcome (λ _. N.refused claim.command.value ≡ true) },
 }
 
 impl<N: HubName> Answer<N> {
     /// The command of the claim is committed.
     #[tactic(auto, using(crate::proofs::Committed::tests))]
     pub(crate) fn committed(claim: Claim<N>, receipt: HubReceipt<N>) -> Answer<N>
-        requires { ReceiptShows claim.command.value receipt }
+        requires { ReceiptShows N.opening claim.command.value receipt }
     {
         Answer {
             claim,
@@ -57,8 +61,11 @@ impl<N: HubName> Answer<N> {
         }
     }
 
-    /// The command of the claim has no receipt.
-    pub(crate) fn refused(claim: Claim<N>, why: NotCommitted) -> Answer<N> {
+    /// The command of the claim has no receipt. Only a command that was taken out of the queue is
+    /// refused so.
+    pub(crate) fn refused(claim: Claim<N>, why: NotCommitted) -> Answer<N>
+        requires { N.refused claim.command.value ≡ true }
+    {
         Answer {
             claim,
             outcome: Err(why),
@@ -71,9 +78,10 @@ impl<N: HubName> Answer<N> {
     }
 
     /// The outcome, where the answer is to this claim.
-    #[tactic(auto, using(crate::proofs::Committed::answer_shows))]
+    #[tactic(auto, using(crate::proofs::Committed::answer_shows, crate::proofs::Committed::answer_refuses))]
     fn outcome_of(self, claim: &Claim<N>) -> Option<Result<HubReceipt<N>, NotCommitted>>
-        ensures { IfSome result (λ outcome. IfOk outcome (ReceiptShows claim.now.command.value)) }
+        ensures committed { IfSome result (λ outcome. IfOk outcome (ReceiptShows N.opening claim.now.command.value)) }
+        ensures refused { IfSome result (λ outcome. OnErr outcome (N.refused claim.now.command.value ≡ true)) }
     {
         let Answer {
             claim: answered,
@@ -112,7 +120,8 @@ impl<N: HubName> Slot<N> {
         rt: &impl Wait,
         claim: &Claim<N>,
     ) -> Option<Result<HubReceipt<N>, NotCommitted>>
-        ensures { IfSome result (λ outcome. IfOk outcome (ReceiptShows claim.now.command.value)) }
+        ensures committed { IfSome result (λ outcome. IfOk outcome (ReceiptShows N.opening claim.now.command.value)) }
+        ensures refused { IfSome result (λ outcome. OnErr outcome (N.refused claim.now.command.value ≡ true)) }
     {
         let answer = self.answer.lock(rt).take();
         answer?.outcome_of(claim)

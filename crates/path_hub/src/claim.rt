@@ -1,6 +1,6 @@
 //! Claims on the answers to commands that were handed in.
 
-ghost use Rattle.std.specs.Prelude.{◌≡◌, IfSome, IfOk};
+ghost use Rattle.std.specs.Prelude.{◌≡◌, true, IfSome, IfOk, OnErr};
 ghost use Rattle.path_hub.specs.Committed.{ReceiptShows};
 
 use crate::answer::{HubReceipt, NotCommitted, Slot};
@@ -42,7 +42,8 @@ impl<N: HubName> HubClaim<N> {
 
     /// Takes the answer, if it is there.
     pub(crate) fn take_answer(&self, rt: &impl Wait) -> Option<Result<HubReceipt<N>, NotCommitted>>
-        ensures { IfSome result (λ outcome. IfOk outcome (ReceiptShows self.now)) }
+        ensures committed { IfSome result (λ outcome. IfOk outcome (ReceiptShows N.opening self.now)) }
+        ensures refused { IfSome result (λ outcome. OnErr outcome (N.refused self.now ≡ true)) }
     {
         self.slot.take(rt, &self.claim)
     }

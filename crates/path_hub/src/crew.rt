@@ -1,16 +1,17 @@
 //! A hub with its two actors, and any number of threads beside them.
 
-ghost use Rattle.std.specs.Prelude.{◌≡◌, ◌⊎◌, IfErr, OnOk};
+ghost use Rattle.std.specs.Prelude.{◌≡◌, ◌⊎◌, true, IfErr, IfNone, IfSome, IsSome, OnOk};
 ghost use Rattle.sector_dev.specs.Disk.{IsHonest};
 ghost use Rattle.sector_dev.specs.Image.{EveryImage};
 ghost use Rattle.group_core.specs.Starting.{value_of_store};
+ghost use Rattle.path_rows.specs.declared.command.Command.{Command};
 ghost use Rattle.path_hub.specs.declared.error.HubError.TheVariants.{NoMemory, NoReader};
-ghost use Rattle.path_hub.specs.Left.{OpensAfter};
+ghost use Rattle.logged_state.specs.Left.{OpensToLog};
 
 use crate::error::HubError;
 use crate::hub::Hub;
-use crate::name::HubName;
-use command_queue::NewHistory;
+use crate::name::{HubName, NewName};
+use logged_state::Left;
 use sector_dev::Device;
 use std::alloc::Global;
 use std::marker::Brand;
@@ -71,22 +72,35 @@ impl<D: Device, N: HubName, R: Wait + Clock, C: Crew<D, R>> Watch for Watching<'
 /// Makes a hub over a store, starts the flusher, the checkpointer and a thread for each guest, and
 /// returns the number of guests that were attended to (a count that stays at 2^64 - 1) once the
 /// last of these threads has ended. Then the state is stopped and the actors end. The device is
-/// returned in every case. Where the hub or an actor's thread is not given, the error is `NoMemory`
-/// or `NoReader`. The caller gives each state of a process a home number of its own.
+/// returned in every case, and with it the log of all commands that the state accepted, if there
+/// was a hub: an honest device opens to that log. Where the hub or an actor's thread is not given,
+/// the error is `NoMemory` or `NoReader`. The caller gives each state of a process a home number of
+/// its own.
 pub fn with_crew<
     D: Device + Send,
     C: Crew<D, R> + Sync,
     R: Wait + Clock + Threads + Copy + Drop + Send + Sync,
->(rt: R, alloc: Global, store: Store<D>, home: u64, crew: &C) -> (D, Result<u64, HubError>)
-    ensures why { IfErr result.1 (λ e. (e ≡ NoMemory) ⊎ (e ≡ NoReader)) }
-
-    // A device that is honest opens to the store's rows and place after some commands.
-    ensures left { OnOk result.1 (IsHonest (D.disk result.0) → EveryImage (D.disk result.0).history.now (OpensAfter (value_of_store store))) }
+>(
+    rt: R,
+    alloc: Global,
+    store: Store<D>,
+    home: u64,
+    crew: &C,
+) -> (D, Option<Left>, Result<u64, HubError>)
+    // Whatever the threads did and however the call ends, a device that is honest opens to the log
+    // that is left. Where none is left, no hub was made, and the device is the store's.
+    ensures left { IfSome result.1 (λ left. IsHonest (D.disk result.0) → EveryImage (D.disk result.0).history.now (OpensToLog (value_of_store store) left.log)) }
+    ensures unmade { IfNone result.1 (D.disk result.0 ≡ store.disk) }
+    ensures made { OnOk result.2 (IsSome result.1) }
+    ensures why { IfErr result.2 (λ e. (e ≡ NoMemory) ⊎ (e ≡ NoReader)) }
 {
-    named_crew::<Brand, D, C, R>(rt, alloc, NewHistory::new(), store, home, crew)
+    let Ok(name) = NewName::new(alloc) else {
+        return (store.into_device(), None, Err(HubError::NoMemory));
+    };
+    named_crew::<Brand, D, C, R>(rt, alloc, name, store, home, crew)
 }
 
-/// `with_crew` for one brand `N`, which ties readers to this hub.
+/// `with_crew` for one brand `N`, which ties readers and claims to this hub.
 fn named_crew<
     N: HubName + Send + Sync,
     D: Device + Send,
@@ -95,22 +109,27 @@ fn named_crew<
 >(
     rt: R,
     alloc: Global,
-    history: NewHistory,
+    name: NewName,
     store: Store<D>,
     home: u64,
     crew: &C,
-) -> (D, Result<u64, HubError>)
+) -> (D, Option<Left>, Result<u64, HubError>)
     requires opening { value_of_store store ≡ N.opening }
-    requires history { history.seen.book ≡ N.history }
-    ensures why { IfErr result.1 (λ e. (e ≡ NoMemory) ⊎ (e ≡ NoReader)) }
-    ensures left { OnOk result.1 (IsHonest (D.disk result.0) → EveryImage (D.disk result.0).history.now (OpensAfter N.opening)) }
+    requires log { name.log.table ≡ N.table }
+    requires history { name.history.seen.book ≡ N.history }
+    requires refusals { (command : Command) → N.refused command ≡ true }
+    ensures left { IfSome result.1 (λ left. IsHonest (D.disk result.0) → EveryImage (D.disk result.0).history.now (OpensToLog N.opening left.log)) }
+    ensures unmade { IfNone result.1 (D.disk result.0 ≡ store.disk) }
+    ensures made { OnOk result.2 (IsSome result.1) }
+    ensures why { IfErr result.2 (λ e. (e ≡ NoMemory) ⊎ (e ≡ NoReader)) }
 {
-    let hub = match Hub::<D, N, R>::open(rt, alloc, history, store, home) {
+    let hub = match Hub::<D, N, R>::open(rt, alloc, name, store, home) {
         Ok(hub) => hub,
-        Err((store, refused)) => return (store.into_device(), Err(refused)),
+        Err((store, refused)) => return (store.into_device(), None, Err(refused)),
     };
     let attended = act(&rt, &hub, crew);
-    (hub.close(), attended)
+    let (device, left) = hub.close();
+    (device, Some(left), attended)
 }
 
 /// Runs the thread that wakes others while the actors run and guests are attended to, and then stops

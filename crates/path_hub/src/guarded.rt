@@ -12,9 +12,10 @@ use group_core::{
     AtClosing, AtFollowed, AtFollowing, AtLaid, AtLive, AtOpened, AtPlan, AtStable, AtStaged,
     AtSwitched, AtWritten, BeginError, Closing, Commit, Durable, DurableFollowed, FollowError,
     Followed, Following, Laid, Live, Opened, Plan, PublishError, PublishFollowedError, Redeemed,
-    Stable, StageError, Staged, State, StepError, SubmitError, Switched, Ticket, Written,
+    Stable, StageError, Staged, StepError, SubmitError, Switched, Ticket, Written,
 };
 use hub_board::Done;
+use logged_state::LoggedState;
 use path_db::Command;
 use sector_dev::Device;
 use std::sync::atomic::Ordering;
@@ -22,8 +23,11 @@ use std::sync::{MutexGuard, Wait};
 use std::time::Clock;
 use store_loops::{Awaited, DeviceCall, Steps};
 
+/// The state of a hub, with its log.
+pub(crate) type HubState<D, N, R> = LoggedState<D, HubShow<N, R>, N>;
+
 /// The state of a hub under its lock.
-pub(crate) type Guarded<'a, D, N, R> = MutexGuard<'a, State<D, HubShow<N, R>>>;
+pub(crate) type Guarded<'a, D, N, R> = MutexGuard<'a, HubState<D, N, R>>;
 
 impl<D: Device, N: HubName, R: Wait + Clock> Hub<D, N, R> {
     /// Takes the state's lock for a call that uses the device, and notes on the board that the call
@@ -98,6 +102,7 @@ impl<D: Device, N: HubName, R: Wait + Clock> Steps for Hub<D, N, R> {
     }
 
     fn stage(&self) -> Result<Staged, StageError> {
+        self.pause();
         let mut state = self.state.lock(&self.rt);
         self.take_commands(&mut state, MOST_TAKEN);
         let staged = state.stage();
@@ -136,6 +141,7 @@ impl<D: Device, N: HubName, R: Wait + Clock> Steps for Hub<D, N, R> {
     fn sync_gate(&self, value: Opened) -> Result<Durable, StepError<AtOpened>> {
         let mut state = self.begin_call(DeviceCall::SyncGate);
         let next = state.sync_gate(value);
+        self.note_sync();
         self.end_call(state, Done::Nothing);
         self.wake_if_stopped(&next);
         next
@@ -149,6 +155,7 @@ impl<D: Device, N: HubName, R: Wait + Clock> Steps for Hub<D, N, R> {
         let to = state.place();
         let sealed = state.is_sealed();
         let done = Done::published(from, to).unless_refused(published.is_ok());
+        self.changes.pause.note_answered(to.saturating_sub(from));
         self.end_call(state, done);
         self.changes.announce_outcomes(from, to);
         if sealed {
@@ -179,6 +186,7 @@ impl<D: Device, N: HubName, R: Wait + Clock> Steps for Hub<D, N, R> {
     fn sync_followed(&self, value: Followed) -> Result<DurableFollowed, StepError<AtFollowed>> {
         let mut state = self.begin_call(DeviceCall::SyncFollowed);
         let next = state.sync_followed(value);
+        self.note_sync();
         self.end_call(state, Done::Nothing);
         self.wake_if_stopped(&next);
         next

@@ -1,16 +1,17 @@
 //! What is done with a hub's state, under its lock, for the commands that were handed in: they are
 //! submitted, their tickets redeemed, and their answers put where they go.
 
-ghost use Rattle.std.specs.Prelude.{◌≡◌, ◌<◌};
+ghost use Rattle.std.specs.Prelude.{◌≡◌, ◌+◌, ◌<◌, true};
 ghost use Rattle.std.specs.VecDeque.{deque_len, deque_capacity};
 
 use crate::answer::{Answer, NotCommitted, Slot};
+use crate::guarded::HubState;
 use crate::hub::Hub;
 use crate::name::HubName;
-use crate::show::HubShow;
 use command_queue::{Claim, HandedIn, MOST_WAITING};
-use group_core::{Redeemed, State, SubmitError, Ticket};
+use group_core::{SubmitError, Ticket};
 use hub_board::Done;
+use logged_state::{Accepted, LoggedRedeemed};
 use path_db::Command;
 use sector_dev::Device;
 use std::alloc::Global;
@@ -26,12 +27,17 @@ pub(crate) const MOST_TAKEN: u64 = 32;
 /// taken when the hub is made.
 pub(crate) const MOST_UNDER_WAY: usize = 256;
 
-/// A command that was submitted: its ticket and its claim, and where its answer goes.
+/// A command that was submitted: its ticket, the queue's claim of it and that of the state's log,
+/// and where its answer goes.
 pub(crate) struct UnderWay<N: HubName> {
     ticket: Ticket,
     claim: Claim<N>,
+    accepted: Accepted<N>,
     slot: Arc<Slot<N>, Global>,
     ghost same: { ticket.command.value ≡ claim.command.value },
+    ghost placed: { ticket.place ≡ N.opening.place + accepted.index },
+    ghost logged: { accepted.command ≡ ticket.command.value },
+    ghost refusable: { N.refused claim.command.value ≡ true },
 }
 
 /// The commands of the queue that were submitted and are not answered yet, in the order of their
@@ -41,7 +47,7 @@ pub(crate) type AllUnderWay<N> = VecDeque<UnderWay<N>>;
 impl<D: Device, N: HubName, R: Wait + Clock> Hub<D, N, R> {
     /// Submits commands of the queue, the longest waiting one first: at most 32, and only while
     /// fewer than `most` are pending. Commands for whose tickets memory is refused keep waiting.
-    pub(crate) fn take_commands(&self, state: &mut State<D, HubShow<N, R>>, most: u64) {
+    pub(crate) fn take_commands(&self, state: &mut HubState<D, N, R>, most: u64) {
         let mut under_way = self.under_way.lock(&self.rt);
         for _ in 0..MOST_TAKEN {
             if state.numbers().pending >= most || under_way.reserve(1).is_err() {
@@ -58,7 +64,7 @@ impl<D: Device, N: HubName, R: Wait + Clock> Hub<D, N, R> {
     #[tactic(auto, using(store_loops::proofs::Through::taken))]
     fn submit_one(
         &self,
-        state: &mut State<D, HubShow<N, R>>,
+        state: &mut HubState<D, N, R>,
         under_way: &mut AllUnderWay<N>,
         handed: HandedIn<N, Arc<Slot<N>, Global>>,
     )
@@ -69,10 +75,11 @@ impl<D: Device, N: HubName, R: Wait + Clock> Hub<D, N, R> {
             command,
             reply_to: slot,
         } = handed;
-        match state.submit(command) {
-            Ok(ticket) => under_way.push_back_reserved(UnderWay {
+        match state.submit_logged(command) {
+            Ok((ticket, accepted)) => under_way.push_back_reserved(UnderWay {
                 ticket,
                 claim,
+                accepted,
                 slot,
             }),
             Err((_command, refusal)) => {
@@ -101,7 +108,7 @@ impl<D: Device, N: HubName, R: Wait + Clock> Hub<D, N, R> {
 
     /// Answers all commands whose outcome is known: those that are committed, and all others where
     /// the state has stopped.
-    pub(crate) fn answer_known(&self, state: &mut State<D, HubShow<N, R>>) {
+    pub(crate) fn answer_known(&self, state: &mut HubState<D, N, R>) {
         let numbers = state.numbers();
         self.redeem_below(
             state,
@@ -117,7 +124,7 @@ impl<D: Device, N: HubName, R: Wait + Clock> Hub<D, N, R> {
     }
 
     /// Answers the commands under way whose places are below this one.
-    fn redeem_below(&self, state: &mut State<D, HubShow<N, R>>, end: u64) {
+    fn redeem_below(&self, state: &mut HubState<D, N, R>, end: u64) {
         let mut under_way = self.under_way.lock(&self.rt);
         for _ in 0..under_way.len() {
             let Some(first) = under_way.pop_front_if(|first| first.ticket.place() < end) else {
@@ -129,18 +136,20 @@ impl<D: Device, N: HubName, R: Wait + Clock> Hub<D, N, R> {
 
     /// Answers a command under way whose outcome is known.
     #[tactic(auto, using(crate::proofs::Committed::receipt_shows))]
-    fn redeem_one(&self, state: &mut State<D, HubShow<N, R>>, first: UnderWay<N>) {
+    fn redeem_one(&self, state: &mut HubState<D, N, R>, first: UnderWay<N>) {
         let UnderWay {
             ticket,
             claim,
+            accepted,
             slot,
         } = first;
-        let answer = match state.redeem(ticket) {
-            Redeemed::Committed(receipt) => Answer::committed(claim, receipt),
-            Redeemed::Unknown(place) => Answer::refused(claim, NotCommitted::Stopped(place)),
+        let answer = match state.redeem_logged(ticket, accepted) {
+            LoggedRedeemed::Committed(receipt) => Answer::committed(claim, receipt),
+            LoggedRedeemed::Unknown(place) => Answer::refused(claim, NotCommitted::Stopped(place)),
             // The state has given the ticket, and its outcome is known: only a defect of the
             // program leads here.
-            Redeemed::Waiting(ticket) | Redeemed::Stranger(ticket) => {
+            LoggedRedeemed::Waiting(ticket, _accepted)
+            | LoggedRedeemed::Stranger(ticket, _accepted) => {
                 let place = ticket.place();
                 self.has_stranger.store(true, Ordering::SeqCst);
                 state.give_up_ticket(ticket);
@@ -182,7 +191,7 @@ impl<D: Device, N: HubName, R: Wait + Clock> Hub<D, N, R> {
 
 /// Gives up the tickets of commands whose answers nobody awaits any more, as the hub ends.
 pub(crate) fn give_up_all<D: Device, N: HubName, R: Wait>(
-    state: &mut State<D, HubShow<N, R>>,
+    state: &mut HubState<D, N, R>,
     under_way: AllUnderWay<N>,
 ) {
     let mut under_way = under_way;
@@ -190,6 +199,7 @@ pub(crate) fn give_up_all<D: Device, N: HubName, R: Wait>(
         let UnderWay {
             ticket,
             claim: _claim,
+            accepted: _accepted,
             slot: _slot,
         } = first;
         state.give_up_ticket(ticket);

@@ -1,23 +1,23 @@
 //! The hub: one lock over the state, and the readers that are free.
 
-ghost use Rattle.std.specs.Prelude.{◌≡◌, IfOk, IfErr};
+ghost use Rattle.std.specs.Prelude.{◌≡◌, true, IfOk, IfErr, OnErr};
 ghost use Rattle.path_hub.specs.declared.error.HubError.TheVariants.{NoReader};
-ghost use Rattle.path_hub.specs.Committed.{ReceiptShows, RefusesCommand};
+ghost use Rattle.path_hub.specs.Committed.{ReceiptShows, RefusesCommand, RefusesHandingIn};
 ghost use Rattle.hub_board.specs.Numbers.{AreNumbers};
 
 use crate::answer::{HubReceipt, Slot};
 use crate::claim::HubClaim;
 use crate::error::HubError;
+use crate::guarded::HubState;
 use crate::handing::AllUnderWay;
 use crate::name::HubName;
 use crate::reader::HubReader;
-use crate::show::HubShow;
 use command_queue::{CommandQueue, NotQueued};
-use group_core::{Numbers, State, SubmitError};
+use group_core::{Numbers, SubmitError};
 use hub_board::{Board, Changes, Completed, LONGEST_REST};
 use path_db::Command;
 use sector_dev::Device;
-use std::alloc::Global;
+use std::alloc::{AllocError, Global};
 use std::sync::atomic::{AtomicBool, Ordering};
 use std::sync::{Arc, Mutex, Wait};
 use std::time::{Clock, Duration};
@@ -29,9 +29,9 @@ pub const READERS: usize = 64;
 /// A store's state under one lock, a queue of commands for it under another, and the readers of what
 /// it shows, under one name.
 ///
-/// The lock's value is a `State`, so what that type says of a state holds whenever the lock is
-/// free: a stop at that moment leaves an image that opens to the committed rows with a front of the
-/// pending commands.
+/// The lock's value is a `LoggedState`, so what that type says of a state and its log holds whenever
+/// the lock is free: a stop at that moment leaves an image that opens to what the hub opened with
+/// after a front of the log, which has at least all committed commands.
 pub struct Hub<D: Device, N: HubName, R: Wait + Clock> {
     pub(crate) rt: R,
     pub(crate) alloc: Global,
@@ -40,7 +40,7 @@ pub struct Hub<D: Device, N: HubName, R: Wait + Clock> {
     pub(crate) has_flusher: AtomicBool,
     /// What is under way of the queue. Its lock is taken by who has the state's lock, alone.
     pub(crate) under_way: Mutex<AllUnderWay<N>>,
-    pub(crate) state: Mutex<State<D, HubShow<N, R>>>,
+    pub(crate) state: Mutex<HubState<D, N, R>>,
     pub(crate) changes: Changes,
     pub(crate) board: Board,
     /// Whether an actor has given up a stranger.
@@ -77,8 +77,9 @@ impl<D: Device, N: HubName, R: Wait + Clock> Hub<D, N, R> {
     /// Where the state stops before the command is committed, the error has the command's place,
     /// and it is not known whether the store keeps the command.
     pub fn register(&self, command: Command) -> Result<HubReceipt<N>, HubError>
-        ensures committed { IfOk result (ReceiptShows command) }
+        ensures committed { IfOk result (ReceiptShows N.opening command) }
         ensures why { IfErr result RefusesCommand }
+        ensures refused { OnErr result (N.refused command ≡ true) }
     {
         let claim = self.hand_in(command)?;
         self.settle(claim)
@@ -91,7 +92,8 @@ impl<D: Device, N: HubName, R: Wait + Clock> Hub<D, N, R> {
     /// order in which they were handed in.
     pub fn hand_in(&self, command: Command) -> Result<HubClaim<N>, HubError>
         ensures claim { IfOk result (λ claim. claim ≡ command) }
-        ensures why { IfErr result RefusesCommand }
+        ensures why { IfErr result RefusesHandingIn }
+        ensures refused { OnErr result (N.refused command ≡ true) }
     {
         match self.queue_up(command) {
             Ok(claim) => {
@@ -110,8 +112,9 @@ impl<D: Device, N: HubName, R: Wait + Clock> Hub<D, N, R> {
     /// state stops before the command is committed, the error has the command's place, and it is not
     /// known whether the store keeps the command. The state's lock is not taken.
     pub fn settle(&self, claim: HubClaim<N>) -> Result<HubReceipt<N>, HubError>
-        ensures committed { IfOk result (ReceiptShows claim) }
+        ensures committed { IfOk result (ReceiptShows N.opening claim) }
         ensures why { IfErr result RefusesCommand }
+        ensures refused { OnErr result (N.refused claim ≡ true) }
     {
         let bell = self.changes.ringer.bell(claim.number());
         for _ in self.rt.forever() {
@@ -126,16 +129,23 @@ impl<D: Device, N: HubName, R: Wait + Clock> Hub<D, N, R> {
 
     /// Puts a command into the queue, with room for its answer.
     fn queue_up(&self, command: Command) -> Result<HubClaim<N>, (Command, NotQueued)>
-        ensures { IfOk result (λ claim. claim ≡ command) }
+        ensures claim { IfOk result (λ claim. claim ≡ command) }
+        ensures back { IfErr result (λ e. e.0 ≡ command) }
+        ensures refused { OnErr result (N.refused command ≡ true) }
     {
-        let Ok(slot) = Arc::new(self.alloc, Slot::new()) else {
-            return Err((command, NotQueued::NoMemory));
+        let Ok((slot, reply_to)) = self.room() else {
+            let why = self.queue.lock(&self.rt).turn_away(&command);
+            return Err((command, why));
         };
-        let Ok(reply_to) = Arc::try_clone(&slot) else {
-            return Err((command, NotQueued::NoMemory));
-        };
-        let queued = self.queue.lock(&self.rt).hand_in(command, reply_to);
-        Ok(HubClaim::on(queued?, slot))
+        let claim = self.queue.lock(&self.rt).hand_in(command, reply_to)?;
+        Ok(HubClaim::on(claim, slot))
+    }
+
+    /// Room for one answer, for whoever waits for the answer and for whoever puts it there.
+    fn room(&self) -> Result<(Arc<Slot<N>, Global>, Arc<Slot<N>, Global>), AllocError> {
+        let slot = Arc::new(self.alloc, Slot::new())?;
+        let reply_to = Arc::try_clone(&slot)?;
+        Ok((slot, reply_to))
     }
 
     /// Why a command is refused that was not queued. What the state itself would refuse comes
@@ -147,6 +157,7 @@ impl<D: Device, N: HubName, R: Wait + Clock> Hub<D, N, R> {
         match why {
             NotQueued::Closed => SubmitError::Stopped,
             NotQueued::Full => SubmitError::Busy,
+            NotQueued::Exhausted => SubmitError::Exhausted,
             NotQueued::NoMemory => SubmitError::NoMemory,
         }
     }

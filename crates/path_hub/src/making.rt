@@ -1,25 +1,27 @@
 //! Making a hub, and its end.
 
-ghost use Rattle.std.specs.Prelude.{◌≡◌, ◌⊎◌, [], IfOk, IfErr, drop};
+ghost use Rattle.std.specs.Prelude.{◌≡◌, ◌⊎◌, true, [], IfOk, IfErr, drop};
 ghost use Rattle.left_right.specs.Sides.{view};
 ghost use Rattle.sector_dev.specs.Disk.{IsHonest};
 ghost use Rattle.sector_dev.specs.Image.{EveryImage};
 ghost use Rattle.group_core.specs.Starting.{value_of_store};
+ghost use Rattle.path_rows.specs.declared.command.Command.{Command};
 ghost use Rattle.path_hub.specs.declared.error.HubError.TheVariants.{NoMemory, NoReader};
 ghost use Rattle.path_hub.specs.Shown.{IsShownAfter};
-ghost use Rattle.path_hub.specs.Left.{OpensAfter};
+ghost use Rattle.logged_state.specs.Left.{OpensToLog};
 
 use crate::error::HubError;
 use crate::handing::{AllUnderWay, MOST_UNDER_WAY, give_up_all};
 use crate::hub::{Hub, READERS};
-use crate::name::HubName;
+use crate::name::{HubName, NewName};
 use crate::published::Published;
 use crate::reader::HubReader;
 use crate::show::{HubShow, HubWriter};
-use command_queue::{CommandQueue, NewHistory};
+use command_queue::CommandQueue;
 use group_core::State;
 use hub_board::{Board, Changes};
 use left_right::writer::Writer;
+use logged_state::{Left, LoggedState};
 use path_db::PathDb;
 use sector_dev::Device;
 use std::alloc::{AllocError, Global};
@@ -29,59 +31,69 @@ use std::sync::{Mutex, Wait};
 use std::time::Clock;
 use store_open::Store;
 
-/// A job with a hub, in one thread. A job cannot name a hub itself, so all that it gets is of this
-/// hub.
+/// A job with a hub. A job cannot name a hub itself, so all that it gets is of this hub.
 pub trait HubJob<D: Device, R: Wait + Clock> {
+    ghost use Rattle.atomic_table.specs.Seated.{TableId};
+
     /// The result of the job.
     type Out;
 
-    /// Results that the job may give.
-    ghost does: { Self → Self.Out → Type 0 } = { λ _ _. Unit {0} };
+    /// Results that the job may give, by the table of the log of the hub's state. A claim that the
+    /// job returns is of that table, and so is the log that is left.
+    ghost does: { Self → Self.Out → TableId → Type 0 } = { λ _ _ _. Unit {0} };
 
     /// Does the job with a hub.
-    fn run<N: HubName>(self, hub: &Hub<D, N, R>) -> Self::Out
-        ensures { does self result };
+    fn run<N: HubName + Send + Sync>(self, hub: &Hub<D, N, R>) -> Self::Out
+        ensures { does self result N.table };
 }
 
 /// Makes a hub over a store, and does the job with it. At the end the state is taken apart, and the
-/// device is dropped. The caller gives each state of a process a home number of its own. Where the
-/// hub cannot be made, the store is returned unchanged, with the job.
-pub fn with_hub<D: Device + Drop, J: HubJob<D, R>, R: Wait + Clock + Copy>(
+/// device is returned with the log of all commands that the state accepted. An honest device opens
+/// to that log. The caller gives each state of a process a home number of its own. Where the hub
+/// cannot be made, the store is returned unchanged, with the job.
+pub fn with_hub<D: Device, J: HubJob<D, R>, R: Wait + Clock + Copy>(
     rt: R,
     alloc: Global,
     store: Store<D>,
     home: u64,
     job: J,
-) -> Result<J::Out, (Store<D>, J, HubError)>
-    ensures done { IfOk result (J.does job) }
+) -> Result<(J::Out, D, Left), (Store<D>, J, HubError)>
+    ensures done { IfOk result (λ done. J.does job done.0 done.2.table) }
+    ensures left { IfOk result (λ done. IsHonest (D.disk done.1) → EveryImage (D.disk done.1).history.now (OpensToLog (value_of_store store) done.2.log)) }
     ensures back { IfErr result (λ back. (back.0 ≡ store) × (back.1 ≡ job)) }
     ensures why { IfErr result (λ back. (back.2 ≡ NoMemory) ⊎ (back.2 ≡ NoReader)) }
 {
-    do_with::<Brand, D, J, R>(rt, alloc, NewHistory::new(), store, home, job)
+    let Ok(name) = NewName::new(alloc) else {
+        return Err((store, job, HubError::NoMemory));
+    };
+    do_with::<Brand, D, J, R>(rt, alloc, name, store, home, job)
 }
 
-/// `with_hub` for one brand `N`, which ties readers to this hub.
-fn do_with<N: HubName, D: Device + Drop, J: HubJob<D, R>, R: Wait + Clock + Copy>(
+/// `with_hub` for one brand `N`, which ties readers and claims to this hub.
+fn do_with<N: HubName + Send + Sync, D: Device, J: HubJob<D, R>, R: Wait + Clock + Copy>(
     rt: R,
     alloc: Global,
-    history: NewHistory,
+    name: NewName,
     store: Store<D>,
     home: u64,
     job: J,
-) -> Result<J::Out, (Store<D>, J, HubError)>
+) -> Result<(J::Out, D, Left), (Store<D>, J, HubError)>
     requires opening { value_of_store store ≡ N.opening }
-    requires history { history.seen.book ≡ N.history }
-    ensures done { IfOk result (J.does job) }
+    requires log { name.log.table ≡ N.table }
+    requires history { name.history.seen.book ≡ N.history }
+    requires refusals { (command : Command) → N.refused command ≡ true }
+    ensures done { IfOk result (λ done. J.does job done.0 done.2.table) }
+    ensures left { IfOk result (λ done. IsHonest (D.disk done.1) → EveryImage (D.disk done.1).history.now (OpensToLog N.opening done.2.log)) }
     ensures back { IfErr result (λ back. (back.0 ≡ store) × (back.1 ≡ job)) }
     ensures why { IfErr result (λ back. (back.2 ≡ NoMemory) ⊎ (back.2 ≡ NoReader)) }
 {
-    let hub = match Hub::<D, N, R>::open(rt, alloc, history, store, home) {
+    let hub = match Hub::<D, N, R>::open(rt, alloc, name, store, home) {
         Ok(hub) => hub,
         Err((store, refused)) => return Err((store, job, refused)),
     };
     let out = job.run::<N>(&hub);
-    drop(hub.close());
-    Ok(out)
+    let (device, left) = hub.close();
+    Ok((out, device, left))
 }
 
 impl<D: Device, N: HubName, R: Wait + Clock> Hub<D, N, R> {
@@ -90,14 +102,16 @@ impl<D: Device, N: HubName, R: Wait + Clock> Hub<D, N, R> {
     pub(crate) fn open(
         rt: R,
         alloc: Global,
-        history: NewHistory,
+        name: NewName,
         store: Store<D>,
         home: u64,
     ) -> Result<Hub<D, N, R>, (Store<D>, HubError)>
     where
         R: Copy,
         requires opening { value_of_store store ≡ N.opening }
-        requires history { history.seen.book ≡ N.history }
+        requires log { name.log.table ≡ N.table }
+        requires history { name.history.seen.book ≡ N.history }
+        requires refusals { (command : Command) → N.refused command ≡ true }
         ensures back { IfErr result (λ back. back.0 ≡ store) }
         ensures why { IfErr result (λ back. (back.1 ≡ NoMemory) ⊎ (back.1 ≡ NoReader)) }
     {
@@ -116,7 +130,8 @@ impl<D: Device, N: HubName, R: Wait + Clock> Hub<D, N, R> {
             return Err((store, HubError::NoMemory));
         };
         let show = HubShow::over(rt, alloc, writer);
-        let state = State::new(alloc, store, show, home);
+        let NewName { history, log } = name;
+        let state = LoggedState::new(State::new(alloc, store, show, home), log);
         let board = Board::new(state.numbers());
         Ok(Hub {
             rt,
@@ -132,13 +147,14 @@ impl<D: Device, N: HubName, R: Wait + Clock> Hub<D, N, R> {
         })
     }
 
-    /// Ends the hub, which no one else has, and returns its device. An honest device opens to what
-    /// the hub opened with after some commands. The call waits for readers that are within a
-    /// lookup.
-    pub(crate) fn close(self) -> D
+    /// Ends the hub, which no one else has, and returns its device with the log of all commands
+    /// that its state accepted. An honest device opens to that log. The call waits for readers that
+    /// are within a lookup.
+    pub(crate) fn close(self) -> (D, Left)
     where
         R: Drop,
-        ensures { IsHonest (D.disk result) → EveryImage (D.disk result).history.now (OpensAfter N.opening) }
+        ensures left { IsHonest (D.disk result.0) → EveryImage (D.disk result.0).history.now (OpensToLog N.opening result.1.log) }
+        ensures table { result.1.table ≡ N.table }
     {
         let Hub {
             rt: _rt,
@@ -154,10 +170,9 @@ impl<D: Device, N: HubName, R: Wait + Clock> Hub<D, N, R> {
         } = self;
         let mut state = state.into_inner();
         give_up_all(&mut state, under_way.into_inner());
-        state.stops_leave_fronts();
-        let (device, show) = state.into_parts();
+        let (device, show, log) = state.into_parts();
         show.close();
-        device
+        (device, Left::of(log.unnamed()))
     }
 }
 

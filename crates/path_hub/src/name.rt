@@ -1,23 +1,36 @@
 //! Which hub it is.
 
-use command_queue::QueueName;
+ghost use Rattle.std.specs.Prelude.{◌≡◌};
+ghost use Rattle.command_log.specs.Log.{empty_log};
+
+use command_queue::{NewHistory, QueueName};
+use logged_state::{StateName, UnnamedLog};
+use std::alloc::{AllocError, Global};
 use std::marker::Brand;
 
-/// Names one hub by what its store held when the hub was made, its rows and its place, and by the
-/// history of the commands that are handed in. The call
-/// that makes a hub picks the name, so no two hubs have one name, and a note or a reader of one hub
-/// is refused by the types of another.
-pub trait HubName: QueueName {
-    ghost use Rattle.std.specs.Prelude.{List};
-    ghost use Rattle.path_rows.specs.Database.{RowView};
-    ghost use Rattle.store_layout.specs.Opening.{StoreValue};
+/// Names one hub: its state, by what its store held when the hub was made and by the log of the
+/// commands that the state accepts, and its queue, by the history of the commands that are handed
+/// in. The call that makes a hub picks the name, so no two hubs have one name, and a note, a claim
+/// or a reader of one hub is refused by the types of another.
+pub trait HubName: StateName + QueueName {}
 
-    /// The rows and the place that the hub opened with.
-    ghost opening: { StoreValue (List RowView) };
+impl HubName for Brand {}
+
+/// What names a new hub beside its store: the history that its queue begins with, and the log of
+/// its state, in which nothing is accepted yet.
+#[derive(Drop)]
+pub(crate) struct NewName {
+    pub(crate) history: NewHistory,
+    pub(crate) log: UnnamedLog,
+    ghost fresh: { log.log ≡ empty_log },
 }
 
-impl HubName for Brand {
-    ghost use Rattle.std.specs.Prelude.{[]};
-
-    ghost opening = { record { db = []; place = 0 } };
+impl NewName {
+    /// Begins a history and a log.
+    pub(crate) fn new(alloc: Global) -> Result<NewName, AllocError> {
+        Ok(NewName {
+            history: NewHistory::new(),
+            log: UnnamedLog::new(alloc)?,
+        })
+    }
 }

@@ -1,6 +1,6 @@
 //! Readers that wait for nobody.
 
-ghost use Rattle.std.specs.Prelude.{◌≡◌, ◌⊎◌, ◌≤◌, ◌<◌, None, length, IfOk, IfErr, IfSome, OnOk, OnErr};
+ghost use Rattle.std.specs.Prelude.{◌≡◌, ◌⊎◌, ◌≤◌, ◌<◌, None, length, max, IfOk, IfErr, IfSome, OnOk, OnErr};
 ghost use Rattle.std.specs.List.{AllByRecursion};
 ghost use mathlib.Core.List.{IsPrefix};
 ghost use Rattle.seg_core.specs.Encoding.{IsSegment};
@@ -10,13 +10,13 @@ ghost use Rattle.path_hub.specs.declared.error.HubError.TheVariants.{NoMemory, N
 ghost use Rattle.path_hub.specs.Sight.{answer_after, place_after};
 ghost use Rattle.path_hub.specs.Learnt.{learnt};
 
+use crate::answer::HubReceipt;
 use crate::error::HubError;
 use crate::name::HubName;
 use crate::published::Published;
 use crate::rule::{ReaderRule, SeenGroups, SeesAll};
 use crate::show::HubNote;
 use core::mem::replace_with;
-use group_core::Receipt;
 use left_right::reader::Reader;
 use seg_core::Segment;
 use seg_lookup::{ANSWER_LIMIT, Query, answer};
@@ -89,14 +89,22 @@ impl<N: HubName> HubReader<N> {
 
     /// Takes the note out of a receipt: from then on this reader is shown nothing older than the
     /// receipt's command. Where no note is left nothing changes.
-    pub fn learn(&mut self, receipt: &mut Receipt<HubNote<N>>)
+    pub fn learn(&mut self, receipt: &mut HubReceipt<N>)
         ensures groups { self.new.groups ≡ self.old.groups }
         ensures seen { self.new.seen ≡ learnt self.old.seen receipt.old.note }
         ensures receipt { receipt.new ≡ record receipt.old { note = None } }
     {
         if let Some(note) = receipt.take_note() {
-            self.seen = self.seen.max(note.shown());
+            self.learn_note(note);
         }
+    }
+
+    /// Takes a note: from then on this reader is shown nothing older than the note's place.
+    pub fn learn_note(&mut self, note: HubNote<N>)
+        ensures groups { self.new.groups ≡ self.old.groups }
+        ensures seen { self.new.seen ≡ max self.old.seen note }
+    {
+        self.seen = self.seen.max(note.shown());
     }
 }
 
