@@ -1,5 +1,5 @@
 -- What a service over a hub answers to a message, and what the service is then.
-use Rattle.std.specs.Prelude.{◌≡◌, ℕ, ◌<◌, ◌≤◌, ◌⊎◌, List, length, Option, Some, None, Result, Ok, Err, IsOk}
+use Rattle.std.specs.Prelude.{◌≡◌, ℕ, ◌+◌, ◌<◌, ◌≤◌, ◌⊎◌, Bool, true, List, length, Option, Some, None, Result, Ok, Err, IsOk}
 use mathlib.Core.List.{IsPrefix}
 use Rattle.seg_slots.specs.declared.error.SegError.{SegError}
 use Rattle.seg_core.specs.declared.seg_type.SegType.{SegType}
@@ -16,7 +16,7 @@ use Rattle.seg_lookup.specs.Classification.{query_of}
 use Rattle.seg_lookup.specs.Answer.{answer_to}
 use Rattle.store_layout.specs.Opening.{StoreValue}
 use Rattle.group_core.specs.declared.submit_error.SubmitError.{SubmitError}
-use Rattle.group_core.specs.declared.ticket.Receipt.{Receipt}
+use Rattle.logged_state.specs.ReceiptView.{ReceiptView}
 use Rattle.path_hub.specs.Shown.{shown_after}
 use Rattle.path_hub.specs.Sight.{place_after}
 use Rattle.session_core.specs.declared.message.Message.TheVariants.{Register, Lookup, Purge, Remove}
@@ -33,58 +33,70 @@ IsRefusedWithCode code old reply new = (reply ≡ Refused code) × (new ≡ old)
 
 -- ---- commands
 
--- The command was committed.
-pub record AcknowledgesCommit (old : Serving) (c : Command) (ack : Ack) (new : Serving) : Type 0 where
-  -- The hub's receipt, without its note.
-  pub receipt : Receipt ℕ
-  -- The service keeps the receipt, and what it has seen may grow.
-  pub kept : new ≡ record old { seen = new.seen; last = Some receipt }
-  -- The receipt shows the command.
-  pub shows : receipt.command.value ≡ c
-  -- The acknowledgement has the receipt's place.
-  pub place : ack.place ≡ receipt.place
-  -- The acknowledgement has the receipt's outcome.
-  pub outcome : ack.outcome ≡ receipt.outcome
-  -- The kept receipt has no note.
-  pub learnt : receipt.note ≡ None
-  -- The service has seen more than the command's place.
-  pub above : receipt.place < new.seen
-  -- The service has seen no less than before.
-  pub grows : old.seen ≤ new.seen
+module _ (opening : StoreValue (List RowView)) where
+  -- The command was committed.
+  pub record AcknowledgesCommit (old : Serving) (c : Command) (ack : Ack) (new : Serving) : Type 0 where
+    -- The hub's receipt, without its note.
+    pub receipt : ReceiptView ℕ
+    -- The service keeps the receipt, and what it has seen may grow.
+    pub kept : new ≡ record old { seen = new.seen; last = Some receipt }
+    -- The receipt claims that the log of the hub's state has the command at its index.
+    pub shows : receipt.logged.command ≡ c
+    -- The receipt's place is that of the index: it counts from the hub's opening value.
+    pub counts : receipt.place ≡ opening.place + receipt.logged.index
+    -- The acknowledgement has the receipt's place.
+    pub place : ack.place ≡ receipt.place
+    -- The acknowledgement has the receipt's outcome.
+    pub outcome : ack.outcome ≡ receipt.outcome
+    -- The kept receipt has no note.
+    pub learnt : receipt.note ≡ None
+    -- The service has seen more than the command's place.
+    pub above : receipt.place < new.seen
+    -- The service has seen no less than before.
+    pub grows : old.seen ≤ new.seen
 
--- The reply is an acknowledgement of the command.
-pub record IsAcknowledged (taken : Ack → ReplyView) (old : Serving) (c : Command) (reply : ReplyView) (new : Serving) : Type 0 where
-  pub ack : Ack
-  pub replied : reply ≡ taken ack
-  pub committed : AcknowledgesCommit old c ack new
+  -- The reply is an acknowledgement of the command.
+  pub record IsAcknowledged (taken : Ack → ReplyView) (old : Serving) (c : Command) (reply : ReplyView) (new : Serving) : Type 0 where
+    pub ack : Ack
+    pub replied : reply ≡ taken ack
+    pub committed : AcknowledgesCommit old c ack new
 
--- The hub did not accept the command.
-pub record IsNotAccepted (old : Serving) (reply : ReplyView) (new : Serving) : Type 0 where
-  pub why : SubmitError
-  pub refused : IsRefusedWithCode (submit_code why) old reply new
+module _ (refused : Command → Bool) where
+  -- The hub refused the command, with this code, and nothing changed.
+  pub record IsNotCommitted (code : ℕ) (old : Serving) (c : Command) (reply : ReplyView) (new : Serving) : Type 0 where
+    -- It is known that the hub refused the command.
+    pub by_hub : refused c ≡ true
+    pub replied : IsRefusedWithCode code old reply new
 
--- The command was committed. Otherwise it was not accepted, or the store stopped before it was
--- committed, and nothing changed.
-abbrev pub AnswersCommand : (Ack → ReplyView) → Serving → Command → ReplyView → Serving → Type 0
-AnswersCommand taken old c reply new =
-    IsAcknowledged taken old c reply new ⊎ (IsNotAccepted old reply new ⊎ IsRefusedWithCode stopped_code old reply new)
+  -- The hub did not accept the command.
+  pub record IsNotAccepted (old : Serving) (c : Command) (reply : ReplyView) (new : Serving) : Type 0 where
+    pub why : SubmitError
+    pub refusal : IsNotCommitted (submit_code why) old c reply new
 
--- A registration whose segments were checked is refused, or its command is answered.
-abbrev pub AnswersChecked : Serving → List RowView → Option CheckError → ReplyView → Serving → Type 0
-AnswersChecked old rows None reply new = AnswersCommand Registered old (command.Register rows) reply new
-AnswersChecked old rows (Some e) reply new = IsRefusedWithCode (check_code e) old reply new
+-- At a hub that opened with this value, and of whose commands it is known which ones were refused.
+module _ (opening : StoreValue (List RowView)) (refused : Command → Bool) where
+  -- The command was committed. Otherwise the hub refused it, since it was not accepted or the store
+  -- stopped before it was committed, and nothing changed.
+  abbrev pub AnswersCommand : (Ack → ReplyView) → Serving → Command → ReplyView → Serving → Type 0
+  AnswersCommand taken old c reply new =
+      IsAcknowledged opening taken old c reply new ⊎ (IsNotAccepted refused old c reply new ⊎ IsNotCommitted refused stopped_code old c reply new)
 
--- The clock is asked for a registration that was read, and its segments are checked at the moment
--- that the clock gave then.
-abbrev pub AnswersRegistration : Serving → Result (List RowView) SegError → ReplyView → Serving → Type 0
-AnswersRegistration old (Ok rows) reply new =
-    AnswersChecked (at_moment old new.moment) rows (first_refusal old.verifies new.moment rows) reply new
-AnswersRegistration old (Err e) reply new = IsRefusedWithCode (seg_code e) old reply new
+  -- A registration whose segments were checked is refused, or its command is answered.
+  abbrev pub AnswersChecked : Serving → List RowView → Option CheckError → ReplyView → Serving → Type 0
+  AnswersChecked old rows None reply new = AnswersCommand Registered old (command.Register rows) reply new
+  AnswersChecked old rows (Some e) reply new = IsRefusedWithCode (check_code e) old reply new
 
--- A removal that was read is answered as its command.
-abbrev pub AnswersRemoval : Serving → List ℕ → Result SegType SegError → ReplyView → Serving → Type 0
-AnswersRemoval old id (Ok kind) reply new = AnswersCommand Removed old (command.Remove kind id) reply new
-AnswersRemoval old id (Err e) reply new = IsRefusedWithCode (seg_code e) old reply new
+  -- The clock is asked for a registration that was read, and its segments are checked at the moment
+  -- that the clock gave then.
+  abbrev pub AnswersRegistration : Serving → Result (List RowView) SegError → ReplyView → Serving → Type 0
+  AnswersRegistration old (Ok rows) reply new =
+      AnswersChecked (at_moment old new.moment) rows (first_refusal old.verifies new.moment rows) reply new
+  AnswersRegistration old (Err e) reply new = IsRefusedWithCode (seg_code e) old reply new
+
+  -- A removal that was read is answered as its command.
+  abbrev pub AnswersRemoval : Serving → List ℕ → Result SegType SegError → ReplyView → Serving → Type 0
+  AnswersRemoval old id (Ok kind) reply new = AnswersCommand Removed old (command.Remove kind id) reply new
+  AnswersRemoval old id (Err e) reply new = IsRefusedWithCode (seg_code e) old reply new
 
 -- ---- lookups
 
@@ -136,24 +148,25 @@ module _ (opening : StoreValue (List RowView)) where
   AnswersLookup old (Ok ends) reply new = AnswersQuery old (query_of old.roster ends.0 ends.1) reply new
   AnswersLookup old (Err e) reply new = IsRefusedWithCode (seg_code e) old reply new
 
-  -- ---- messages
+-- ---- messages
 
+-- Memory may be refused where a registration is read, once its outline was read.
+abbrev pub RegistrationLacksMemory : Serving → MessageView → ReplyView → Serving → Type 0
+RegistrationLacksMemory old (Register body) reply new = IsRefusedWithCode memory_code old reply new × IsOk (registration_outline body)
+RegistrationLacksMemory old (Lookup body) reply new = ⊥
+RegistrationLacksMemory old (Purge moment) reply new = ⊥
+RegistrationLacksMemory old (Remove kind id) reply new = ⊥
+
+-- At a hub that opened with this value, and of whose commands it is known which ones were refused.
+module _ (opening : StoreValue (List RowView)) (refused : Command → Bool) where
   -- One message is read, checked or classified, and passed to the hub. The first refusal is the
   -- reply.
   unfoldable pub IsAnswered : Serving → MessageView → ReplyView → Serving → Type 0
-  IsAnswered old (Register body) reply new = AnswersRegistration old (registration_decoding body) reply new
-  IsAnswered old (Lookup body) reply new = AnswersLookup old (request_decoding body) reply new
-  IsAnswered old (Purge moment) reply new = AnswersCommand Purged old (command.Purge moment) reply new
-  IsAnswered old (Remove kind id) reply new = AnswersRemoval old id (type_of kind) reply new
+  IsAnswered old (Register body) reply new = AnswersRegistration opening refused old (registration_decoding body) reply new
+  IsAnswered old (Lookup body) reply new = AnswersLookup opening old (request_decoding body) reply new
+  IsAnswered old (Purge moment) reply new = AnswersCommand opening refused Purged old (command.Purge moment) reply new
+  IsAnswered old (Remove kind id) reply new = AnswersRemoval opening refused old id (type_of kind) reply new
 
-  -- Memory may be refused where a registration is read, once its outline was read.
-  abbrev pub RegistrationLacksMemory : Serving → MessageView → ReplyView → Serving → Type 0
-  RegistrationLacksMemory old (Register body) reply new = IsRefusedWithCode memory_code old reply new × IsOk (registration_outline body)
-  RegistrationLacksMemory old (Lookup body) reply new = ⊥
-  RegistrationLacksMemory old (Purge moment) reply new = ⊥
-  RegistrationLacksMemory old (Remove kind id) reply new = ⊥
-
-  -- What a service over a hub that opened with this value may answer to a message, and what the
-  -- service is then.
+  -- What a service over the hub may answer to a message, and what the service is then.
   abbrev pub HubAnswers : Serving → MessageView → ReplyView → Serving → Type 0
   HubAnswers old message reply new = RegistrationLacksMemory old message reply new ⊎ IsAnswered old message reply new

@@ -1,11 +1,12 @@
 -- What the fields of a service over a hub represent.
 use Rattle.seg_check.specs.Signatures.{Verdicts}
+use Rattle.command_log.specs.declared.name.LogName as named
 use Rattle.command_queue.specs.declared.history.QueueName as queue
-use Rattle.path_hub.specs.declared.name.HubName as hub
+use Rattle.logged_state.specs.declared.name.StateName as opened
 use Rattle.path_session.specs.declared.service.HubService.{HubService}
 use Rattle.path_session.specs.Serving.{Serving}
 
 -- A service as contracts see it, by the verdicts of its verifier.
-abbrev pub serving : {D N R V C : Type 0} → {h : hub.Ghosts N} → {q : queue.Ghosts N} → (V → Verdicts) → HubService D N R V C h q → Serving
+abbrev pub serving : {D N R V C : Type 0} → {s : opened.Ghosts N} → {l : named.Ghosts N} → {q : queue.Ghosts N} → (V → Verdicts) → HubService D N R V C s l q → Serving
 serving verifies s =
     record { roster = s.roster.now; verifies = verifies s.verifier.now; groups = s.reader.groups; seen = s.reader.seen; moment = s.moment; last = s.last }

@@ -3,7 +3,7 @@ use Rattle.std.specs.Prelude.{ℕ, List, Option, None}
 use Rattle.seg_check.specs.Signatures.{Verdicts}
 use Rattle.path_rows.specs.declared.command.Command.{Command}
 use Rattle.seg_lookup.specs.Roster.{RosterView}
-use Rattle.group_core.specs.declared.ticket.Receipt.{Receipt}
+use Rattle.logged_state.specs.ReceiptView.{ReceiptView}
 use Rattle.path_hub.specs.Sight.{Sight}
 
 -- A service over a hub as contracts see it.
@@ -20,7 +20,7 @@ pub record Serving : Type 0 where
   -- seconds since 1970. A registration is answered at the moment at which it was checked.
   pub moment : ℕ
   -- The receipt of the last of its commands that was committed.
-  pub last : Option (Receipt ℕ)
+  pub last : Option (ReceiptView ℕ)
 
 -- The service where a message is answered at a moment.
 abbrev pub at_moment : Serving → ℕ → Serving

@@ -1,5 +1,5 @@
 -- What a service over a hub knows of a message that it has taken and not answered.
-use Rattle.std.specs.Prelude.{◌≡◌, ◌≢◌, ℕ, List, Option, Some, None, Result, Ok, Err, IsOk}
+use Rattle.std.specs.Prelude.{◌≡◌, ◌≢◌, ℕ, Bool, true, List, Option, Some, None, Result, Ok, Err, IsOk}
 use Rattle.seg_slots.specs.declared.error.SegError.TheVariants as seg
 use Rattle.seg_core.specs.declared.seg_type.SegType.{SegType}
 use Rattle.seg_core.specs.Registration.{registration_outline, registration_decoding, type_of}
@@ -7,6 +7,7 @@ use Rattle.seg_check.specs.Signatures.{Verdicts}
 use Rattle.path_rows.specs.declared.command.Command.{Command}
 use Rattle.path_rows.specs.declared.command.Command.TheVariants as command
 use Rattle.path_rows.specs.Database.{RowView}
+use Rattle.store_layout.specs.Opening.{StoreValue}
 use Rattle.session_core.specs.declared.command_kind.CommandKind.{CommandKind}
 use Rattle.session_core.specs.declared.command_kind.CommandKind.TheVariants as kind
 use Rattle.session_core.specs.declared.message.Message.TheVariants.{Register, Lookup, Purge, Remove}
@@ -27,25 +28,12 @@ reply_with kind.Register ack = reply.Registered ack
 reply_with kind.Purge ack = reply.Purged ack
 reply_with kind.Remove ack = reply.Removed ack
 
+-- The service after a message that was checked at this moment, if the clock was asked.
+abbrev pub after_check : Serving → Option ℕ → Serving
+after_check old (Some moment) = at_moment old moment
+after_check old None = old
+
 -- ---- what is known of a message
-
--- The segments of a registration were checked at this moment. They are accepted, and this is their
--- command, or the hub did not take it; or they are refused.
-abbrev pub IsForRows : Verdicts → List RowView → ℕ → Result Command Refusal → Type 0
-IsForRows verifies rows moment (Ok c) = (first_refusal verifies moment rows ≡ None) × (c ≡ command.Register rows)
-IsForRows verifies rows moment (Err (Check e)) = first_refusal verifies moment rows ≡ Some e
-IsForRows verifies rows moment (Err (Submit e)) = first_refusal verifies moment rows ≡ None
-IsForRows verifies rows moment (Err Stopped) = first_refusal verifies moment rows ≡ None
-IsForRows verifies rows moment (Err NoMemory) = ⊥
-IsForRows verifies rows moment (Err (Message e)) = ⊥
-IsForRows verifies rows moment (Err (NoLookup e)) = ⊥
-IsForRows verifies rows moment (Err NoReader) = ⊥
-
--- A registration was read as these rows, which were checked.
-pub record IsForChecked (verifies : Verdicts) (body : List ℕ) (moment : ℕ) (handed : Result Command Refusal) : Type 0 where
-  pub rows : List RowView
-  pub read : registration_decoding body ≡ Ok rows
-  pub checked : IsForRows verifies rows moment handed
 
 -- A registration was not read. Memory is refused only once its outline was read.
 abbrev pub IsForUnread : List ℕ → Result Command Refusal → Type 0
@@ -58,49 +46,65 @@ IsForUnread body (Err Stopped) = ⊥
 IsForUnread body (Err (NoLookup e)) = ⊥
 IsForUnread body (Err NoReader) = ⊥
 
--- The clock was asked for a registration that was read.
-abbrev pub IsForRegistration : Verdicts → List ℕ → Option ℕ → Result Command Refusal → Type 0
-IsForRegistration verifies body (Some moment) handed = IsForChecked verifies body moment handed
-IsForRegistration verifies body None handed = IsForUnread body handed
+-- Of the commands of the hub it is known which ones were refused.
+module _ (refused : Command → Bool) where
+  -- The segments of a registration were checked at this moment. They are accepted, and this is their
+  -- command, or the hub refused it; or they are refused.
+  abbrev pub IsForRows : Verdicts → List RowView → ℕ → Result Command Refusal → Type 0
+  IsForRows verifies rows moment (Ok c) = (first_refusal verifies moment rows ≡ None) × (c ≡ command.Register rows)
+  IsForRows verifies rows moment (Err (Check e)) = first_refusal verifies moment rows ≡ Some e
+  IsForRows verifies rows moment (Err (Submit e)) = (first_refusal verifies moment rows ≡ None) × (refused (command.Register rows) ≡ true)
+  IsForRows verifies rows moment (Err Stopped) = ⊥
+  IsForRows verifies rows moment (Err NoMemory) = ⊥
+  IsForRows verifies rows moment (Err (Message e)) = ⊥
+  IsForRows verifies rows moment (Err (NoLookup e)) = ⊥
+  IsForRows verifies rows moment (Err NoReader) = ⊥
 
--- This is the command of a purge, or the hub did not take it.
-abbrev pub IsForPurge : ℕ → Result Command Refusal → Type 0
-IsForPurge until (Ok c) = c ≡ command.Purge until
-IsForPurge until (Err (Submit e)) = Unit {0}
-IsForPurge until (Err Stopped) = Unit {0}
-IsForPurge until (Err NoMemory) = ⊥
-IsForPurge until (Err (Message e)) = ⊥
-IsForPurge until (Err (Check e)) = ⊥
-IsForPurge until (Err (NoLookup e)) = ⊥
-IsForPurge until (Err NoReader) = ⊥
+  -- A registration was read as these rows, which were checked.
+  pub record IsForChecked (verifies : Verdicts) (body : List ℕ) (moment : ℕ) (handed : Result Command Refusal) : Type 0 where
+    pub rows : List RowView
+    pub read : registration_decoding body ≡ Ok rows
+    pub checked : IsForRows verifies rows moment handed
 
--- The type of a removal was read. This is its command, or the hub did not take it; or the type was
--- not read.
-abbrev pub IsForRemoval : ℕ → List ℕ → Result Command Refusal → Type 0
-IsForRemoval number id (Ok c) = (of_type : SegType) × (type_of number ≡ Ok of_type) × (c ≡ command.Remove of_type id)
-IsForRemoval number id (Err (Message e)) = type_of number ≡ Err e
-IsForRemoval number id (Err (Submit e)) = (of_type : SegType) × (type_of number ≡ Ok of_type)
-IsForRemoval number id (Err Stopped) = (of_type : SegType) × (type_of number ≡ Ok of_type)
-IsForRemoval number id (Err NoMemory) = ⊥
-IsForRemoval number id (Err (Check e)) = ⊥
-IsForRemoval number id (Err (NoLookup e)) = ⊥
-IsForRemoval number id (Err NoReader) = ⊥
+  -- The clock was asked for a registration that was read.
+  abbrev pub IsForRegistration : Verdicts → List ℕ → Option ℕ → Result Command Refusal → Type 0
+  IsForRegistration verifies body (Some moment) handed = IsForChecked verifies body moment handed
+  IsForRegistration verifies body None handed = IsForUnread body handed
 
--- By these verdicts on signatures, this is under way for the message.
-abbrev pub IsFor : {N : Type 0} → Verdicts → HubUnderWay N → MessageView → Type 0
-IsFor verifies under_way (Register body) = IsForRegistration verifies body under_way.moment under_way.handed
-IsFor verifies under_way (Lookup body) = ⊥
-IsFor verifies under_way (Purge until) = (under_way.moment ≡ None) × IsForPurge until under_way.handed
-IsFor verifies under_way (Remove number id) = (under_way.moment ≡ None) × IsForRemoval number id under_way.handed
+  -- This is the command of a purge, or the hub refused it.
+  abbrev pub IsForPurge : ℕ → Result Command Refusal → Type 0
+  IsForPurge until (Ok c) = c ≡ command.Purge until
+  IsForPurge until (Err (Submit e)) = refused (command.Purge until) ≡ true
+  IsForPurge until (Err Stopped) = ⊥
+  IsForPurge until (Err NoMemory) = ⊥
+  IsForPurge until (Err (Message e)) = ⊥
+  IsForPurge until (Err (Check e)) = ⊥
+  IsForPurge until (Err (NoLookup e)) = ⊥
+  IsForPurge until (Err NoReader) = ⊥
+
+  -- The type of a removal was read. This is its command, or the hub refused it; or the type was not
+  -- read.
+  abbrev pub IsForRemoval : ℕ → List ℕ → Result Command Refusal → Type 0
+  IsForRemoval number id (Ok c) = (of_type : SegType) × (type_of number ≡ Ok of_type) × (c ≡ command.Remove of_type id)
+  IsForRemoval number id (Err (Message e)) = type_of number ≡ Err e
+  IsForRemoval number id (Err (Submit e)) = (of_type : SegType) × (type_of number ≡ Ok of_type) × (refused (command.Remove of_type id) ≡ true)
+  IsForRemoval number id (Err Stopped) = ⊥
+  IsForRemoval number id (Err NoMemory) = ⊥
+  IsForRemoval number id (Err (Check e)) = ⊥
+  IsForRemoval number id (Err (NoLookup e)) = ⊥
+  IsForRemoval number id (Err NoReader) = ⊥
+
+  -- By these verdicts on signatures, this is under way for the message.
+  abbrev pub IsFor : {N : Type 0} → Verdicts → HubUnderWay N → MessageView → Type 0
+  IsFor verifies under_way (Register body) = IsForRegistration verifies body under_way.moment under_way.handed
+  IsFor verifies under_way (Lookup body) = ⊥
+  IsFor verifies under_way (Purge until) = (under_way.moment ≡ None) × IsForPurge until under_way.handed
+  IsFor verifies under_way (Remove number id) = (under_way.moment ≡ None) × IsForRemoval number id under_way.handed
 
 -- ---- what is answered
 
--- The service after a message that was checked at this moment, if the clock was asked.
-abbrev pub after_check : Serving → Option ℕ → Serving
-after_check old (Some moment) = at_moment old moment
-after_check old None = old
-
--- A command that was taken is answered by the hub. A refusal is answered as it is.
-abbrev pub AnswersTaken : Serving → Result Command Refusal → Result Ack Refusal → Serving → Type 0
-AnswersTaken old (Ok c) result new = IsCommandAnswered old c result new
-AnswersTaken old (Err refusal) result new = (result ≡ Err refusal) × (new ≡ old)
+module _ (opening : StoreValue (List RowView)) (refused : Command → Bool) where
+  -- A command that was taken is answered by the hub. A refusal is answered as it is.
+  abbrev pub AnswersTaken : Serving → Result Command Refusal → Result Ack Refusal → Serving → Type 0
+  AnswersTaken old (Ok c) result new = IsCommandAnswered opening refused old c result new
+  AnswersTaken old (Err refusal) result new = (result ≡ Err refusal) × (new ≡ old)

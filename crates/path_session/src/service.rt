@@ -100,7 +100,7 @@ impl<'a, D: Device, N: HubName, R: Wait + Clock, V: Verifier, C: Now> HubService
 
     /// Reads and checks a registration, and hands its command in.
     fn take_registration(&mut self, alloc: Global, body: &[u8]) -> HubUnderWay<N>
-        ensures known { IsForRegistration (V.verifies self.new.verifier.now) body.now result.moment result.handed }
+        ensures known { IsForRegistration N.refused (V.verifies self.new.verifier.now) body.now result.moment result.handed }
         ensures clock { IfSome result.moment (λ moment. moment ≡ C.moment self.new.clock) }
         ensures same { serving V.verifies self.new ≡ serving V.verifies self.old }
     {
@@ -125,7 +125,7 @@ impl<'a, D: Device, N: HubName, R: Wait + Clock, V: Verifier, C: Now> HubService
         segments: Vec<(SegType, Segment)>,
         now: u64,
     ) -> Result<HubClaim<N>, Refusal>
-        ensures { IsForRows (V.verifies self.now.verifier.now) segments.items now result }
+        ensures { IsForRows N.refused (V.verifies self.now.verifier.now) segments.items now result }
     {
         check_all(&segments, self.verifier, now)?;
         self.hand_in_command(Command::Register(Registration::new(segments)))
@@ -134,7 +134,7 @@ impl<'a, D: Device, N: HubName, R: Wait + Clock, V: Verifier, C: Now> HubService
     /// Hands a purge in.
     fn take_purge(&self, until: u64) -> HubUnderWay<N>
         ensures moment { result.moment ≡ None }
-        ensures known { IsForPurge until result.handed }
+        ensures known { IsForPurge N.refused until result.handed }
     {
         HubUnderWay {
             moment: None,
@@ -145,7 +145,7 @@ impl<'a, D: Device, N: HubName, R: Wait + Clock, V: Verifier, C: Now> HubService
     /// Hands the removal of the segment of a type's number and an id in.
     fn take_removal(&self, kind: u8, id: &[u8; 32]) -> HubUnderWay<N>
         ensures moment { result.moment ≡ None }
-        ensures known { IsForRemoval kind id.now result.handed }
+        ensures known { IsForRemoval N.refused kind id.now result.handed }
     {
         HubUnderWay {
             moment: None,
@@ -155,7 +155,7 @@ impl<'a, D: Device, N: HubName, R: Wait + Clock, V: Verifier, C: Now> HubService
 
     /// Reads the type of a removal, and hands its command in.
     fn hand_in_removal(&self, kind: u8, id: &[u8; 32]) -> Result<HubClaim<N>, Refusal>
-        ensures { IsForRemoval kind id.now result }
+        ensures { IsForRemoval N.refused kind id.now result }
     {
         let kind = SegType::from_number(u64::from(kind))?;
         self.hand_in_command(Command::Remove(kind, *id))
@@ -164,7 +164,7 @@ impl<'a, D: Device, N: HubName, R: Wait + Clock, V: Verifier, C: Now> HubService
     /// Hands a command in to the hub.
     fn hand_in_command(&self, command: Command) -> Result<HubClaim<N>, Refusal>
         ensures taken { IfOk result (λ taken. taken ≡ command) }
-        ensures refused { IfErr result RefusesTaking }
+        ensures refused { IfErr result (RefusesTaking N.refused command) }
     {
         self.hub.hand_in(command).map_err(refusal_of)
     }
@@ -173,7 +173,7 @@ impl<'a, D: Device, N: HubName, R: Wait + Clock, V: Verifier, C: Now> HubService
 
     /// Answers a message that was taken.
     fn answer(&mut self, under_way: HubUnderWay<N>) -> Result<Ack, Refusal>
-        ensures { AnswersTaken (after_check (serving V.verifies self.old) under_way.moment) under_way.handed result (serving V.verifies self.new) }
+        ensures { AnswersTaken N.opening N.refused (after_check (serving V.verifies self.old) under_way.moment) under_way.handed result (serving V.verifies self.new) }
     {
         let HubUnderWay { moment, handed } = under_way;
         self.note_moment(moment);
@@ -191,7 +191,7 @@ impl<'a, D: Device, N: HubName, R: Wait + Clock, V: Verifier, C: Now> HubService
 
     /// Waits until a command is committed, learns its receipt and keeps it.
     fn commit(&mut self, claim: HubClaim<N>) -> Result<Ack, Refusal>
-        ensures { IsCommandAnswered (serving V.verifies self.old) claim result (serving V.verifies self.new) }
+        ensures { IsCommandAnswered N.opening N.refused (serving V.verifies self.old) claim result (serving V.verifies self.new) }
     {
         let mut receipt = self.hub.settle(claim).map_err(refusal_of)?;
         self.reader.learn(&mut receipt);
@@ -206,7 +206,7 @@ impl<'a, D: Device, N: HubName, R: Wait + Clock, V: Verifier, C: Now> HubService
     /// The segments that a request asks for, of one type.
     #[tactic(auto, unfolding(crate::specs::Answered::IsAnswered))]
     fn find(&mut self, message: &[u8]) -> Result<(SegType, Vec<Segment>), Refusal>
-        ensures answers { HubAnswers N.opening (serving V.verifies self.old) (Lookup message.now) (reply_to_query result) (serving V.verifies self.new) }
+        ensures answers { HubAnswers N.opening N.refused (serving V.verifies self.old) (Lookup message.now) (reply_to_query result) (serving V.verifies self.new) }
         ensures few { IfOk result (λ found. length found.1.items ≤ MOST_SEGMENTS) }
         ensures whole { IfOk result (λ found. AllByRecursion IsSegment found.1.items) }
         ensures clock { OnOk result (self.new.moment ≡ C.moment self.new.clock) }
@@ -233,9 +233,9 @@ impl<D: Device, N: HubName, R: Wait + Clock, V: Verifier, C: Now> Service
 
     ghost state = { serving V.verifies };
 
-    ghost answers = { HubAnswers N.opening };
+    ghost answers = { HubAnswers N.opening N.refused };
 
-    ghost is_for = { λ service under_way message. IsFor service.verifies under_way message };
+    ghost is_for = { λ service under_way message. IsFor N.refused service.verifies under_way message };
 
     fn register(&mut self, alloc: Global, message: &[u8]) -> Result<Ack, Code> {
         let under_way = self.take_registration(alloc, message);
@@ -259,7 +259,7 @@ impl<D: Device, N: HubName, R: Wait + Clock, V: Verifier, C: Now> Service
     /// Where a registration is taken that was read, its moment is the one that the clock gave last.
     fn hand_in(&mut self, alloc: Global, message: Message<&[u8]>) -> Option<HubUnderWay<N>>
         ensures command { IfSome result (λ _. IsSome (command_kind (message_at message.entry))) }
-        ensures known { IfSome result (λ under_way. IsFor (serving V.verifies self.new).verifies under_way (message_at message.entry)) }
+        ensures known { IfSome result (λ under_way. IsFor N.refused (serving V.verifies self.new).verifies under_way (message_at message.entry)) }
         ensures same { serving V.verifies self.new ≡ serving V.verifies self.old }
         ensures clock { IfSome result (λ under_way. IfSome under_way.moment (λ moment. moment ≡ C.moment self.new.clock)) }
     {
