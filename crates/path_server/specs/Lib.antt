@@ -1,4 +1,4 @@
 pub mod Accepting
+pub mod Attending
 pub mod Ending
 pub mod Seating
-pub mod Tracking

@@ -1,10 +1,15 @@
 //! The session of one peer of a server.
 
+ghost use Rattle.std.specs.Prelude.{IfSome};
+ghost use Rattle.path_session.specs.Answered.{HubAnswers};
+ghost use Rattle.path_server.specs.Attending.{IsHubServed};
+
 use crate::ends::{Circumstances, cause_of};
+use crate::parting::end_early;
 use crate::reports::{Report, Reports};
 use crate::server::Server;
-use crate::sessions::{Served, end_early, serve_stream};
 use crate::turning_away::turn_away;
+use paced_stream::{Ended, StreamCalls, SystemStream, serve_connection};
 use path_hub::{Hub, HubName};
 use path_session::{HubService, SystemNow};
 use sector_dev::Device;
@@ -30,28 +35,35 @@ impl<L: OpenListener<Stream = TcpStream> + Drop, V: Verifier, O: Reports> Server
             self.seats.leave(rt, number);
             return;
         };
-        let served = self.serve(hub, &peer.stream);
+        let input = SystemStream::new(&peer.stream);
+        let output = SystemStream::new(&peer.stream);
+        let served = self.serve(hub, input, output);
         self.seats.leave(rt, number);
         match served {
-            Some(served) => self.note_end(rt, &peer.stream, peer.address, served),
+            Some(ended) => self.note_end(rt, &peer.stream, peer.address, &ended),
             None => turn_away(&peer.stream),
         }
     }
 
     /// Serves a peer by a reader of the hub. The result is `None` where there is no reader.
-    fn serve<D: Device, N: HubName, R: Wait + Clock>(
+    fn serve<D: Device, N: HubName, R: Wait + Clock, T: StreamCalls + Drop>(
         &self,
         hub: &Hub<D, N, R>,
-        stream: &TcpStream,
-    ) -> Option<Served> {
+        input: T,
+        output: T,
+    ) -> Option<Ended<T>>
+        ensures { IfSome result (λ ended. IsHubServed (HubAnswers N.opening N.refused) T.given T.taken T.is_at_end
+            self.now.options.now.cores (V.verifies self.now.verifier.now) input ended.input output ended.output ended.replies) }
+    {
         let reader = hub.reader().ok()?;
         let rt = hub.handle();
         let clock = SystemNow::new(rt);
         let service = HubService::new(hub, reader, self.verifier, clock, &self.options.cores);
         let mut counted = Counted::new(service, &self.replies);
-        let served = serve_stream(rt, self.alloc, stream, &mut counted, self.options.idle);
+        let idle = self.options.idle;
+        let ended = serve_connection(rt, self.alloc, input, output, &mut counted, idle);
         hub.give_back(counted.into_service().into_reader());
-        Some(served)
+        Some(ended)
     }
 
     /// Counts the end of a session, reports it if it ended by a fault and a report is due, and
@@ -61,15 +73,15 @@ impl<L: OpenListener<Stream = TcpStream> + Drop, V: Verifier, O: Reports> Server
         rt: &R,
         stream: &TcpStream,
         peer: SocketAddr,
-        served: Served,
+        ended: &Ended<SystemStream>,
     ) {
         let circumstances = Circumstances {
-            is_late: served.is_late,
+            is_late: ended.is_late,
             is_shut: self.shut.load(Ordering::SeqCst),
         };
-        let cause = cause_of(served.replies, circumstances);
+        let cause = cause_of(ended.replies, circumstances);
         self.ends.count(cause);
-        let Err(why) = served.replies else {
+        let Err(why) = ended.replies else {
             return;
         };
         if cause.is_fault() {

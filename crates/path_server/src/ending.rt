@@ -2,8 +2,8 @@
 
 use crate::reports::Reports;
 use crate::server::Server;
+use paced_stream::Deadline;
 use seg_check::Verifier;
-use status_server::Deadline;
 use std::net::{OpenListener, TcpStream};
 use std::sync::Wait;
 use std::sync::atomic::Ordering;

@@ -1,17 +1,17 @@
 //! A server from its first session to its last.
 
-ghost use Rattle.std.specs.Prelude.{OnOk};
+ghost use Rattle.std.specs.Prelude.{◌≡◌, IfNone, IfSome, IsSome, OnOk};
 ghost use Rattle.sector_dev.specs.Disk.{IsHonest};
 ghost use Rattle.sector_dev.specs.Image.{EveryImage};
 ghost use Rattle.group_core.specs.Starting.{value_of_store};
-ghost use Rattle.path_hub.specs.Left.{OpensAfter};
+ghost use Rattle.logged_state.specs.Left.{OpensToLog};
 
 use crate::error::RunError;
 use crate::listeners::Listeners;
 use crate::options::Options;
 use crate::reports::Reports;
 use crate::server::Server;
-use path_hub::with_crew;
+use path_hub::{Left, with_crew};
 use sector_dev::Device;
 use seg_check::{TrustAll, Verifier};
 use std::alloc::Global;
@@ -49,14 +49,15 @@ pub fn run_on<
     options: &Options,
     reports: &O,
 ) -> Result<u64, RunError> {
-    let (device, served) = serve_store(rt, alloc, listeners, store, options, reports);
+    let (device, _left, served) = serve_store(rt, alloc, listeners, store, options, reports);
     drop(device);
     served
 }
 
-/// Serves sessions as `run_on` does, and returns the device. An honest device opens to the store's
-/// rows and place after the commands that were published and some more that were accepted, whatever
-/// the sessions did.
+/// Serves sessions as `run_on` does, and returns the device, with the log of all commands that were
+/// accepted. An honest device opens to the store's rows and place after a front of that log with all
+/// committed commands, whatever the sessions did and however the call ends. Where no log is left,
+/// nothing was served, and the device is the store's.
 pub fn serve_store<
     R: System,
     L: OpenListener<Stream = TcpStream> + Drop + Send,
@@ -69,8 +70,10 @@ pub fn serve_store<
     store: Store<D>,
     options: &Options,
     reports: &O,
-) -> (D, Result<u64, RunError>)
-    ensures { OnOk result.1 (IsHonest (D.disk result.0) → EveryImage (D.disk result.0).history.now (OpensAfter (value_of_store store))) }
+) -> (D, Option<Left>, Result<u64, RunError>)
+    ensures left { IfSome result.1 (λ left. IsHonest (D.disk result.0) → EveryImage (D.disk result.0).history.now (OpensToLog (value_of_store store) left.log)) }
+    ensures unmade { IfNone result.1 (D.disk result.0 ≡ store.disk) }
+    ensures made { OnOk result.2 (IsSome result.1) }
 {
     match &options.key {
         Some(key) => serve_checked(rt, alloc, listeners, store, options, key, reports),
@@ -93,14 +96,16 @@ fn serve_checked<
     options: &Options,
     verifier: &V,
     reports: &O,
-) -> (D, Result<u64, RunError>)
-    ensures { OnOk result.1 (IsHonest (D.disk result.0) → EveryImage (D.disk result.0).history.now (OpensAfter (value_of_store store))) }
+) -> (D, Option<Left>, Result<u64, RunError>)
+    ensures left { IfSome result.1 (λ left. IsHonest (D.disk result.0) → EveryImage (D.disk result.0).history.now (OpensToLog (value_of_store store) left.log)) }
+    ensures unmade { IfNone result.1 (D.disk result.0 ≡ store.disk) }
+    ensures made { OnOk result.2 (IsSome result.1) }
 {
     let begun = Instant::now(&rt).ok();
     let server = Server::new(alloc, listeners, begun, options, verifier, reports);
-    let (device, attended) = with_crew(rt, alloc, store, HOME, &server);
+    let (device, left, attended) = with_crew(rt, alloc, store, HOME, &server);
     match attended {
-        Ok(_) => (device, server.served()),
-        Err(_) => (device, Err(RunError::NoMemory)),
+        Ok(_) => (device, left, server.served()),
+        Err(_) => (device, left, Err(RunError::NoMemory)),
     }
 }
