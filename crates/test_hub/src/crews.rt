@@ -101,7 +101,7 @@ pub(crate) fn crewed<
     E: Errand + Sync,
     R: Wait + Clock + Threads + Abort + Copy + Drop + Send + Sync,
 >(rt: R, alloc: Global, store: Store<D>, guests: &Guests<E>) -> D {
-    let (device, attended) = with_crew(rt, alloc, store, 1, guests);
+    let (device, _left, attended) = with_crew(rt, alloc, store, 1, guests);
     assert_eq!(&rt; attended, Ok(guests.count));
     device
 }

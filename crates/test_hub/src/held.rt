@@ -1,7 +1,6 @@
 //! A lookup is answered while a sync of the flusher is held, under the lock.
 
 use crate::crews::{Errand, Guests, crewed};
-use crate::doors::{Door, Holds, Latch};
 use crate::host::Host;
 use path_hub::{Hub, HubName, Steps};
 use sector_dev::{Device, HeldDevice};
@@ -10,6 +9,7 @@ use std::process::Abort;
 use std::sync::{Mutex, Wait};
 use std::test::Fail;
 use std::time::Clock;
+use test_hub_scripts::doors::{Door, Holds, Latch};
 use test_hub_scripts::stores::{LEAST, formatted, opened, opens_to, query, receipt_of, register};
 
 /// What the lookups show: before the sync is held, while it is, and once the command is committed.
@@ -42,7 +42,7 @@ impl Looks<'_> {
         let held = reader.lookup(&query(), 0);
         self.door.open(rt);
         let mut receipt = receipt_of(&Host(rt), hub, ticket)?;
-        reader.learn(&mut receipt);
+        reader.learn_note(receipt.take_note()?);
         let after = reader.lookup(&query(), 0).ok()?.len();
         hub.give_back(reader);
         if !is_held {

@@ -8,8 +8,6 @@ mod ahead;
 #[cfg(test)]
 mod crews;
 #[cfg(test)]
-mod doors;
-#[cfg(test)]
 mod given_up;
 #[cfg(test)]
 mod held;
@@ -17,6 +15,8 @@ mod held;
 mod host;
 #[cfg(test)]
 mod learnt;
+#[cfg(test)]
+mod left;
 #[cfg(test)]
 mod purges;
 #[cfg(test)]

@@ -137,7 +137,9 @@ fn learn<N: HubName, S: Steps<Note = HubNote<N>>>(
     let Some(mut receipt) = receipt_of(&Host(rt), steps, ticket) else {
         panic!(rt; "not committed");
     };
-    reader.learn(&mut receipt);
+    if let Some(note) = receipt.take_note() {
+        reader.learn_note(note);
+    }
     receipt.place()
 }
 
@@ -149,9 +151,9 @@ struct Adds {
 }
 
 impl<D: Device, R: Wait + Clock + Abort> HubJob<D, R> for Adds {
-    type Out = [u64; 2];
+    type Out = (u64, u64);
 
-    fn run<N: HubName>(self, hub: &Hub<D, N, R>) -> [u64; 2] {
+    fn run<N: HubName>(self, hub: &Hub<D, N, R>) -> (u64, u64) {
         let rt = hub.handle();
         let Ok(mut reader) = hub.reader() else {
             panic!(rt; "no reader");
@@ -163,13 +165,11 @@ impl<D: Device, R: Wait + Clock + Abort> HubJob<D, R> for Adds {
         assert_shown(rt, &mut reader, 1);
         let second = publish_again(hub, &mut reader, durable, second);
         assert_shown(rt, &mut reader, 3);
-        let places = [
-            learn(rt, hub, &mut reader, second),
-            learn(rt, hub, &mut reader, third),
-        ];
+        let second = learn(rt, hub, &mut reader, second);
+        let third = learn(rt, hub, &mut reader, third);
         assert_shown(rt, &mut reader, 3);
         hub.give_back(reader);
-        places
+        (second, third)
     }
 }
 
@@ -204,7 +204,7 @@ fn refused_calls_may_be_made_again(rt: HostRuntime) -> Result<(), Fail> {
         done => done,
     };
     match again {
-        Ok(places) => assert_eq!(rt; places, [1, 2]),
+        Ok((places, _device, _left)) => assert_eq!(rt; places, (1, 2)),
         Err((_store, _adds, e)) => panic!(rt; "{e:?}"),
     }
     Ok(())
@@ -241,13 +241,13 @@ fn joined<R: Wait + Clock + Threads + Abort + Copy + Drop + Send + Sync>(
     guests: &Guests<Joins>,
 ) -> (MemDevice, u64) {
     let host = Host(rt);
-    let (device, first) = with_crew(rt, alloc, first_store(&host, alloc), 1, guests);
-    let (device, attended) = match first {
+    let (device, _left, first) = with_crew(rt, alloc, first_store(&host, alloc), 1, guests);
+    let (device, _left, attended) = match first {
         Err(e) => {
             let store = assert_kept(&host, alloc, opened(&host, alloc, device), e);
             with_crew(rt, alloc, store, 1, guests)
         }
-        Ok(attended) => (device, Ok(attended)),
+        Ok(attended) => (device, None, Ok(attended)),
     };
     match attended {
         Ok(attended) => (device, attended),

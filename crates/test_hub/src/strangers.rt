@@ -54,7 +54,7 @@ impl<D: Device, R: Wait + Clock + Abort + Copy> HubJob<D, R> for Visits {
         let ticket = submit(&host, hub, &mut Unwatched);
         let store = new_store(&host, self.alloc);
         let ticket = match with_hub(*rt, self.alloc, store, 2, Redeems { ticket }) {
-            Ok(ticket) => ticket,
+            Ok((ticket, _device, _left)) => ticket,
             Err((_store, _job, e)) => panic!(rt; "{e:?}"),
         };
         let ticket = keep(&host, hub, &mut Unwatched, ticket);

@@ -62,7 +62,7 @@ fn a_broken_listener_ends_the_server(rt: HostRuntime) -> Result<(), Fail> {
         next: AtomicUsize::new(0),
     };
     let counts = Counts::new();
-    let (device, served) = serve_store(
+    let (device, _left, served) = serve_store(
         &rt,
         alloc,
         Listeners::of_sessions(listener),

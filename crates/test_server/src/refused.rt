@@ -37,7 +37,7 @@ fn has_threads<R: World>(rt: R, alloc: Global, status: Option<Broken>) -> bool {
         grace: Duration::from_millis(100),
     };
     let counts = Counts::new();
-    let (device, served) = serve_store(
+    let (device, _left, served) = serve_store(
         rt,
         alloc,
         Listeners {

@@ -77,14 +77,17 @@ fn the_listener_is_closed_after_the_last(rt: HostRuntime) -> Result<(), Fail> {
     let (listener, to) = listen(&rt);
     let ((device, served), is_closed) = thread::join(
         &rt,
-        || serve_store(
-            &rt,
-            alloc,
-            Listeners::of_sessions(listener),
-            opened(&rt, alloc, device),
-            &options,
-            &counts,
-        ),
+        || {
+            let (device, _left, served) = serve_store(
+                &rt,
+                alloc,
+                Listeners::of_sessions(listener),
+                opened(&rt, alloc, device),
+                &options,
+                &counts,
+            );
+            (device, served)
+        },
         || is_closed_soon(&rt, alloc, to),
     );
     assert_eq!(rt; served, Ok(1));

@@ -73,11 +73,29 @@ fn held_sync_lookup(rt: HostRuntime) -> Result<(), Fail> {
     Ok(())
 }
 
+/// The most lookups while a stop is not reported yet.
+const MOST_LOOKUPS: u64 = 100_000;
+
+/// Looks up until the server has reported that its store stopped. The flusher's thread reports it,
+/// and no report comes once all sessions have ended.
+fn look_up_until_stopped(peer: &mut Peer, counts: &Counts) -> io::Result<()> {
+    for _ in 0..MOST_LOOKUPS {
+        if counts.stopped() > 0 {
+            return Ok(());
+        }
+        peer.asks(LOOKUP, FOUND)?;
+    }
+    Ok(())
+}
+
 /// A command before the device fails, one that meets the fault, one after it in another session,
 /// and lookups of both.
-struct Failing;
+#[derive(Drop)]
+struct Failing<'a> {
+    counts: &'a Counts,
+}
 
-impl Clients for Failing {
+impl Clients for Failing<'_> {
     type Seen = [bool; 6];
 
     fn meet<R: Outside>(&self, rt: R, alloc: Global, to: SocketAddr) -> io::Result<[bool; 6]> {
@@ -89,6 +107,7 @@ impl Clients for Failing {
         let is_stopped = second.asks(PURGE, "00000002ff54")?;
         let is_found = first.asks(LOOKUP, FOUND)?;
         let is_shown = second.asks(LOOKUP, FOUND)?;
+        look_up_until_stopped(&mut second, self.counts)?;
         Ok([
             is_new,
             is_acknowledged,
@@ -106,7 +125,8 @@ fn lookups_go_on_after_a_fault(rt: HostRuntime) -> Result<(), Fail> {
     let device = failing(&rt, alloc);
     let options = options(&rt, alloc, 2);
     let counts = Counts::new();
-    let (_device, served, seen) = serve_clients(&rt, alloc, device, &options, &Failing, &counts);
+    let clients = Failing { counts: &counts };
+    let (_device, served, seen) = serve_clients(&rt, alloc, device, &options, &clients, &counts);
     assert_eq!(rt; served, Ok(2));
     assert_eq!(rt; seen?, [true; 6]);
     assert_eq!(rt; counts.stopped(), 1);

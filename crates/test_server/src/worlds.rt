@@ -177,14 +177,17 @@ pub(crate) fn serve_watched<R: World, D: Device + Drop + Send, C: Clients + Sync
     let stop = TcpStream::from(OwnedFd::from(other));
     let ((device, served), seen) = thread::join(
         &rt,
-        || serve_store(
-            rt,
-            alloc,
-            Listeners { sessions, status },
-            opened(&rt, alloc, device),
-            options,
-            counts,
-        ),
+        || {
+            let (device, _left, served) = serve_store(
+                rt,
+                alloc,
+                Listeners { sessions, status },
+                opened(&rt, alloc, device),
+                options,
+                counts,
+            );
+            (device, served)
+        },
         || {
             let seen = clients.meet(rt, alloc, to);
             let _stopped = stop.shutdown(Shutdown::Both);

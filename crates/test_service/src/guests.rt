@@ -97,9 +97,9 @@ pub(crate) fn talked<
         gone: AtomicU64::new(0),
         replies: Mutex::new(None),
     };
-    let (device, first) = with_crew(rt, alloc, store, 1, &guest);
-    let (device, attended) = if first == Ok(1) {
-        (device, first)
+    let (device, left, first) = with_crew(rt, alloc, store, 1, &guest);
+    let (device, _left, attended) = if first == Ok(1) {
+        (device, left, first)
     } else {
         guest.invite_again();
         with_crew(rt, alloc, opened(&rt, alloc, device), 1, &guest)

@@ -106,7 +106,9 @@ fn pending_commands_are_busy(rt: HostRuntime) {
     let alloc = rt.alloc();
     let store = new_store(&rt, alloc);
     match with_hub(&rt, alloc, store, 1, Fills { alloc }) {
-        Ok(written) => { assert_replied(&rt, alloc, written, &["00000002ff51", "00000002ff54"]) }
+        Ok((written, _device, _left)) => {
+            assert_replied(&rt, alloc, written, &["00000002ff51", "00000002ff54"])
+        }
         Err((_store, _job, e)) => panic!(rt; "{e:?}"),
     }
 }
