@@ -3,7 +3,7 @@
 use group_core::{Receipt, Redeemed, Ticket};
 use isd_as::IsdAs;
 use path_db::{Command, Registration};
-use path_hub::{Awaited, HubError, Steps};
+use path_hub::{Awaited, HubError, Left, Steps};
 use sector_dev::{Device, MemDevice, SECTOR};
 use seg_core::{SegType, read_segment};
 use seg_lookup::Query;
@@ -125,13 +125,13 @@ pub fn register(alloc: Global, origin: u8, egress: u8) -> Option<Command> {
     Some(Command::Register(Registration::new(rows)))
 }
 
-/// What came of a job.
-pub fn ended<D: Device, J: Drop, T>(
+/// What came of a job. The device is dropped, with the log that is left.
+pub fn ended<D: Device + Drop, J: Drop, T>(
     rt: &impl TestHost,
-    done: Result<T, (Store<D>, J, HubError)>,
+    done: Result<(T, D, Left), (Store<D>, J, HubError)>,
 ) -> T {
     match done {
-        Ok(out) => out,
+        Ok((out, _device, _left)) => out,
         Err((_store, _job, e)) => rt.fail(format_args!("{e:?}")),
     }
 }
