@@ -39,6 +39,16 @@ impl EndIndex {
         }
     }
 
+    /// The index of these index keys, which come in any order. An error means that memory was
+    /// refused.
+    pub fn of_keys(alloc: Global, index_keys: Vec<IndexKey>) -> Result<EndIndex, AllocError>
+        ensures { IfOk result (λ index. (q : IndexKey) → has index q ≡ has index_keys.items q) }
+    {
+        Ok(EndIndex {
+            index_keys: BTreeSet::from_iter(alloc, index_keys)?,
+        })
+    }
+
     /// Adds an index key. Where memory is refused, the index is unchanged.
     pub fn add(&mut self, index_key: IndexKey) -> Result<(), AllocError>
         ensures ok { OnOk result ((q : IndexKey) → has self.new q ≡ (is_same q index_key || has self.old q)) }

@@ -1,4 +1,4 @@
--- A row whose key is above all others: for `with_last` and `of_rows`.
+-- A row whose key is above all others: for `put_last`, `map_of` and `index_of`.
 use Rattle.std.proofs.Common.{◌≡◌, ℕ, ◌+◌, ◌<◌, length, get_or, take, drop, Bool, true, false, ◌||◌, List, [], ◌∷◌, ◌++◌, if◌then◌else◌, Some, None, refl, sym, ap, ◌∙◌, subst}
 use Rattle.std.specs.Ordering.{is_eq}
 use Rattle.std.specs.declared.cmp.Ordering.TheVariants.{Less}
@@ -8,7 +8,7 @@ use Rattle.end_index.specs.declared.index_key.IndexKey.{IndexKey}
 use Rattle.end_index.specs.IndexKey.{is_same, has}
 use Rattle.path_rows.specs.declared.row.Row.{Row}
 use Rattle.path_rows.specs.Row.{row_view, row_views}
-use Rattle.path_rows.specs.Database.{RowView, key_of, key_order, IsRising, AreWhole, IsDatabase, is_under, row_under}
+use Rattle.path_rows.specs.Database.{RowView, key_of, key_order, IsRising, is_under, row_under}
 use Rattle.path_rows.specs.RowMap.{HasRowPut, indexed_key}
 use Rattle.path_rows.specs.EndKeys.{is_of, is_index_key, ends_at, stands, IsEndIndex}
 use Rattle.path_rows.proofs.Order.{AllAbove, turned_less}
@@ -26,18 +26,11 @@ rising_front : (rows more : List RowView) → IsRising (rows ++ more) → IsRisi
 rising_front [] more rising = tt
 rising_front (row ∷ rows) more rising = (above_front row rows more rising.0, rising_front rows more rising.1)
 
-whole_front : (rows more : List RowView) → AreWhole (rows ++ more) → AreWhole rows
-whole_front [] more whole = tt
-whole_front (row ∷ rows) more whole = (whole.0, whole_front rows more whole.1)
-
-pub database_front : (rows more : List RowView) → IsDatabase (rows ++ more) → IsDatabase rows
-database_front rows more all = record { rising = rising_front rows more all.rising; whole = whole_front rows more all.whole }
-
 -- the rows before an index and the one at it
-pub database_next : (rows : List Row) (i : ℕ) (row : Row) → i < length rows → row ≡ get_or rows i row → IsDatabase (row_views rows) → IsDatabase (row_views (take i rows) ++ row_view row ∷ [])
-database_next rows i row lt is all =
+pub rising_next : (rows : List Row) (i : ℕ) (row : Row) → i < length rows → row ≡ get_or rows i row → IsRising (row_views rows) → IsRising (row_views (take i rows) ++ row_view row ∷ [])
+rising_next rows i row lt is all =
     let parts = sym (ap row_views (take-append-drop (i + 1) rows)) ∙ map-append row_view (take (i + 1) rows) (drop (i + 1) rows) in
-    subst IsDatabase (views_more rows i row lt is) (database_front (row_views (take (i + 1) rows)) (row_views (drop (i + 1) rows)) (subst IsDatabase parts all))
+    subst IsRising (views_more rows i row lt is) (rising_front (row_views (take (i + 1) rows)) (row_views (drop (i + 1) rows)) (subst IsRising parts all))
 
 -- ---- the last one
 
@@ -45,7 +38,7 @@ last_above : (low : RowView) (rows : List RowView) (row : RowView) → AllAbove 
 last_above low [] row all = all.0
 last_above low (r ∷ rows) row all = last_above low rows row all.1
 
-pub none_last : (rows : List RowView) (row : RowView) → IsRising (rows ++ row ∷ []) → row_under (key_of row) rows ≡ None
+none_last : (rows : List RowView) (row : RowView) → IsRising (rows ++ row ∷ []) → row_under (key_of row) rows ≡ None
 none_last [] row rising = refl
 none_last (old ∷ rows) row rising =
     under_first (key_of row) old rows false (ap is_eq (turned_less old row (last_above old rows row rising.0))) ∙ none_last rows row rising.1
@@ -96,3 +89,13 @@ index_last end rows row p before after rising index its added q =
         let none : row_under (indexed_key q) rows ≡ None = subst (λ l. row_under l rows ≡ None) (sym (its_key (indexed_key q) row e)) (none_last rows row rising) in
         rw (e, none) (or_none (is_of (end row.1.entries) q.isd_as))
     at_key false e = rw e refl
+
+-- an index key more at the end
+pub has_push : (index_keys : List IndexKey) (p q : IndexKey) → has (index_keys ++ p ∷ []) q ≡ (is_same q p || has index_keys q)
+has_push [] p q = refl
+has_push (first ∷ index_keys) p q = ap (λ b. is_same q first || b) (has_push index_keys p q) ∙ exchanged (is_same q first) (is_same q p) (has index_keys q)
+  where
+    exchanged : (a b c : Bool) → (a || (b || c)) ≡ (b || (a || c))
+    exchanged true true c = refl
+    exchanged true false c = refl
+    exchanged false b c = refl

@@ -17,7 +17,6 @@ use Rattle.std.proofs.lemmas.List.{map-append}
 use Rattle.std.proofs.lemmas.List.Folds.{list_any-append}
 use Rattle.std.proofs.Math.Seq.{take-suc, drop-cons}
 use Rattle.seg_core.specs.SegmentView.{EntryView}
-use Rattle.seg_core.specs.Registration.{type_number}
 use Rattle.end_index.specs.declared.index_key.IndexKey.{IndexKey}
 use Rattle.end_index.specs.IndexKey.{is_same, has}
 use Rattle.path_rows.specs.declared.row.Row.{Row}
@@ -54,11 +53,9 @@ either_from false b e = inr e
 -- ---- one index key
 
 -- the index key that is made from a row is the row's index key
-pub index_key_is : (end : EndOf) (kind number : ℕ) (id : List ℕ) (row : Row) → kind ≡ type_number row.kind → id ≡ row.id → is_of (end row.segment.entries) number ≡ true
+pub index_key_is : (end : EndOf) (kind number : ℕ) (id : List ℕ) (row : Row) → kind ∷ id ≡ key_of (row_view row) → is_of (end row.segment.entries) number ≡ true
     → (is_under (kind ∷ id) (row_view row) && is_of (end row.segment.entries) number) ≡ true
-unfolding key_of
-index_key_is end kind number id row kinds ids says =
-    let same : kind ∷ id ≡ key_of (row_view row) = ap (λ n. n ∷ id) kinds ∙ ap (λ l. type_number row.kind ∷ l) (ids ∙ row.identified) in
+index_key_is end kind number id row same says =
     both_from (is_under (kind ∷ id) (row_view row)) (is_of (end row.segment.entries) number) (subst (λ k. is_under k (row_view row) ≡ true) (sym same) (under_itself (row_view row))) says
 
 -- the parts of two index keys that are the same

@@ -10,6 +10,7 @@ use Rattle.std.specs.declared.cmp.Ordering.TheVariants.{Less, Equal, Greater}
 use Rattle.std.proofs.lemmas.Cmp.{nat_list_cmp_total, alike_right, tied_back}
 use Rattle.std.proofs.lemmas.List.Elements.{All-from_recursion}
 use Rattle.std.proofs.lemmas.List.{get_or-map, map-set, length-map}
+use Rattle.seg_core.specs.Digest.{segment_digest}
 use Rattle.path_rows.specs.declared.row.Row.{Row}
 use Rattle.path_rows.specs.declared.change.Change.TheVariants.{Inserted, Updated, Kept}
 use Rattle.path_rows.specs.Database.{RowView, key, key_of, key_order, IsRising}
@@ -52,9 +53,9 @@ searched rows rising k (Ok at) in_range equal = record { found = (in_range, equa
 searched rows rising k (Err at) in_range parted = record { found = tt; absent = (in_range, parted (comparisons_rise rows rising k)) }
 
 -- the key by which a row is searched is its own
-pub key_is : (row : Row) → key row.kind row.id ≡ key_of (row_view row)
+pub key_is : (row : Row) (id : List ℕ) → id ≡ segment_digest row.segment → key row.kind id ≡ key_of (row_view row)
 unfolding key_of
-key_is row = ap (λ id. key row.kind id) row.identified
+key_is row id its = ap (λ id. key row.kind id) its
 
 -- ---- a put at the index
 

@@ -20,7 +20,7 @@ use Rattle.std.proofs.lemmas.Map.Keys.{sorted_tail}
 use Rattle.std.proofs.lemmas.Map.Lookups.{exact_bytes}
 use Rattle.path_rows.specs.declared.row.Row.{Row}
 use Rattle.path_rows.specs.declared.row_key.RowKey.{RowKey}
-use Rattle.path_rows.specs.Database.{RowView, key, key_of, key_order, IsRising, is_under, row_under, row_len, rows_len}
+use Rattle.path_rows.specs.Database.{RowView, key_of, key_order, IsRising, is_under, row_under, row_len, rows_len}
 use Rattle.path_rows.specs.Command.{database_after_removal}
 use Rattle.path_rows.specs.Row.{row_view}
 use Rattle.path_rows.specs.RowMap.{bytes_of, views_of, len_if_any, AreUnderTheirKeys}
@@ -131,11 +131,6 @@ module _ (q : RowKey) (row : Row) (its : bytes_of q ≡ key_of (row_view row)) w
 pub copied_view : (found : Option (Bor Row)) → option_map (λ row. row_view row.now) found ≡ option_map row_view (option_copied found)
 copied_view None = refl
 copied_view (Some row) = refl
-
--- the key of a row's type and id is the row's key
-pub its_bytes : (q : RowKey) (row : Row) → bytes_of q ≡ key row.kind row.id → bytes_of q ≡ key_of (row_view row)
-unfolding key_of
-its_bytes q row e = e ∙ ap (key row.kind) row.identified
 
 -- ---- the bytes
 

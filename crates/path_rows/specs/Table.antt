@@ -1,5 +1,5 @@
 -- The relations between the fields of a database.
-use Rattle.std.specs.Prelude.{◌≡◌, List}
+use Rattle.std.specs.Prelude.{◌≡◌, true, List}
 use Rattle.path_rows.specs.declared.database.PathDb.TheInside.{Inside}
 use Rattle.path_rows.specs.declared.end.End.TheVariants.{First, Last}
 use Rattle.path_rows.specs.Database.{RowView, IsDatabase, rows_len}
@@ -15,6 +15,6 @@ pub record IsTable (s : Inside) : Type 0 where
   pub database : IsDatabase s.rows
   -- The bytes of the rows' records are counted.
   pub counted : s.bytes ≡ rows_len s.rows
-  -- Both indexes have exactly the index keys of the rows.
-  pub first : IsEndIndex (entry_at_end First) s.rows s.by_first
-  pub last : IsEndIndex (entry_at_end Last) s.rows s.by_last
+  -- Both indexes have exactly the index keys of the rows, where they are kept.
+  pub first : s.indexed ≡ true → IsEndIndex (entry_at_end First) s.rows s.by_first
+  pub last : s.indexed ≡ true → IsEndIndex (entry_at_end Last) s.rows s.by_last

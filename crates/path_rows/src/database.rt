@@ -17,15 +17,15 @@ ghost use Rattle.isd_as.specs.IsdAs.{isd_as_number};
 use crate::answers::{Wanted, first_shown, is_indexed, shown_at};
 use crate::command::Command;
 use crate::end::End;
-use crate::end_keys::{add_both, index_key_of, sweep, touched_keys};
+use crate::end_keys::{add_both, index_key_of, index_of, sweep, touched_keys};
 use crate::error::ApplyError;
 use crate::format::type_byte;
 use crate::outcome::Outcome;
 use crate::purge_walk::PurgeWalk;
 use crate::row::Row;
 use crate::row_list::Rows;
-use crate::row_map::RowMap;
-use crate::row_puts::{put_after, rows_of, saved_rows};
+use crate::row_map::{RowMap, map_of};
+use crate::row_puts::{put_after, put_all, rows_of, saved_rows};
 use end_index::EndIndex;
 use isd_as::IsdAs;
 use seg_core::{SegType, Segment};
@@ -39,6 +39,8 @@ use std::marker::Model;
 pub struct PathDb {
     alloc: Global,
     rows: RowMap,
+    /// Whether the two indexes are kept. They are empty where they are not.
+    indexed: bool,
     by_first: EndIndex,
     by_last: EndIndex,
     bytes: u128,
@@ -64,9 +66,33 @@ impl PathDb {
         PathDb {
             alloc,
             rows: RowMap::new(alloc),
+            indexed: true,
             by_first: EndIndex::new(alloc),
             by_last: EndIndex::new(alloc),
             bytes: 0,
+        }
+    }
+
+    /// An equal database that keeps no index of its rows by their ends: it takes less memory, and a
+    /// command less time, but `matching` visits all rows of the type. The call takes no memory.
+    pub fn without_indexes(self) -> PathDb
+        ensures { result ≡ self }
+    {
+        let PathDb {
+            alloc,
+            rows,
+            indexed: _indexed,
+            by_first: _by_first,
+            by_last: _by_last,
+            bytes,
+        } = self;
+        PathDb {
+            alloc,
+            rows,
+            indexed: false,
+            by_first: EndIndex::new(alloc),
+            by_last: EndIndex::new(alloc),
+            bytes,
         }
     }
 
@@ -77,34 +103,16 @@ impl PathDb {
         ensures same { IfOk result (λ db. db ≡ row_views rows.items) }
         ensures memory { OnErr result (0 < length rows.items) }
     {
-        let mut db = PathDb::new(alloc);
-        for row in rows {
-            db = db.with_last(row)?;
+        if rows.is_empty() {
+            return Ok(PathDb::new(alloc));
         }
-        Ok(db)
-    }
-
-    /// The database with one row more, whose key is above all others. No row is under this key, so
-    /// none is looked up or replaced.
-    fn with_last(self, row: Row) -> Result<PathDb, AllocError>
-        requires { IsDatabase (self ++ row_view row ∷ []) }
-        ensures { IfOk result (λ db. db ≡ self ++ row_view row ∷ []) }
-    {
-        let PathDb {
-            alloc,
-            mut rows,
-            mut by_first,
-            mut by_last,
-            bytes,
-        } = self;
-        let _count = rows.len();
-        let bytes = bytes + u128::from(row.len());
-        by_first.add(index_key_of(End::First, &row))?;
-        by_last.add(index_key_of(End::Last, &row))?;
-        rows.set(row)?;
+        let by_first = index_of(alloc, End::First, &rows)?;
+        let by_last = index_of(alloc, End::Last, &rows)?;
+        let (rows, bytes) = map_of(alloc, rows)?;
         Ok(PathDb {
             alloc,
             rows,
+            indexed: true,
             by_first,
             by_last,
             bytes,
@@ -220,6 +228,9 @@ impl PathDb {
         if new.is_empty() {
             return Ok(Outcome::nothing());
         }
+        if !self.indexed {
+            return put_all(&mut self.rows, &mut self.bytes, new, saved, most);
+        }
         let firsts = touched_keys(self.alloc, End::First, &new, &saved)?;
         let lasts = touched_keys(self.alloc, End::Last, &new, &saved)?;
         let added = add_both(&mut self.by_first, &firsts, &mut self.by_last, &lasts);
@@ -262,7 +273,7 @@ impl PathDb {
             return false;
         };
         let kind = row.kind;
-        let id = row.id;
+        let id = *row.id();
         self.remove(kind, &id);
         true
     }
@@ -325,13 +336,15 @@ impl PathDb {
             end,
             moment: now,
         };
-        if is_indexed(end) {
-            let index_keys = self.by_last.keys_at(type_byte(kind), end.to_u64());
-            return shown_at(self.alloc, &self.rows, index_keys, wanted, limit);
-        }
-        if is_indexed(start) {
-            let index_keys = self.by_first.keys_at(type_byte(kind), start.to_u64());
-            return shown_at(self.alloc, &self.rows, index_keys, wanted, limit);
+        if self.indexed {
+            if is_indexed(end) {
+                let index_keys = self.by_last.keys_at(type_byte(kind), end.to_u64());
+                return shown_at(self.alloc, &self.rows, index_keys, wanted, limit);
+            }
+            if is_indexed(start) {
+                let index_keys = self.by_first.keys_at(type_byte(kind), start.to_u64());
+                return shown_at(self.alloc, &self.rows, index_keys, wanted, limit);
+            }
         }
         first_shown(self.alloc, self.rows.of_type(kind), wanted, limit)
     }
@@ -366,6 +379,7 @@ impl PathDb {
         Ok(PathDb {
             alloc: self.alloc,
             rows: self.rows.try_clone(self.alloc)?,
+            indexed: self.indexed,
             by_first: self.by_first.try_clone()?,
             by_last: self.by_last.try_clone()?,
             bytes: self.bytes,

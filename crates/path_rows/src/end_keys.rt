@@ -6,13 +6,13 @@ ghost use Rattle.end_index.specs.IndexKey.{has};
 ghost use Rattle.std.specs.Option.{option_map};
 ghost use Rattle.path_rows.specs.declared.end.End.TheVariants.{First, Last};
 ghost use Rattle.path_rows.specs.Row.{row_view, row_views};
+ghost use Rattle.path_rows.specs.Database.{IsRising};
 ghost use Rattle.path_rows.specs.Saved.{saved_view};
 ghost use Rattle.path_rows.specs.EndKeys.{entry_at_end, is_of, is_index_key, stands, EndAlike, IsSeenTo, AreSeenTo, IsEndIndex, IsCovered, IsIndexGrown, HasAll};
 
 use crate::end::End;
-use crate::format::type_byte;
 use crate::row::Row;
-use crate::row_map::RowMap;
+use crate::row_map::{RowMap, key_of_row};
 use crate::row_puts::Saved;
 use end_index::{EndIndex, IndexKey};
 use std::alloc::{AllocError, Global};
@@ -21,10 +21,12 @@ use std::alloc::{AllocError, Global};
 pub(crate) fn index_key_of(end: End, row: &Row) -> IndexKey
     ensures { is_index_key (entry_at_end end) result (row_view row.now) ≡ true }
 {
+    let key = key_of_row(row);
+    let id = key.id;
     IndexKey {
-        kind: type_byte(row.kind),
+        kind: key.kind,
         isd_as: isd_as_at(end, row),
-        id: row.id,
+        id,
     }
 }
 
@@ -37,6 +39,18 @@ fn isd_as_at(end: End, row: &Row) -> u64
         End::First => entries[0].ia.to_u64(),
         End::Last => entries[entries.len() - 1].ia.to_u64(),
     }
+}
+
+/// The index of rows, whose keys rise, by the ISD-AS at this end.
+pub(crate) fn index_of(alloc: Global, end: End, rows: &[Row]) -> Result<EndIndex, AllocError>
+    requires { IsRising (row_views rows.now) }
+    ensures { IfOk result (λ index. IsEndIndex (entry_at_end end) (row_views rows.now) index) }
+{
+    let mut index_keys = Vec::with_capacity(alloc, rows.len())?;
+    for row in rows {
+        index_keys.push(index_key_of(end, row))?;
+    }
+    EndIndex::of_keys(alloc, index_keys)
 }
 
 /// The index keys of new rows and of the rows that were under their keys, except for pairs with the

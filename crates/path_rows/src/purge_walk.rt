@@ -1,12 +1,13 @@
 //! The walk of a purge over the rows.
 
 ghost use Rattle.std.specs.Prelude.{◌≡◌, List, IfSome, IfNone};
-ghost use Rattle.path_rows.specs.Database.{RowView, key};
+ghost use Rattle.path_rows.specs.Database.{RowView, key_of};
+ghost use Rattle.path_rows.specs.Row.{row_view};
 ghost use Rattle.path_rows.specs.Purge.{HasPassed, IsExpiredUnder, AllOutlast};
 
 use crate::row::Row;
 use crate::row_key::RowKey;
-use crate::row_map::{RowMap, row_key};
+use crate::row_map::{RowMap, key_of_row};
 use seg_check::expiry;
 
 /// A walk over rows in the order of their keys, which finds those that expire at a moment or
@@ -42,7 +43,7 @@ impl PurgeWalk {
     /// means that all rows were passed. This takes no memory.
     pub(crate) fn next_expired<'a>(&mut self, rows: &'a RowMap) -> Option<&'a Row>
         requires { HasPassed self.old rows.now }
-        ensures expired { IfSome result (λ row. IsExpiredUnder self.old.moment (key row.now.kind row.now.id) rows.now) }
+        ensures expired { IfSome result (λ row. IsExpiredUnder self.old.moment (key_of (row_view row.now)) rows.now) }
         ensures none { IfNone result (AllOutlast self.new rows.now) }
         ensures passed { HasPassed self.new rows.now }
         ensures moment { self.new.moment ≡ self.old.moment }
@@ -51,7 +52,7 @@ impl PurgeWalk {
         for row in rows.from(self.from) {
             let expires = expiry(&row.segment);
             if expires <= self.moment {
-                self.from = row_key(row.kind, &row.id);
+                self.from = key_of_row(row);
                 self.least = least;
                 return Some(row);
             }

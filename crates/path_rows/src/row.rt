@@ -8,31 +8,34 @@ ghost use Rattle.seg_core.specs.Digest.{segment_digest};
 ghost use Rattle.path_rows.specs.Database.{key, key_of, row_len};
 
 use crate::format::ROW_HEAD;
-use seg_check::seg_id;
 use seg_core::{SegType, Segment, encoded_len};
 use std::alloc::AllocError;
 use std::cmp::Ordering;
 
-/// A segment of the database with its type, and its id.
+/// A segment of the database with its type. Its id is in the segment.
 #[derive(Drop)]
 pub struct Row {
     pub kind: SegType,
-    /// SHA-256 over the hops of the segment, 32 bytes.
-    pub id: [u8; 32],
     pub segment: Segment,
-    pub ghost identified: { id ≡ segment_digest segment },
     pub ghost short: { length (segment_encoding segment) ≤ 16384 },
 }
 
 impl Row {
     ghost use Rattle.path_rows.specs.Row.{row_view};
 
-    /// The row of a segment. Its id is the segment's digest.
+    /// The row of a segment.
     pub fn new(kind: SegType, segment: Segment) -> Row
         ensures { row_view result ≡ (kind, segment) }
     {
-        let id = seg_id(&segment);
-        Row { kind, id, segment }
+        let _short = encoded_len(&segment);
+        Row { kind, segment }
+    }
+
+    /// The row's id: SHA-256 over the hops of its segment, 32 bytes.
+    pub fn id(&self) -> &[u8; 32]
+        ensures { result.now ≡ segment_digest (row_view self.now).1 }
+    {
+        self.segment.digest()
     }
 
     /// An equal row, which shares the segment. The call takes no memory. An error means that 2^63
@@ -43,7 +46,6 @@ impl Row {
     {
         Ok(Row {
             kind: self.kind,
-            id: self.id,
             segment: self.segment.try_clone()?,
         })
     }
@@ -54,7 +56,7 @@ impl Row {
         ensures { result ≡ slice_cmp nat_cmp (key_of (row_view self.now)) (key kind id.now) }
     {
         match self.kind.number().cmp(&kind.number()) {
-            Ordering::Equal => self.id.as_slice().cmp(&id.as_slice()),
+            Ordering::Equal => self.id().as_slice().cmp(&id.as_slice()),
             unequal => unequal,
         }
     }

@@ -1,6 +1,6 @@
 //! The rows of a database by their keys.
 
-ghost use Rattle.std.specs.Prelude.{◌≡◌, ◌+◌, ◌*◌, ◌<◌, ◌≤◌, ◌^◌, [], true, not, IfOk, OnErr, None, filter, length};
+ghost use Rattle.std.specs.Prelude.{◌≡◌, ◌+◌, ◌*◌, ◌<◌, ◌≤◌, ◌^◌, [], ◌∷◌, ◌++◌, true, not, IfOk, OnOk, OnErr, None, filter, length};
 ghost use Rattle.std.specs.Option.{ForSome, option_map};
 ghost use Rattle.path_rows.specs.declared.end.End.TheVariants.{First, Last};
 ghost use Rattle.path_rows.specs.Database.{IsRising, key, key_of, row_under, row_len, rows_len};
@@ -8,7 +8,7 @@ ghost use Rattle.path_rows.specs.Command.{database_after_purge, database_after_r
 ghost use Rattle.path_rows.specs.Answer.{is_of_type};
 ghost use Rattle.path_rows.specs.EndKeys.{entry_at_end, IsSeenTo};
 ghost use Rattle.path_rows.specs.Put.{database_after_put, change_of};
-ghost use Rattle.path_rows.specs.Row.{row_view};
+ghost use Rattle.path_rows.specs.Row.{row_view, row_views};
 ghost use Rattle.path_rows.specs.RowMap.{HasRowPut, NoneExpiresBefore, bytes_of, len_if_any, indexed_key};
 ghost use Rattle.path_rows.specs.Purge.{is_below};
 
@@ -145,11 +145,20 @@ impl RowMap {
         ensures absent { OnErr result (row_under (key_of (row_view row)) self.old ≡ None) }
         ensures rising { IsRising self.new }
     {
-        let key = row_key(row.kind, &row.id);
+        let key = key_of_row(&row);
         let expires = expiry(&row.segment);
         let old = self.rows.insert(key, row)?;
         self.least_expiry = self.least_expiry.min(expires);
         Ok(old)
+    }
+
+    /// Puts a row whose key is above all others.
+    fn put_last(&mut self, row: Row) -> Result<(), AllocError>
+        requires { IsRising (self.old ++ row_view row ∷ []) }
+        ensures { OnOk result (self.new ≡ self.old ++ row_view row ∷ []) }
+    {
+        self.set(row)?;
+        Ok(())
     }
 
     /// Replaces an older row under the same key and with the same ends, or keeps one that is as
@@ -166,7 +175,7 @@ impl RowMap {
         ensures none { result ≡ None → self.new ≡ self.old }
     {
         let _count = self.len();
-        let key = row_key(row.kind, &row.id);
+        let key = key_of_row(&row);
         let old = self.rows.get_mut(&key)?;
         if !keeps_keys(&row, old) {
             return None;
@@ -208,6 +217,30 @@ impl RowMap {
     {
         self.least_expiry = least;
     }
+}
+
+/// The key of a row.
+#[tactic(auto, unfolding(crate::specs::Database::key_of))]
+pub(crate) fn key_of_row(row: &Row) -> RowKey
+    ensures { bytes_of result ≡ key_of (row_view row.now) }
+{
+    row_key(row.kind, row.id())
+}
+
+/// The map of rows, whose keys rise, and how many bytes their records have.
+pub(crate) fn map_of(alloc: Global, rows: Vec<Row>) -> Result<(RowMap, u128), AllocError>
+    requires { IsRising (row_views rows.items) }
+    ensures rows { IfOk result (λ made. made.0 ≡ row_views rows.items) }
+    ensures bytes { IfOk result (λ made. made.1 ≡ rows_len (row_views rows.items)) }
+{
+    let mut map = RowMap::new(alloc);
+    let mut bytes = 0;
+    for row in rows {
+        let _count = map.len();
+        bytes += u128::from(row.len());
+        map.put_last(row)?;
+    }
+    Ok((map, bytes))
 }
 
 /// The key of a type and an id.

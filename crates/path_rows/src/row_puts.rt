@@ -51,7 +51,7 @@ pub(crate) fn saved_rows(
     for row in new {
         saved.push(Saved {
             kind: row.kind,
-            id: row.id,
+            id: *row.id(),
             row: copy_of(rows, row)?,
         })?;
     }
@@ -62,7 +62,7 @@ pub(crate) fn saved_rows(
 fn copy_of(rows: &RowMap, row: &Row) -> Result<Option<Row>, AllocError>
     ensures { IfOk result (λ old. option_map row_view old ≡ row_under (key_of (row_view row.now)) rows.now) }
 {
-    match rows.get(row.kind, &row.id) {
+    match rows.get(row.kind, row.id()) {
         Some(old) => Ok(Some(old.try_clone()?)),
         None => Ok(None),
     }
@@ -209,7 +209,7 @@ fn wins(rows: &RowMap, row: &Row) -> bool
     ensures same { result ≡ wins (row_view row.now) (row_under (key_of (row_view row.now)) rows.now) }
     ensures rising { IsRising rows.now }
 {
-    match rows.get(row.kind, &row.id) {
+    match rows.get(row.kind, row.id()) {
         Some(old) => old.segment.timestamp() < row.segment.timestamp(),
         None => true,
     }

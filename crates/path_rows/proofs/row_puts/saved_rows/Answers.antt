@@ -13,5 +13,5 @@ loop-row-preserved c =
     let i = c.loop-row.row-index in
     let row = c.row-item.result in
     let stands : RowView → Stood = λ r. (key_of r, row_under (key_of r) c.args.rows.now) in
-    let one : (key row.kind row.id, row_under (key_of (row_view row)) c.args.rows.now) ≡ stands (row_view row) = ap (λ k. (k, row_under (key_of (row_view row)) c.args.rows.now)) (key_is row) in
+    let one : (key row.kind c.id.result.now, row_under (key_of (row_view row)) c.args.rows.now) ≡ stands (row_view row) = ap (λ k. (k, row_under (key_of (row_view row)) c.args.rows.now)) (key_is row c.id.result.now c.id.ensures) in
     rw (c.in_ok-push.ensures.items, views_more rows i row (omega arith) c.row-item.is, map-append, map-append, c.loop-row.invariant, c.in_ok-copy_of.ensures, one) refl

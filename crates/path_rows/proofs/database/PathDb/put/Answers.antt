@@ -1,4 +1,5 @@
 use Rattle.std.proofs.Common.{rules, ◌≡◌, List, map, OnOk, vec_len, sym, ap, ◌∙◌, subst, arith}
+use Rattle.std.proofs.lemmas.Bool.{false≢true}
 use Rattle.path_rows.specs.declared.end.End.TheVariants.{First, Last}
 use Rattle.path_rows.specs.Put.{database_after_puts, changes_of}
 use Rattle.path_rows.specs.Outcome.{outcome_of_puts}
@@ -25,7 +26,7 @@ sweep-requires c =
     rw c.deref-8.ensures.value
     (covers_either end rows new c.put_after-put.new.rows touched c.self.inside.by_first c.add_both-added.new.by_first c.add_both-added.result c.put_after-put.result c.self.invariant.database.rising
     (seen_from end rows touched new (subst (λ (l : List Stood). AreSeenTo end touched new l) each seen))
-    c.self.invariant.first grown added c.put_after-put.ensures.added c.put_after-put.ensures.rows c.put_after-put.ensures.err)
+    (c.self.invariant.first c.if-not-self.false) grown added c.put_after-put.ensures.added c.put_after-put.ensures.rows c.put_after-put.ensures.err)
 
 pub sweep-requires-2 : goal.sweep-requires-2
 sweep-requires-2 c =
@@ -41,18 +42,30 @@ sweep-requires-2 c =
     rw c.deref-9.ensures.value
     (covers_either end rows new c.put_after-put.new.rows touched c.self.inside.by_last c.add_both-added.new.by_last c.add_both-added.result c.put_after-put.result c.self.invariant.database.rising
     (seen_from end rows touched new (subst (λ (l : List Stood). AreSeenTo end touched new l) each seen))
-    c.self.invariant.last grown added c.put_after-put.ensures.added c.put_after-put.ensures.rows c.put_after-put.ensures.err)
+    (c.self.invariant.last c.if-not-self.false) grown added c.put_after-put.ensures.added c.put_after-put.ensures.rows c.put_after-put.ensures.err)
 
+-- without indexes
 pub invariant_of-self : goal.invariant_of-self
 invariant_of-self c = record {
+  database = database_either c.self.inside.rows (row_views c.args.new.items) c.put_all.new.rows c.put_all.result c.self.invariant.database c.requires c.put_all.ensures.rows c.put_all.ensures.err;
+  counted = c.put_all.ensures.bytes;
+  first = λ e. absurd (false≢true (sym c.if-not-self.true ∙ e));
+  last = λ e. absurd (false≢true (sym c.if-not-self.true ∙ e));
+}
+
+pub returns-then-not-self-clause-whole : goal.returns-then-not-self-clause-whole
+returns-then-not-self-clause-whole c = (invariant_of-self c).database
+
+pub invariant_of-self-2 : goal.invariant_of-self-2
+invariant_of-self-2 c = record {
   database = database_either c.self.inside.rows (row_views c.args.new.items) c.put_after-put.new.rows c.put_after-put.result c.self.invariant.database c.requires c.put_after-put.ensures.rows c.put_after-put.ensures.err;
   counted = c.put_after-put.ensures.bytes;
-  first = c.sweep.ensures;
-  last = c.sweep-2.ensures;
+  first = λ e. c.sweep.ensures;
+  last = λ e. c.sweep-2.ensures;
 }
 
 pub returns-clause-whole : goal.returns-clause-whole
-returns-clause-whole c = (invariant_of-self c).database
+returns-clause-whole c = (invariant_of-self-2 c).database
 
 pub returns-then-is_empty-clause-database : goal.returns-then-is_empty-clause-database
 returns-then-is_empty-clause-database c =

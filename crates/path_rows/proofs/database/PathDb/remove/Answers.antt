@@ -15,8 +15,8 @@ invariant_of-self c =
     record {
       database = subst IsDatabase (sym same) table.database;
       counted = table.counted ∙ sym (ap rows_len same);
-      first = kept_index (entry_at_end First) rows c.remove.new.self c.self.inside.by_first same table.first;
-      last = kept_index (entry_at_end Last) rows c.remove.new.self c.self.inside.by_last same table.last;
+      first = λ e. kept_index (entry_at_end First) rows c.remove.new.self c.self.inside.by_first same (table.first e);
+      last = λ e. kept_index (entry_at_end Last) rows c.remove.new.self c.self.inside.by_last same (table.last e);
     }
 
 pub returns-in_default-clause-whole : goal.returns-in_default-clause-whole
@@ -32,8 +32,8 @@ invariant_of-self-2 c =
     record {
       database = subst IsDatabase (sym c.in-Some.ensures.left) (database_filtered (λ r. not (is_under l r)) rows table.database);
       counted = omega (arith, c.in-Some.ensures.bytes, c.len.ensures.same, c.from.ensures, table.counted);
-      first = removed_index (entry_at_end First) rows table.database.rising l row there c.index_key_of.result c.index_key_of.ensures c.self.inside.by_first c.remove-2.new.self c.remove.new.self c.in-Some.ensures.left table.first c.remove-2.ensures;
-      last = removed_index (entry_at_end Last) rows table.database.rising l row there c.index_key_of-2.result c.index_key_of-2.ensures c.self.inside.by_last c.remove-3.new.self c.remove.new.self c.in-Some.ensures.left table.last c.remove-3.ensures;
+      first = λ e. removed_index (entry_at_end First) rows table.database.rising l row there c.index_key_of.result c.index_key_of.ensures c.self.inside.by_first c.remove-2.new.self c.remove.new.self c.in-Some.ensures.left (table.first e) c.remove-2.ensures;
+      last = λ e. removed_index (entry_at_end Last) rows table.database.rising l row there c.index_key_of-2.result c.index_key_of-2.ensures c.self.inside.by_last c.remove-3.new.self c.remove.new.self c.in-Some.ensures.left (table.last e) c.remove-3.ensures;
     }
 
 pub returns-clause-whole : goal.returns-clause-whole

@@ -21,8 +21,8 @@ invariant_of-self-2 c =
     record {
       database = subst IsDatabase (sym put) (database_puts rows (row ∷ []) table.database (subst (λ (r : RowView). AreWhole (r ∷ [])) (sym is) whole));
       counted = c.in_ok-change.ensures.bytes;
-      first = subst (λ l. IsEndIndex (entry_at_end First) l c.self.inside.by_first) (sym put) (index_kept (entry_at_end First) rows row c.self.inside.by_first table.database.rising table.first (c.in_ok-change.ensures.first c.in_ok-change.change refl));
-      last = subst (λ l. IsEndIndex (entry_at_end Last) l c.self.inside.by_last) (sym put) (index_kept (entry_at_end Last) rows row c.self.inside.by_last table.database.rising table.last (c.in_ok-change.ensures.last c.in_ok-change.change refl));
+      first = λ e. subst (λ l. IsEndIndex (entry_at_end First) l c.self.inside.by_first) (sym put) (index_kept (entry_at_end First) rows row c.self.inside.by_first table.database.rising (table.first e) (c.in_ok-change.ensures.first c.in_ok-change.change refl));
+      last = λ e. subst (λ l. IsEndIndex (entry_at_end Last) l c.self.inside.by_last) (sym put) (index_kept (entry_at_end Last) rows row c.self.inside.by_last table.database.rising (table.last e) (c.in_ok-change.ensures.last c.in_ok-change.change refl));
     }
 
 pub returns-clause-whole : goal.returns-clause-whole

@@ -1,11 +1,8 @@
 use Rattle.std.proofs.Common.{rules, ◌≡◌, true, false, not, [], ◌∷◌, ◌++◌, ap, ◌∙◌, subst, arith}
 use Rattle.std.specs.List.{filter}
-use Rattle.path_rows.specs.Database.{row_under}
 use Rattle.path_rows.specs.Command.{is_valid_beyond}
 use Rattle.path_rows.specs.Row.{row_view}
 use Rattle.path_rows.specs.Purge.{is_below, Outlasts}
-use Rattle.path_rows.proofs.Indices.{key_is}
-use Rattle.path_rows.proofs.Keyed.{its_bytes}
 use Rattle.path_rows.proofs.Purged.{HasWalked, walk_goes_on, walk_ends, found_in, passed_before, passed_all, passed_under, passed_lowered, all_passed}
 use Rattle.path_rows.proofs.purge_walk.PurgeWalk.next_expired.Goals as goal
 
@@ -25,7 +22,7 @@ returns-then-expires-self-clause-expired c =
     let split : filter (λ r. not (is_below c.args.self.now.from r)) rows ≡ walked.front ++ row ∷ left = walked.split ∙ ap (λ l. walked.front ++ l) is in
     let there = found_in (λ r. not (is_below c.args.self.now.from r)) rows walked.front left row c.from-row-items.ensures.rising split in
     let expired : is_valid_beyond c.args.self.now.moment row ≡ false = rw (← c.loop-row.invariant.moment) (search (rules, c.if-expires-self.true, c.expiry-expires.ensures)) in
-    (row, ap (λ k. row_under k rows) (key_is c.in-Some.row.now) ∙ there, expired)
+    (row, there, expired)
 
 pub returns-then-expires-self-clause-passed : goal.returns-then-expires-self-clause-passed
 returns-then-expires-self-clause-passed c =
@@ -40,8 +37,7 @@ returns-then-expires-self-clause-passed c =
     let split : filter (λ r. not (is_below from r)) rows ≡ walked.front ++ row ∷ left = walked.split ∙ ap (λ l. walked.front ++ l) is in
     let before = passed_lowered from moment c.args.self.now.least least rows c.loop-row.invariant.lower c.requires in
     let passed = passed_before (λ r. not (is_below from r)) (Outlasts moment least) rows walked.front left row c.from-row-items.ensures.rising split before walked.good in
-    let its = its_bytes c.row_key-self.result c.in-Some.row.now c.row_key-self.ensures in
-    rw c.loop-row.invariant.moment (passed_under (Outlasts moment least) c.row_key-self.result row rows its passed)
+    rw c.loop-row.invariant.moment (passed_under (Outlasts moment least) c.key_of_row-self.result row rows c.key_of_row-self.ensures passed)
 
 pub loop-row-preserved : goal.loop-row-preserved
 loop-row-preserved c =
