@@ -21,7 +21,7 @@ pub use error::PairError;
 pub use format::{BEFORE_ROWS, CHECKPOINT_MAGIC, COUNT_AT, SIZE_AT, area_room};
 pub use head::{Head, Heads, read_head};
 pub use path_db::RowsReader;
-pub use pieces::{feed_rows, finish_rows};
+pub use pieces::{feed_rows, feed_rows_by, finish_rows};
 pub use reading::{Checkpoint, Front, read_front, read_half};
 pub use row_stream::RowStream;
 pub use rows_laws::{

@@ -11,16 +11,31 @@ ghost use Rattle.ckpt_pair.specs.Reading.{or_bad, AreNoRows};
 
 use crate::error::PairError;
 use crate::reading::has_count;
-use path_db::{DbError, PathDb, RowsReader};
+use path_db::{DbError, OneThread, PathDb, RowReading, RowsReader};
 
-/// Reads the next piece of the rows' bytes, cut anywhere. A `BadCheckpoint` does not depend on the
-/// count of rows or on the bytes after this piece. An empty piece takes no memory.
+/// Reads the next piece of the rows' bytes, cut anywhere, on the calling thread. A `BadCheckpoint`
+/// does not depend on the count of rows or on the bytes after this piece. An empty piece takes no
+/// memory.
 pub fn feed_rows(reader: RowsReader, piece: &[u8]) -> Result<RowsReader, PairError>
     ensures fed { IfOk result (λ more. more ≡ reader ++ piece.now) }
     ensures refused { IfErr result (λ e. e ≢ NoMemory → (e ≡ BadCheckpoint) × AreNoRows (reader ++ piece.now)) }
     ensures memory { IfErr result (λ e. 0 < length piece.now) }
 {
-    match reader.feed(piece) {
+    feed_rows_by(&OneThread, reader, piece)
+}
+
+/// Reads the next piece of the rows' bytes as `feed_rows` does, in this way.
+pub fn feed_rows_by<B: RowReading>(
+    by: &B,
+    reader: RowsReader,
+    piece: &[u8],
+) -> Result<RowsReader, PairError>
+    requires { B.is_ready by.now }
+    ensures fed { IfOk result (λ more. more ≡ reader ++ piece.now) }
+    ensures refused { IfErr result (λ e. e ≢ NoMemory → (e ≡ BadCheckpoint) × AreNoRows (reader ++ piece.now)) }
+    ensures memory { IfErr result (λ e. 0 < length piece.now) }
+{
+    match reader.feed_by(by, piece) {
         Ok(more) => Ok(more),
         Err(DbError::NoMemory) => Err(PairError::NoMemory),
         Err(_) => Err(PairError::BadCheckpoint),

@@ -8,6 +8,7 @@ mod Spelled
 mod ReadBack
 pub mod RowsBack
 mod RowPieces
+mod RowRuns
 mod LongRows
 mod WalkSteps
 mod WalkEnds

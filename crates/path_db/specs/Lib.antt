@@ -4,5 +4,6 @@ pub mod CommandRecord
 pub mod RecordLaws
 pub mod RecordRefusals
 pub mod RowsReader
+pub mod RowReading
 pub mod Key
 pub mod RowWalk

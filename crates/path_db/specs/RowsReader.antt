@@ -29,3 +29,8 @@ pub record AreReadOn (before after : List RowView) (bytes : List ℕ) (taken : �
   pub database : IsDatabase after
   -- After them there is no whole row.
   pub rest : has_row (drop taken bytes) ≡ false
+
+-- The rows are a database, and the bytes are their records.
+pub record AreRowsOf (rows : List RowView) (bytes : List ℕ) : Type 0 where
+  pub database : IsDatabase rows
+  pub records : rows_encoding rows ≡ bytes

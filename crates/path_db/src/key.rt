@@ -40,7 +40,7 @@ impl Key {
     {
         Key {
             kind: row.kind,
-            id: row.id,
+            id: *row.id(),
         }
     }
 

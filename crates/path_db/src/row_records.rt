@@ -165,7 +165,7 @@ pub(crate) fn is_above_last(rows: &[Row], row: &Row) -> bool
     ensures { result ≡ is_row_above (last_of (row_views rows.now)) (row_view row.now) }
 {
     match rows.last() {
-        Some(before) => before.cmp_key(row.kind, &row.id).is_lt(),
+        Some(before) => before.cmp_key(row.kind, row.id()).is_lt(),
         None => true,
     }
 }

@@ -4,12 +4,11 @@ ghost use Rattle.std.specs.Prelude.{◌≡◌, ◌≢◌, ◌<◌, ◌≤◌, �
 ghost use Rattle.path_db.specs.declared.error.DbError.TheVariants.{NoMemory};
 ghost use Rattle.path_db.specs.RecordSteps.{GivesRecord};
 ghost use Rattle.path_rows.specs.Database.{IsDatabase};
-ghost use Rattle.path_rows.specs.Row.{row_views};
-ghost use Rattle.path_db.specs.RowRecord.{rows_encoding, rows_decoding, has_row};
-ghost use Rattle.path_db.specs.RowsReader.{AreRefused, AreReadOn};
+ghost use Rattle.path_db.specs.RowRecord.{rows_decoding};
+ghost use Rattle.path_db.specs.RowsReader.{AreRefused};
 
 use crate::error::DbError;
-use crate::row_records::{is_above_last, read_row, size_of_row};
+use crate::row_reading::{OneThread, RowReading};
 use path_rows::{PathDb, Row};
 use std::alloc::{AllocError, Global};
 use std::marker::Model;
@@ -47,9 +46,20 @@ impl RowsReader {
         }
     }
 
-    /// Reads the next piece. The refusal does not depend on the bytes after this piece. An empty
-    /// piece takes no memory.
+    /// Reads the next piece on the calling thread. The refusal does not depend on the bytes after
+    /// this piece. An empty piece takes no memory.
     pub fn feed(self, piece: &[u8]) -> Result<RowsReader, DbError>
+        ensures fed { IfOk result (λ reader. reader ≡ self ++ piece.now) }
+        ensures refused { IfErr result (λ e. e ≢ NoMemory → AreRefused (self ++ piece.now) e) }
+        ensures memory { IfErr result (λ e. 0 < length piece.now) }
+    {
+        self.feed_by(&OneThread, piece)
+    }
+
+    /// Reads the next piece in this way. The refusal does not depend on the bytes after this piece.
+    /// An empty piece takes no memory.
+    pub fn feed_by<B: RowReading>(self, by: &B, piece: &[u8]) -> Result<RowsReader, DbError>
+        requires { B.is_ready by.now }
         ensures fed { IfOk result (λ reader. reader ≡ self ++ piece.now) }
         ensures refused { IfErr result (λ e. e ≢ NoMemory → AreRefused (self ++ piece.now) e) }
         ensures memory { IfErr result (λ e. 0 < length piece.now) }
@@ -63,7 +73,7 @@ impl RowsReader {
             mut rest,
         } = self;
         rest.extend_from_slice(piece)?;
-        let (rows, taken) = read_on(alloc, rows, &rest)?;
+        let (rows, taken) = by.read_on(alloc, rows, &rest)?;
         let rest = cut_front(rest, taken)?;
         Ok(RowsReader { alloc, rows, rest })
     }
@@ -92,32 +102,4 @@ fn cut_front(bytes: Vec<u8>, taken: usize) -> Result<Vec<u8>, AllocError>
         return Ok(bytes);
     }
     bytes.split_off(taken)
-}
-
-/// Reads the whole rows at the front of the bytes, after the rows before, and returns how many
-/// bytes their records have.
-fn read_on(alloc: Global, rows: Vec<Row>, bytes: &[u8]) -> Result<(Vec<Row>, usize), DbError>
-    requires { IsDatabase (row_views rows.items) }
-    ensures read { IfOk result (λ read. AreReadOn (row_views rows.items) (row_views read.0.items) bytes.now read.1) }
-    ensures refused { IfErr result (λ e. e ≢ NoMemory → AreRefused (rows_encoding (row_views rows.items) ++ bytes.now) e) }
-{
-    let mut rows = rows;
-    let mut left = bytes;
-    while has_whole_row(left) {
-        let ((kind, segment), behind) = read_row(alloc, left)?;
-        let row = Row::new(kind, segment);
-        if !is_above_last(&rows, &row) {
-            return Err(DbError::Order);
-        }
-        rows.push(row)?;
-        left = behind;
-    }
-    Ok((rows, bytes.len() - left.len()))
-}
-
-/// Whether the record at the front is whole.
-fn has_whole_row(bytes: &[u8]) -> bool
-    ensures { result ≡ has_row bytes.now }
-{
-    size_of_row(bytes).is_ok()
 }

@@ -11,6 +11,6 @@ unfolding key_of
 returns-in-Some c =
     let before = row_view c.in-Some.before.now in
     let row = c.args.row.now in
-    let by_id = ap (λ (id : List ℕ). slice_cmp nat_cmp (key_of before) (key row.kind id)) row.identified in
+    let by_id = ap (λ (id : List ℕ). slice_cmp nat_cmp (key_of before) (key row.kind id)) c.id.ensures in
     c.is_lt.ensures ∙ ap is_lt (c.cmp_key.ensures ∙ by_id)
     ∙ above_seen c.args.rows.now c.last.result c.in-Some.before (row_view row) c.in-Some.is c.last.ensures.value

@@ -1,7 +1,7 @@
 -- Goals that the search finds itself.
 use Rattle.std.proofs.Common.{rules, arith}
 use Rattle.std.proofs.lemmas.Grind.{common_steps}
-use Rattle.path_db.proofs.rows_reader.RowsReader.feed.Goals as goal
+use Rattle.path_db.proofs.rows_reader.RowsReader.feed_by.Goals as goal
 
 pub invariant_of-result : goal.invariant_of-result
 invariant_of-result c = search rules

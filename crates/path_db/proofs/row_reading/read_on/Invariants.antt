@@ -2,7 +2,7 @@ use Rattle.std.proofs.Common.{◌≡◌, ◌≤◌, ◌-◌, ◌++◌, length, d
 use Rattle.path_rows.specs.Database.{IsDatabase}
 use Rattle.path_rows.specs.Row.{row_views}
 use Rattle.path_db.specs.RowRecord.{rows_encoding}
-use Rattle.path_db.proofs.rows_reader.read_on.Given as goal
+use Rattle.path_db.proofs.row_reading.read_on.Given as goal
 
 -- The rows read before are a database, and with the bytes that are left they have the same records
 -- as at the start.

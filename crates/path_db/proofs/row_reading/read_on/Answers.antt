@@ -8,7 +8,7 @@ use Rattle.path_rows.specs.Row.{row_view, row_views}
 use Rattle.path_db.specs.RowRecord.{has_row, row_size, is_row_above}
 use Rattle.path_db.proofs.Spelled.{bytes_drop, has_room}
 use Rattle.path_db.proofs.RowPieces.{database_more, encoded_more, refused_on, falls_on, left_more}
-use Rattle.path_db.proofs.rows_reader.read_on.Goals as goal
+use Rattle.path_db.proofs.row_reading.read_on.Goals as goal
 
 pub returns-in_err-kind-clause-refused : goal.returns-in_err-kind-clause-refused
 returns-in_err-kind-clause-refused c =
