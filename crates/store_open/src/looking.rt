@@ -11,6 +11,7 @@ ghost use Rattle.store_open.specs.Refusals.{OnOkOrNoMemory};
 use crate::error::OpenError;
 use crate::folded::{Folded, fold_found};
 use crate::opening::read_opening;
+use path_db::OneThread;
 use sector_dev::Device;
 use std::alloc::Global;
 
@@ -26,7 +27,7 @@ pub fn look<D: Device>(alloc: Global, device: &mut D) -> Result<Folded, OpenErro
     ensures keeps { Keeps (D.disk device.old) (D.disk device.new) }
     ensures history { IsHonest (D.disk device.old) → (D.disk device.new).history ≡ (D.disk device.old).history }
 {
-    let found = read_opening(alloc, device)?;
+    let found = read_opening(&OneThread, alloc, device)?;
     let folded = fold_found(found)?;
     Ok(folded)
 }

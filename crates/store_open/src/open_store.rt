@@ -17,6 +17,7 @@ use crate::folded::{Folded, fold_found};
 use crate::opening::read_opening;
 use crate::store::Store;
 use gate_journal::JournalError;
+use path_db::{OneThread, RowReading};
 use sector_dev::Device;
 use std::alloc::Global;
 
@@ -40,8 +41,33 @@ pub fn open<D: Device>(alloc: Global, device: D) -> Result<Store<D>, (D, OpenErr
     // an image of the start opens with.
     ensures any_moment { Stretch (D.disk device) (disk_after D.disk result) (IsFromImage (D.disk device).history.now OpensAlike) }
 {
+    open_by(&OneThread, alloc, device)
+}
+
+/// Opens a device with a store as `open` does, and reads the rows of the checkpoint in this way.
+pub(crate) fn open_by<B: RowReading, D: Device>(
+    by: &B,
+    alloc: Global,
+    device: D,
+) -> Result<Store<D>, (D, OpenError)>
+    requires { B.is_ready by.now }
+    ensures opened { IfOk result (λ store. IsHonest (D.disk device) → IsOpened (reads_of (D.disk device)) store) }
+    ensures faults { IfOk result (λ store. store.disk.faults ≡ (D.disk device).faults) }
+    ensures whole { IfOk result (λ store. store.broken ≡ false) }
+    ensures refused { IfErr result (λ back. ComesBack back.1 (D.disk device) (D.disk back.0)) }
+
+    // Nothing is written where no gate has to be closed, nor before a refusal that is not the
+    // device's.
+    ensures unwritten { IsHonest (D.disk device) → HasNothingToClose (reads_of (D.disk device))
+        → OnlySyncs result (D.disk device).history (disk_after D.disk result).history }
+    ensures untouched { IfErr result (λ back. IsHonest (D.disk device) → IsNoFault back.1 → (D.disk back.0).history ≡ after_sync (D.disk device).history) }
+
+    // At every moment each image that a stop may leave is an image of the start, or opens with what
+    // an image of the start opens with.
+    ensures any_moment { Stretch (D.disk device) (disk_after D.disk result) (IsFromImage (D.disk device).history.now OpensAlike) }
+{
     let mut device = device;
-    let folded = match settle(alloc, &mut device) {
+    let folded = match settle(by, alloc, &mut device) {
         Ok(folded) => folded,
         Err(e) => return Err((device, e)),
     };
@@ -64,7 +90,12 @@ pub fn open<D: Device>(alloc: Global, device: D) -> Result<Store<D>, (D, OpenErr
 }
 
 /// Syncs, so that a stop leaves the bytes that reads return, and brings the device to rest.
-fn settle<D: Device>(alloc: Global, device: &mut D) -> Result<Folded, OpenError>
+fn settle<B: RowReading, D: Device>(
+    by: &B,
+    alloc: Global,
+    device: &mut D,
+) -> Result<Folded, OpenError>
+    requires { B.is_ready by.now }
     ensures opened { IfOk result (λ folded. IsHonest (D.disk device.old) →
         IsOpened (reads_of (D.disk device.old)) (store_on (D.disk device.new) folded)) }
     ensures faults { IfOk result (λ folded. (D.disk device.new).faults ≡ (D.disk device.old).faults) }
@@ -77,13 +108,18 @@ fn settle<D: Device>(alloc: Global, device: &mut D) -> Result<Folded, OpenError>
     ensures any_moment { Stretch (D.disk device.old) (D.disk device.new) (IsFromImage (D.disk device.old).history.now OpensAlike) }
 {
     device.sync()?;
-    bring_to_rest(alloc, device)
+    bring_to_rest(by, alloc, device)
 }
 
 /// Reads what a device opens with, folds it, and closes the half that is not used. Nothing may be
 /// dirty before the call.
-fn bring_to_rest<D: Device>(alloc: Global, device: &mut D) -> Result<Folded, OpenError>
-    requires { IsHonest (D.disk device.old) → (D.disk device.old).history.now.dirty ≡ [] }
+fn bring_to_rest<B: RowReading, D: Device>(
+    by: &B,
+    alloc: Global,
+    device: &mut D,
+) -> Result<Folded, OpenError>
+    requires ready { B.is_ready by.now }
+    requires clean { IsHonest (D.disk device.old) → (D.disk device.old).history.now.dirty ≡ [] }
     ensures opened { IfOk result (λ folded. IsHonest (D.disk device.old) →
         IsOpened (reads_of (D.disk device.old)) (store_on (D.disk device.new) folded)) }
     ensures faults { IfOk result (λ folded. (D.disk device.new).faults ≡ (D.disk device.old).faults) }
@@ -95,7 +131,7 @@ fn bring_to_rest<D: Device>(alloc: Global, device: &mut D) -> Result<Folded, Ope
     ensures untouched { IfErr result (λ e. IsHonest (D.disk device.old) → IsNoFault e → (D.disk device.new).history ≡ (D.disk device.old).history) }
     ensures any_moment { Stretch (D.disk device.old) (D.disk device.new) (OpensAlike (reads_of (D.disk device.old))) }
 {
-    let found = read_opening(alloc, device)?;
+    let found = read_opening(by, alloc, device)?;
     let folded = fold_found(found)?;
     close_unused(device, folded.geometry, folded.half, folded.sealed)?;
     Ok(folded)

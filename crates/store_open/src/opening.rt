@@ -25,6 +25,7 @@ use crate::rows::read_checkpoint;
 use crate::scanning::scan_journal;
 use ckpt_pair::{Checkpoint, PairError, tail_half};
 use gate_journal::Scan;
+use path_db::RowReading;
 use sector_dev::Device;
 use std::alloc::Global;
 use store_layout::{Geometry, Half};
@@ -40,8 +41,13 @@ pub(crate) struct Found {
     pub(crate) tail: Option<Scan>,
 }
 
-/// Reads what a device's image opens with. Nothing is written.
-pub(crate) fn read_opening<D: Device>(alloc: Global, device: &mut D) -> Result<Found, OpenError>
+/// Reads what a device's image opens with, its rows in this way. Nothing is written.
+pub(crate) fn read_opening<B: RowReading, D: Device>(
+    by: &B,
+    alloc: Global,
+    device: &mut D,
+) -> Result<Found, OpenError>
+    requires { B.is_ready by.now }
     ensures looks { LooksFor result (D.disk device.old) (D.disk device.new) }
     ensures opening { IsHonest (D.disk device.old) → OpensSo opening_view result (opening_of store_format latest (reads_of (D.disk device.old))) }
     ensures memory { IsHonest (D.disk device.old) → OnOkOrNoMemory result (WantsMemoryToOpen (reads_of (D.disk device.old))) }
@@ -49,15 +55,17 @@ pub(crate) fn read_opening<D: Device>(alloc: Global, device: &mut D) -> Result<F
     ensures whole { IfOk result (λ found. IsDatabase found.checkpoint.db) }
 {
     let found = read_geometry(device)?;
-    read_sized(alloc, device, found)
+    read_sized(by, alloc, device, found)
 }
 
 /// Reads what an image opens with, given the sizes that were found.
-fn read_sized<D: Device>(
+fn read_sized<B: RowReading, D: Device>(
+    by: &B,
     alloc: Global,
     device: &mut D,
     found: Option<Geometry>,
 ) -> Result<Found, OpenError>
+    requires ready { B.is_ready by.now }
     requires room { IfSome found (λ geometry. DeviceHasRoomFor (geometry_view geometry) (D.disk device.old)) }
     requires sizes { IsHonest (D.disk device.old) → option_map geometry_view found ≡ geometry_in (reads_of (D.disk device.old)) }
     ensures looks { LooksFor result (D.disk device.old) (D.disk device.new) }
@@ -68,18 +76,20 @@ fn read_sized<D: Device>(
     ensures whole { IfOk result (λ found. IsDatabase found.checkpoint.db) }
 {
     match found {
-        Some(geometry) => read_store(alloc, device, geometry),
+        Some(geometry) => read_store(by, alloc, device, geometry),
         None => Err(OpenError::NotAStore),
     }
 }
 
 /// Reads what the image of a store of these sizes opens with.
-fn read_store<D: Device>(
+fn read_store<B: RowReading, D: Device>(
+    by: &B,
     alloc: Global,
     device: &mut D,
     geometry: Geometry,
 ) -> Result<Found, OpenError>
-    requires { DeviceHasRoomFor (geometry_view geometry) (D.disk device.old) }
+    requires ready { B.is_ready by.now }
+    requires room { DeviceHasRoomFor (geometry_view geometry) (D.disk device.old) }
     ensures looks { LooksFor result (D.disk device.old) (D.disk device.new) }
     ensures opening { IsHonest (D.disk device.old) → OpensSo opening_view result (by_choice store_format latest (geometry_view geometry)
         (reads_of (D.disk device.old)) (choice_by_heads (geometry_view geometry) (reads_of (D.disk device.old)))) }
@@ -88,7 +98,7 @@ fn read_store<D: Device>(
     ensures whole { IfOk result (λ found. IsDatabase found.checkpoint.db) }
 {
     let choice = choose_half(device, geometry)?;
-    let checkpoint = read_checkpoint(alloc, device, geometry, choice.half)?;
+    let checkpoint = read_checkpoint(by, alloc, device, geometry, choice.half)?;
     read_journals(alloc, device, geometry, choice, checkpoint)
 }
 

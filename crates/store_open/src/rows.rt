@@ -18,10 +18,10 @@ use crate::error::OpenError;
 use crate::reading::read_sector;
 use crate::scanning::read_piece;
 use ckpt_pair::{
-    BEFORE_ROWS, Checkpoint, checkpoints_are_read_by_their_fronts, feed_rows, finish_rows,
+    BEFORE_ROWS, Checkpoint, checkpoints_are_read_by_their_fronts, feed_rows_by, finish_rows,
     read_front,
 };
-use path_db::RowsReader;
+use path_db::{RowReading, RowsReader};
 use sector_dev::{Device, SECTOR};
 use std::alloc::Global;
 use store_layout::{Geometry, Half};
@@ -30,14 +30,16 @@ use store_layout::{Geometry, Half};
 const MOST_READ: u64 = 2048;
 
 /// Reads the rows of the area that begins at a sector, which have `size` bytes, in pieces of at
-/// most 1 MiB.
-pub(crate) fn feed_area<D: Device>(
+/// most 1 MiB, each in this way.
+pub(crate) fn feed_area<B: RowReading, D: Device>(
+    by: &B,
     alloc: Global,
     device: &mut D,
     area: u64,
     size: u32,
 ) -> Result<RowsReader, OpenError>
-    requires { SECTOR * area + 32 + size ≤ SECTOR * (D.disk device.old).sectors }
+    requires ready { B.is_ready by.now }
+    requires room { SECTOR * area + 32 + size ≤ SECTOR * (D.disk device.old).sectors }
     ensures looks { LooksFor result (D.disk device.old) (D.disk device.new) }
     ensures rows { IsHonest (D.disk device.old) → FeedsSo (part (SECTOR * area + 32) size (reads_of (D.disk device.old))) result }
 {
@@ -54,19 +56,21 @@ pub(crate) fn feed_area<D: Device>(
         let piece = read_piece(alloc, device, area + first, count)?;
         let from = fed - sector * first;
         let to = (end - sector * first).min(sector * count);
-        reader = feed_rows(reader, &piece[from as usize..to as usize])?;
+        reader = feed_rows_by(by, reader, &piece[from as usize..to as usize])?;
         fed = sector * first + to;
     }
     Ok(reader)
 }
 
 /// Reads the checkpoint of a half: its front, and no more of its area than its rows.
-pub(crate) fn read_checkpoint<D: Device>(
+pub(crate) fn read_checkpoint<B: RowReading, D: Device>(
+    by: &B,
     alloc: Global,
     device: &mut D,
     geometry: Geometry,
     half: Half,
 ) -> Result<Checkpoint, OpenError>
+    requires ready { B.is_ready by.now }
     requires allowed { IsGeometry (geometry_view geometry) }
     requires room { image_sectors (geometry_view geometry) ≤ (D.disk device.old).sectors }
     ensures looks { LooksFor result (D.disk device.old) (D.disk device.new) }
@@ -80,7 +84,7 @@ pub(crate) fn read_checkpoint<D: Device>(
     let at = geometry.area_at(half);
     let sector = read_sector(device, at)?;
     let front = read_front(&sector, SECTOR as u64 * u64::from(geometry.checkpoint))?;
-    let reader = feed_area(alloc, device, at, front.size)?;
+    let reader = feed_area(by, alloc, device, at, front.size)?;
     let db = finish_rows(reader, front.count)?;
     Ok(Checkpoint {
         head: front.head,

@@ -149,7 +149,8 @@ impl<D: Device> Store<D> {
         device
     }
 
-    /// The device, and all rows.
+    /// The device, and all rows, which keep no index by their ends: a caller that shows rows takes a
+    /// copy of `db` first.
     pub fn into_parts(self) -> (D, PathDb)
         ensures device { D.disk result.0 ≡ self.disk }
         ensures rows { result.1 ≡ self.rows }
@@ -168,6 +169,6 @@ impl<D: Device> Store<D> {
             sealed_len: _sealed_len,
             broken: _broken,
         } = self;
-        (device, db)
+        (device, db.without_indexes())
     }
 }

@@ -26,7 +26,7 @@ returns-in_err-found-clause-refused g c =
 
 pub returns-in_err-found-clause-any_moment : goal.returns-in_err-found-clause-any_moment
 returns-in_err-found-clause-any_moment g c =
-    stretch_looked (OpensAlike (reads_of (g.D.Device.disk c.args.device.now))) (g.D.Device.disk c.args.device.now) (g.D.Device.disk c.read_opening.new.device) c.in_err-found.ensures.looks.keeps c.in_err-found.ensures.looks.history c.requires
+    stretch_looked (OpensAlike (reads_of (g.D.Device.disk c.args.device.now))) (g.D.Device.disk c.args.device.now) (g.D.Device.disk c.read_opening.new.device) c.in_err-found.ensures.looks.keeps c.in_err-found.ensures.looks.history c.requires.clean
     (λ honest. alike_itself (reads_of (g.D.Device.disk c.args.device.now)))
 
 pub returns-in_err-folded-clause-refused : goal.returns-in_err-folded-clause-refused
@@ -37,7 +37,7 @@ returns-in_err-folded-clause-refused g c =
 
 pub returns-in_err-folded-clause-any_moment : goal.returns-in_err-folded-clause-any_moment
 returns-in_err-folded-clause-any_moment g c =
-    stretch_looked (OpensAlike (reads_of (g.D.Device.disk c.args.device.now))) (g.D.Device.disk c.args.device.now) (g.D.Device.disk c.read_opening.new.device) c.in_ok-found.ensures.looks.keeps c.in_ok-found.ensures.looks.history c.requires
+    stretch_looked (OpensAlike (reads_of (g.D.Device.disk c.args.device.now))) (g.D.Device.disk c.args.device.now) (g.D.Device.disk c.read_opening.new.device) c.in_ok-found.ensures.looks.keeps c.in_ok-found.ensures.looks.history c.requires.clean
     (λ honest. alike_itself (reads_of (g.D.Device.disk c.args.device.now)))
 
 pub close_unused-requires-clause-room : goal.close_unused-requires-clause-room
@@ -48,7 +48,7 @@ close_unused-requires-clause-room g c =
 pub close_unused-requires-clause-clean : goal.close_unused-requires-clause-clean
 close_unused-requires-clause-clean g c = λ honest_mid.
     let honest = honest_before (g.D.Device.disk c.args.device.now) (g.D.Device.disk c.read_opening.new.device) c.in_ok-found.ensures.looks.keeps honest_mid in
-    ap (λ (h : History). h.now.dirty) (c.in_ok-found.ensures.looks.history honest) ∙ c.requires honest
+    ap (λ (h : History). h.now.dirty) (c.in_ok-found.ensures.looks.history honest) ∙ c.requires.clean honest
 
 pub returns-in_err-close_unused-clause-refused : goal.returns-in_err-close_unused-clause-refused
 returns-in_err-close_unused-clause-refused g c =
@@ -58,12 +58,12 @@ returns-in_err-close_unused-clause-refused g c =
 
 pub returns-in_err-close_unused-clause-any_moment : goal.returns-in_err-close_unused-clause-any_moment
 returns-in_err-close_unused-clause-any_moment g c =
-    rested (g.D.Device.disk c.args.device.now) (g.D.Device.disk c.read_opening.new.device) (g.D.Device.disk c.close_unused.new.device) (opening_view c.in_ok-found.found) c.in_ok-folded.folded c.in_ok-found.ensures.looks.keeps c.in_ok-found.ensures.looks.history c.requires
+    rested (g.D.Device.disk c.args.device.now) (g.D.Device.disk c.read_opening.new.device) (g.D.Device.disk c.close_unused.new.device) (opening_view c.in_ok-found.found) c.in_ok-folded.folded c.in_ok-found.ensures.looks.keeps c.in_ok-found.ensures.looks.history c.requires.clean
     (g.met.D.Device.whole c.args.device.now) c.in_ok-found.ensures.opening c.in_ok-folded.ensures.tells c.close_unused.ensures.any_moment
 
 pub returns-clause-opened : goal.returns-clause-opened
 returns-clause-opened g c =
-    opened_so (g.D.Device.disk c.args.device.now) (g.D.Device.disk c.read_opening.new.device) (g.D.Device.disk c.close_unused.new.device) (opening_view c.in_ok-found.found) c.in_ok-folded.folded c.in_ok-found.ensures.looks.keeps c.in_ok-found.ensures.looks.history c.requires
+    opened_so (g.D.Device.disk c.args.device.now) (g.D.Device.disk c.read_opening.new.device) (g.D.Device.disk c.close_unused.new.device) (opening_view c.in_ok-found.found) c.in_ok-folded.folded c.in_ok-found.ensures.looks.keeps c.in_ok-found.ensures.looks.history c.requires.clean
     (g.met.D.Device.whole c.args.device.now) c.in_ok-found.ensures.opening c.in_ok-folded.ensures.tells c.close_unused.ensures.any_moment
     c.in_ok-close_unused.ensures.settled c.in_ok-close_unused.ensures.closed
 
@@ -74,7 +74,7 @@ returns-clause-room g c =
 
 pub returns-clause-any_moment : goal.returns-clause-any_moment
 returns-clause-any_moment g c =
-    rested (g.D.Device.disk c.args.device.now) (g.D.Device.disk c.read_opening.new.device) (g.D.Device.disk c.close_unused.new.device) (opening_view c.in_ok-found.found) c.in_ok-folded.folded c.in_ok-found.ensures.looks.keeps c.in_ok-found.ensures.looks.history c.requires
+    rested (g.D.Device.disk c.args.device.now) (g.D.Device.disk c.read_opening.new.device) (g.D.Device.disk c.close_unused.new.device) (opening_view c.in_ok-found.found) c.in_ok-folded.folded c.in_ok-found.ensures.looks.keeps c.in_ok-found.ensures.looks.history c.requires.clean
     (g.met.D.Device.whole c.args.device.now) c.in_ok-found.ensures.opening c.in_ok-folded.ensures.tells c.close_unused.ensures.any_moment
 
 pub returns-in_err-found-clause-unwritten : goal.returns-in_err-found-clause-unwritten
@@ -91,14 +91,14 @@ pub returns-in_err-close_unused-clause-unwritten : goal.returns-in_err-close_unu
 returns-in_err-close_unused-clause-unwritten g c = λ honest nothing.
     let made = err_from_is_err_and c.from_residual-in_err-close_unused.result c.from_residual-in_err-close_unused.ensures.1 in
     c.in_err-close_unused.ensures.unwritten (honest_after (g.D.Device.disk c.args.device.now) (g.D.Device.disk c.read_opening.new.device) c.in_ok-found.ensures.looks.keeps honest)
-    (none_to_close (g.D.Device.disk c.args.device.now) (g.D.Device.disk c.read_opening.new.device) (g.D.Device.disk c.close_unused.new.device) (opening_view c.in_ok-found.found) c.in_ok-folded.folded c.in_ok-found.ensures.looks.keeps c.in_ok-found.ensures.looks.history c.requires
+    (none_to_close (g.D.Device.disk c.args.device.now) (g.D.Device.disk c.read_opening.new.device) (g.D.Device.disk c.close_unused.new.device) (opening_view c.in_ok-found.found) c.in_ok-folded.folded c.in_ok-found.ensures.looks.keeps c.in_ok-found.ensures.looks.history c.requires.clean
     (g.met.D.Device.whole c.args.device.now) c.in_ok-found.ensures.opening c.in_ok-folded.ensures.tells c.close_unused.ensures.any_moment honest nothing)
     ∙ c.in_ok-found.ensures.looks.history honest ∙ sym (ap (λ (r : Result Folded OpenError). synced_by r (g.D.Device.disk c.args.device.now).history) made.1)
 
 pub returns-clause-unwritten : goal.returns-clause-unwritten
 returns-clause-unwritten g c = λ honest nothing.
     c.in_ok-close_unused.ensures.unwritten (honest_after (g.D.Device.disk c.args.device.now) (g.D.Device.disk c.read_opening.new.device) c.in_ok-found.ensures.looks.keeps honest)
-    (none_to_close (g.D.Device.disk c.args.device.now) (g.D.Device.disk c.read_opening.new.device) (g.D.Device.disk c.close_unused.new.device) (opening_view c.in_ok-found.found) c.in_ok-folded.folded c.in_ok-found.ensures.looks.keeps c.in_ok-found.ensures.looks.history c.requires
+    (none_to_close (g.D.Device.disk c.args.device.now) (g.D.Device.disk c.read_opening.new.device) (g.D.Device.disk c.close_unused.new.device) (opening_view c.in_ok-found.found) c.in_ok-folded.folded c.in_ok-found.ensures.looks.keeps c.in_ok-found.ensures.looks.history c.requires.clean
     (g.met.D.Device.whole c.args.device.now) c.in_ok-found.ensures.opening c.in_ok-folded.ensures.tells c.close_unused.ensures.any_moment honest nothing)
     ∙ ap after_sync (c.in_ok-found.ensures.looks.history honest)
 

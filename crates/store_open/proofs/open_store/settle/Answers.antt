@@ -21,8 +21,8 @@ pub returns-in_err-sync-clause-any_moment : goal.returns-in_err-sync-clause-any_
 returns-in_err-sync-clause-any_moment g c =
     only_synced (g.D.Device.disk c.args.device.now) (g.D.Device.disk c.sync.new.self) (g.D.Device.disk c.sync.new.self) (g.met.D.Device.whole c.args.device.now) c.sync.result c.sync.ensures.sync
 
-pub bring_to_rest-requires : goal.bring_to_rest-requires
-bring_to_rest-requires g c = λ honest_mid.
+pub bring_to_rest-requires-clause-clean : goal.bring_to_rest-requires-clause-clean
+bring_to_rest-requires-clause-clean g c = λ honest_mid.
     let honest = honest_before (g.D.Device.disk c.args.device.now) (g.D.Device.disk c.sync.new.self) c.sync.ensures.sync.keeps honest_mid in
     ap (λ (h : History). h.now.dirty) (c.in_ok-sync.ensures.sync.done honest)
 

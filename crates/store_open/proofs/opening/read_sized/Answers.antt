@@ -12,8 +12,8 @@ use Rattle.store_open.specs.Open.{opening_view, OpensSo, HasFront, WantsMemoryTo
 use Rattle.store_open.proofs.Steps.{not_a_store, room_found, memory_then}
 use Rattle.store_open.proofs.opening.read_sized.Goals as goal
 
-pub read_store-requires : goal.read_store-requires
-read_store-requires g c =
+pub read_store-requires-clause-room : goal.read_store-requires-clause-room
+read_store-requires-clause-room g c =
     subst (λ (f : Option Geometry). IfSome f (λ (x : Geometry). DeviceHasRoomFor (geometry_view x) (g.D.Device.disk c.args.device.now))) c.in-Some.is c.requires.room
 
 pub returns-in-Some-clause-opening : goal.returns-in-Some-clause-opening

@@ -73,7 +73,7 @@ returns-in_err-checkpoint-clause-memory g c honest =
 
 pub read_journals-requires-clause-room : goal.read_journals-requires-clause-room
 read_journals-requires-clause-room g c =
-    room_kept (geometry_view c.args.geometry) (g.D.Device.disk c.args.device.now) (g.D.Device.disk c.read_checkpoint.new.device) (c.in_ok-checkpoint.ensures.looks.keeps.sectors ∙ c.in_ok-choice.ensures.looks.keeps.sectors) c.requires
+    room_kept (geometry_view c.args.geometry) (g.D.Device.disk c.args.device.now) (g.D.Device.disk c.read_checkpoint.new.device) (c.in_ok-checkpoint.ensures.looks.keeps.sectors ∙ c.in_ok-choice.ensures.looks.keeps.sectors) c.requires.room
 
 pub read_journals-requires-clause-heads : goal.read_journals-requires-clause-heads
 read_journals-requires-clause-heads g c = λ honest_two.

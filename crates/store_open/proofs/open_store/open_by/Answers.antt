@@ -7,7 +7,7 @@ use Rattle.store_open.specs.declared.error.OpenError.TheVariants.{Journal, NoMem
 use Rattle.store_open.specs.Folded.{store_on}
 use Rattle.store_open.proofs.Bounds.{never_outside}
 use Rattle.store_open.proofs.Rests.{sound_at_rest}
-use Rattle.store_open.proofs.open_store.open.Goals as goal
+use Rattle.store_open.proofs.open_store.open_by.Goals as goal
 
 pub invariant_of-result : goal.invariant_of-result
 invariant_of-result g c = record {
