@@ -1,5 +1,5 @@
 -- What a half is read as, by its front, its journal and its rows.
-use Rattle.std.proofs.Common.{◌≡◌, ℕ, ◌+◌, ◌-◌, ◌*◌, ◌^◌, ◌<◌, ◌≤◌, Bool, true, false, List, [], ◌∷◌, length, min, Ok, Err, Some, None, refl, sym, ap, subst, ◌∙◌, arith}
+use Rattle.std.proofs.Common.{◌≡◌, ℕ, ◌+◌, ◌-◌, ◌*◌, ◌^◌, ◌<◌, ◌≤◌, Bool, true, false, List, [], ◌∷◌, length, min, Ok, Err, Some, None, refl, sym, ap, ◌∙◌, arith}
 use Rattle.std.specs.Prelude.{Result, Option}
 use Rattle.byte_lists.specs.Content.{AreBytes, part}
 use Rattle.byte_lists.specs.Sectors.{sectors_of}
@@ -13,7 +13,7 @@ use Rattle.path_db.specs.RowRecord.{rows_encoding, rows_decoding}
 use Rattle.path_db.proofs.RowsBack.{rows_counted, rows_spelled}
 use Rattle.store_layout.specs.declared.half.Half.{Half}
 use Rattle.store_layout.specs.declared.half.Half.TheVariants.{First, Second}
-use Rattle.store_layout.specs.Checkpoint.{Checkpoint, Head, CanBeCheckpoint, checkpoint_bytes, checkpoint_encoding}
+use Rattle.store_layout.specs.Checkpoint.{Checkpoint, Head, CanBeCheckpoint, checkpoint_bytes, checkpoint_encoding, checkpoint_size}
 use Rattle.store_layout.specs.CheckpointReading.{checkpoint_in}
 use Rattle.store_layout.specs.GroupReading.{JournalRefusal}
 use Rattle.store_layout.specs.Journal.{Reading}
@@ -34,12 +34,17 @@ use Rattle.store_open.specs.PathStores.{store_format}
 use Rattle.store_open.specs.declared.error.OpenError.{OpenError}
 use Rattle.store_open.specs.declared.error.OpenError.TheVariants.{NotAStore, Device, Pair, Journal, NoMemory}
 use Rattle.store_open.specs.declared.sealed.SealedError.{SealedError}
-use Rattle.store_open.specs.declared.sealed.SealedError.TheVariants.{Damaged}
+use Rattle.store_open.specs.declared.sealed.SealedError.TheVariants.{Fault, Damaged}
+use Rattle.store_open.specs.declared.sealed.SealedError.TheVariants.{NoMemory as SealedNoMemory}
 use Rattle.store_open.specs.Refusals.{ScansSo}
 use Rattle.store_open.specs.Sealed.{SealedHalf, folded_by, folded_behind, folded_in, sealed_half, sealed_error_of}
 use Rattle.ckpt_stream.specs.Merge.{MergeView, IsReady}
-use Rattle.ckpt_stream.specs.Beginning.{PoursCheckpoint, MakesFrom, IsMergeOf, MergesSealed}
-use Rattle.ckpt_stream.specs.OldArea.{FrontSo, RowsSo}
+use Rattle.ckpt_stream.specs.Beginning.{checkpoint_from, PoursCheckpoint, MakesFrom, IsMergeOf, MergesSealed}
+use Rattle.ckpt_stream.specs.OldArea.{FrontSo}
+use Rattle.ckpt_stream.specs.Sums.{sums_in, AreSummed}
+use Rattle.ckpt_stream.specs.OldRows.{RowsRefused}
+use Rattle.ckpt_stream.proofs.Looks.{Stays, at_start}
+use Rattle.ckpt_stream.specs.HalfRead.{RefusesHalf}
 
 -- ---- the fold
 
@@ -77,7 +82,7 @@ none_of_scan geometry half image head None refusal area scanned = ap (folded_in 
 none_of_scan geometry half image head (Some rows) refusal area scanned =
     ap (folded_in geometry half image) area ∙ ap (folded_behind (record { head = head; db = rows })) scanned
 
-none_unsealed : (geometry : Geometry) (half : Half) (image : List ℕ) (head : Head) (found : Option (List RowView)) (scan : Scan) → Area geometry half image head found
+pub none_unsealed : (geometry : Geometry) (half : Half) (image : List ℕ) (head : Head) (found : Option (List RowView)) (scan : Scan) → Area geometry half image head found
     → scan_in geometry half image head ≡ Ok (reading_of scan) → scan.sealed ≡ false → sealed_half geometry half image ≡ None
 none_unsealed geometry half image head None scan area scanned unsealed = ap (folded_in geometry half image) area
 none_unsealed geometry half image head (Some rows) scan area scanned unsealed =
@@ -115,27 +120,48 @@ scan_none (Journal journal.PastEnd) geometry half image head found area so = non
 scan_none NoMemory geometry half image head found area so = tt
 
 pub rows_none : (e : OpenError) (geometry : Geometry) (half : Half) (image : List ℕ) (head : Head) (found : Option (List RowView)) → Area geometry half image head found
-    → RowsSo (Err e) found → IsNoneFor e (sealed_half geometry half image)
+    → RowsRefused e found → IsNoneFor e (sealed_half geometry half image)
 rows_none NotAStore geometry half image head found area so = so
 rows_none Device geometry half image head found area so = tt
 rows_none (Pair e) geometry half image head found area so = none_of_rows geometry half image head found area so
 rows_none (Journal e) geometry half image head found area so = absurd so
 rows_none NoMemory geometry half image head found area so = tt
 
--- a half that is none has no checkpoint that fits
-pub none_merges : (e : OpenError) (geometry : Geometry) (half : Half) (epoch : ℕ) (disk : Disk) → (IsHonest disk → IsNoneFor e (sealed_half geometry half (reads_of disk)))
-    → MergesSealed geometry half epoch (Err (sealed_error_of e)) disk
-none_merges NotAStore geometry half epoch disk so = λ honest sealed is fits. absurd (so honest)
-none_merges Device geometry half epoch disk so = tt
-none_merges (Pair e) geometry half epoch disk so = λ honest sealed is fits. let clash = sym (so honest) ∙ is in cc
-none_merges (Journal e) geometry half epoch disk so = λ honest sealed is fits. let clash = sym (so honest) ∙ is in cc
-none_merges NoMemory geometry half epoch disk so = tt
+-- an error of reading a half
+pub refused_half : (e : OpenError) (geometry : Geometry) (half : Half) (reads : List ℕ) → IsNoneFor e (sealed_half geometry half reads) → RefusesHalf geometry half reads (sealed_error_of e)
+refused_half NotAStore geometry half reads so = absurd so
+refused_half Device geometry half reads so = tt
+refused_half (Pair e) geometry half reads so = so
+refused_half (Journal e) geometry half reads so = so
+refused_half NoMemory geometry half reads so = tt
 
-pub unsealed_merges : (geometry : Geometry) (half : Half) (epoch : ℕ) (disk : Disk) (head : Head) (found : Option (List RowView)) (scan : Scan)
-    → (IsHonest disk → Area geometry half (reads_of disk) head found) → (IsHonest disk → scan_in geometry half (reads_of disk) head ≡ Ok (reading_of scan)) → scan.sealed ≡ false
-    → MergesSealed geometry half epoch (Err Damaged) disk
-unsealed_merges geometry half epoch disk head found scan area scanned unsealed honest sealed is fits =
-    let clash = sym (none_unsealed geometry half (reads_of disk) head found scan (area honest) (scanned honest) unsealed) ∙ is in cc
+-- a half that is none has no checkpoint that fits
+pub refused_merges : (e : SealedError) (geometry : Geometry) (half : Half) (epoch : ℕ) (disk : Disk) → (IsHonest disk → RefusesHalf geometry half (reads_of disk) e)
+    → MergesSealed geometry half epoch (Err e) disk
+refused_merges Fault geometry half epoch disk so = tt
+refused_merges SealedNoMemory geometry half epoch disk so = tt
+refused_merges Damaged geometry half epoch disk so = λ honest sealed is fits. let clash = sym (so honest) ∙ is in cc
+
+-- a half that only was read since
+pub merges_at_start : (geometry : Geometry) (half : Half) (epoch : ℕ) (old new : Disk) (result : Result MergeView SealedError) → Stays old new
+    → MergesSealed geometry half epoch result new → MergesSealed geometry half epoch result old
+merges_at_start geometry half epoch old new (Ok merge) stays is = record {
+  sealed = is.sealed;
+  reads = at_start (λ (reads : List ℕ). sealed_half geometry half reads ≡ Some is.sealed) old new stays is.reads;
+  rows = is.rows;
+  place = is.place;
+  epoch_is = is.epoch_is;
+  can = is.can;
+  fits = is.fits;
+  inside = is.inside;
+  len = is.len;
+  ready = is.ready;
+  makes = at_start (λ (reads : List ℕ). (before : Checkpoint (List RowView)) → checkpoint_in rows_format latest (area_of geometry half reads) ≡ Ok before → MakesFrom merge before) old new stays is.makes;
+}
+merges_at_start geometry half epoch old new (Err Fault) stays is = tt
+merges_at_start geometry half epoch old new (Err SealedNoMemory) stays is = tt
+merges_at_start geometry half epoch old new (Err Damaged) stays is =
+    at_start (λ (reads : List ℕ). (sealed : SealedHalf) → sealed_half geometry half reads ≡ Some sealed → ¬ (checkpoint_size rows_format (checkpoint_from epoch sealed) ≤ 512 * geometry.checkpoint)) old new stays is
 
 -- a plan of more bytes than an area has
 pub large_merges : (geometry : Geometry) (half : Half) (epoch : ℕ) (disk : Disk) (ours : SealedHalf) (size : ℕ) → (IsHonest disk → sealed_half geometry half (reads_of disk) ≡ Some ours)
@@ -145,11 +171,6 @@ large_merges geometry half epoch disk ours size read is large honest sealed foun
     let same : ours ≡ sealed = cc in
     let len = ap (λ (s : SealedHalf). length (rows_encoding s.rows)) same in
     omega (arith, is, large, len, rows_counted ours.rows, fits)
-
-pub merges_so : (geometry : Geometry) (half : Half) (epoch : ℕ) (disk : Disk) (result : Result MergeView SealedError) (e : OpenError) → result ≡ Err (sealed_error_of e)
-    → (IsHonest disk → IsNoneFor e (sealed_half geometry half (reads_of disk))) → MergesSealed geometry half epoch result disk
-merges_so geometry half epoch disk result e is none =
-    subst (λ (r : Result MergeView SealedError). MergesSealed geometry half epoch r disk) (sym is) (none_merges e geometry half epoch disk none)
 
 -- ---- a merge that is begun
 
@@ -185,11 +206,12 @@ pub sectors_len : (epoch place : ℕ) (rows : List RowView) (n : ℕ) → n ≡ 
 sectors_len epoch place rows n is =
     omega (arith, is, length-padded (checkpoint_bytes rows_format (written_checkpoint epoch place rows)), bytes_len epoch place rows)
 
-module _ (geometry : Geometry) (half : Half) (epoch : ℕ) (disk : Disk) (head : Head) (at size count : ℕ) (rows : List RowView) (scan : Scan) (pour made : PourView)
+module _ (geometry : Geometry) (half : Half) (epoch : ℕ) (disk : Disk) (head : Head) (at size count : ℕ) (rows : List RowView) (scan : Scan) (pour made : PourView) (sums : List ℕ)
     (area : IsHonest disk → Area geometry half (reads_of disk) head (as_counted count (rows_decoding (part at size (reads_of disk)))))
     (read : IsHonest disk → as_counted count (rows_decoding (part at size (reads_of disk))) ≡ Some rows)
     (each : IsHonest disk → AreBytes (reads_of disk)) (pours : PoursCheckpoint epoch scan.place rows scan.commands.items pour)
     (same : IsHonest disk → untaken made (part at size (reads_of disk)) ≡ untaken pour (part at size (reads_of disk)))
+    (summed : IsHonest disk → AreSummed sums (part at size (reads_of disk)))
   where
     abbrev After : List RowView
     After = database_after_all rows scan.commands.items
@@ -199,7 +221,7 @@ module _ (geometry : Geometry) (half : Half) (epoch : ℕ) (disk : Disk) (head :
 
     makes_from : (note : List RowView) (old : Checkpoint (List RowView)) → note ≡ After → rows_len rows ≡ size → IsHonest disk
         → checkpoint_in rows_format latest (area_of geometry half (reads_of disk)) ≡ Ok old
-        → MakesFrom (record { pour = made; size = size; rows = note; epoch = epoch; place = scan.place }) old
+        → MakesFrom (record { pour = made; size = size; sums = sums; rows = note; epoch = epoch; place = scan.place }) old
     makes_from note old noted sized honest is =
         let db : rows ≡ old.db = rows_of head rows old (sym (area honest ∙ ap (with_head head) (read honest)) ∙ is) in
         let bytes : part at size (reads_of disk) ≡ rows_encoding old.db =
@@ -212,17 +234,18 @@ module _ (geometry : Geometry) (half : Half) (epoch : ℕ) (disk : Disk) (head :
               ∙ ap (untaken pour) (bytes ∙ ap rows_encoding (sym db))
               ∙ pours.makes
               ∙ ap (λ (l : List RowView). checkpoint_bytes rows_format (written_checkpoint epoch scan.place l)) (sym noted);
+          sums = summed honest ∙ ap (sums_in (length sums) 0) bytes;
         }
 
     pub begun : (note : List RowView) → note ≡ After → rows_len rows ≡ size
-        → (IsHonest disk → scan_in geometry half (reads_of disk) head ≡ Ok (reading_of scan)) → scan.sealed ≡ true
+        → (IsHonest disk → scan_in geometry half (reads_of disk) head ≡ Ok (reading_of scan)) → (IsHonest disk → scan.sealed ≡ true)
         → CanBeCheckpoint rows_format (written_checkpoint epoch scan.place After)
         → 32 + rows_len After ≤ 512 * geometry.checkpoint → 32 + size ≤ 512 * geometry.checkpoint
         → untaken_len made ≡ untaken_len pour → IsReady made
-        → IsMergeOf geometry half epoch disk (record { pour = made; size = size; rows = note; epoch = epoch; place = scan.place })
+        → IsMergeOf geometry half epoch disk (record { pour = made; size = size; sums = sums; rows = note; epoch = epoch; place = scan.place })
     begun note noted sized scanned sealed can fits inside len ready = record {
       sealed = ours;
-      reads = λ honest. half_read geometry half (reads_of disk) head (as_counted count (rows_decoding (part at size (reads_of disk)))) rows scan (area honest) (read honest) (scanned honest) sealed;
+      reads = λ honest. half_read geometry half (reads_of disk) head (as_counted count (rows_decoding (part at size (reads_of disk)))) rows scan (area honest) (read honest) (scanned honest) (sealed honest);
       rows = noted;
       place = refl;
       epoch_is = refl;

@@ -1,18 +1,36 @@
 -- The rows of an area, which a stream gives of pieces.
-use Rattle.std.proofs.Common.{◌≡◌, ◌≢◌, ℕ, ◌+◌, ◌-◌, ◌*◌, ◌≤◌, List, ◌++◌, length, take, drop, Err, Some, sym, ◌∙◌, ap, arith}
+use Rattle.std.proofs.Common.{◌≡◌, ℕ, ◌+◌, ◌-◌, ◌*◌, ◌≤◌, List, [], ◌++◌, length, take, drop, Ok, Err, Some, subst, sym, ◌∙◌, ap, arith}
+use Rattle.std.specs.Prelude.{Result, OnOk, IfErr}
 use Rattle.std.proofs.lemmas.List.{drop-drop, take-take, length-take, length-drop, length-append}
 use Rattle.byte_lists.specs.Content.{part}
 use Rattle.path_rows.specs.Database.{RowView, rows_len}
 use Rattle.path_db.specs.RowRecord.{rows_decoding}
 use Rattle.path_db.proofs.RowsBack.{rows_read}
-use Rattle.ckpt_pair.specs.declared.error.PairError.{PairError}
-use Rattle.ckpt_pair.specs.declared.error.PairError.TheVariants as pair
 use Rattle.ckpt_pair.specs.Rows.{as_counted, counted_rows}
-use Rattle.ckpt_pair.specs.Stream.{StreamView, HasStreamed, AreNoStreamedRows}
-use Rattle.store_open.specs.Refusals.{error_of_pair}
+use Rattle.ckpt_pair.specs.Stream.{StreamView, HasStreamed}
 use Rattle.store_open.proofs.FirstSectors.{part_in_front}
 use Rattle.store_open.proofs.Feeds.{split_part}
-use Rattle.ckpt_stream.specs.OldArea.{RowsSo}
+use Rattle.store_open.specs.declared.error.OpenError.{OpenError}
+use Rattle.store_open.specs.declared.error.OpenError.TheVariants.{NotAStore, Device, Pair, Journal, NoMemory}
+use Rattle.path_rows.specs.declared.command.Command.{Command}
+use Rattle.store_layout.specs.declared.half.Half.{Half}
+use Rattle.store_layout.specs.GroupReading.{JournalRefusal}
+use Rattle.store_layout.specs.Journal.{Reading}
+use Rattle.store_layout.specs.JournalReading.{journal_scan}
+use Rattle.store_layout.specs.declared.half.Half.TheVariants.{First, Second}
+use Rattle.byte_lists.specs.Sectors.{sectors_of}
+use Rattle.store_layout.specs.Layout.{Geometry, image_sectors, area_at, journal_of}
+use Rattle.store_layout.specs.Limits.{limits_of}
+use Rattle.gate_journal.specs.declared.scanner.Scan.{Scan}
+use Rattle.gate_journal.specs.Commands.{command_format}
+use Rattle.gate_journal.specs.Scanning.{reading_of}
+use Rattle.ckpt_pair.specs.declared.reading.Front.{Front}
+use Rattle.ckpt_stream.specs.declared.old_rows.RowsRead.{RowsRead}
+use Rattle.ckpt_stream.specs.declared.old_rows.PlannedRows.{PlannedRows}
+use Rattle.ckpt_stream.specs.Sums.{sums_in}
+use Rattle.ckpt_stream.specs.OldArea.{IsReadByFront}
+use Rattle.ckpt_stream.specs.OldRows.{AreStreamed, rows_in, RefusesRows, RowsRefused, GoesOnInRows}
+use Rattle.ckpt_stream.specs.HalfRead.{AreRowsReadOn, ArePlannedOn}
 
 -- what was pushed, and the bytes of a window after it
 pub pushed_more : (reads now pushed window : List ℕ) (area first count start : ℕ) → start ≤ 32 → 1 ≤ count → 512 * first + start ≡ 32 + (512 * first - 32)
@@ -46,19 +64,17 @@ pub pushed_long : (pushed window : List ℕ) (first count start : ℕ) → lengt
 pushed_long pushed window first count start long low some from fits =
     omega (arith, length-append pushed (take (512 * count - start) (drop start window)), length-take (512 * count - start) (drop start window), length-drop start window, long, low, some, from, fits)
 
--- rows that are refused by what was pushed of them
-pub stream_refused : (e : PairError) (reads pushed : List ℕ) (given : List RowView) (at n size count : ℕ) (stream : StreamView) → pushed ≡ part at n reads → HasStreamed size count pushed given stream
-    → (e ≢ pair.NoMemory → (e ≡ pair.BadCheckpoint) × AreNoStreamedRows stream)
-    → RowsSo (Err (error_of_pair e)) (as_counted count (rows_decoding (part at size reads)))
-stream_refused pair.NoMemory reads pushed given at n size count stream is streamed refused = tt
-stream_refused pair.NoHalf reads pushed given at n size count stream is streamed refused = absurd (let so = (refused (λ same. cc)).0 in cc)
-stream_refused pair.SameEpoch reads pushed given at n size count stream is streamed refused = absurd (let so = (refused (λ same. cc)).0 in cc)
-stream_refused pair.BadCheckpoint reads pushed given at n size count stream is streamed refused =
-    let first : take size (pushed ++ part (at + n) size reads) ≡ part at size reads =
-    ap (λ (l : List ℕ). take size (l ++ part (at + n) size reads)) is ∙ ap (take size) (sym (split_part at n size reads)) ∙ take-take size (n + size) (drop at reads) (omega arith) in
-    ap (λ (l : List ℕ). as_counted count (rows_decoding l)) (sym first) ∙ (refused (λ same. cc)).1 size count pushed given streamed (part (at + n) size reads)
-stream_refused pair.SealedNewer reads pushed given at n size count stream is streamed refused = absurd (let so = (refused (λ same. cc)).0 in cc)
-stream_refused (pair.NewerFormat version) reads pushed given at n size count stream is streamed refused = absurd (let so = (refused (λ same. cc)).0 in cc)
+-- rows that are refused by the first bytes of them
+pub rows_refused : (e : OpenError) (reads : List ℕ) (given : List RowView) (at n size count : ℕ) (stream : StreamView) → HasStreamed size count (part at n reads) given stream
+    → RefusesRows given stream e → RowsRefused e (as_counted count (rows_decoding (part at size reads)))
+rows_refused NotAStore reads given at n size count stream streamed refused = refused
+rows_refused Device reads given at n size count stream streamed refused = tt
+rows_refused (Pair e) reads given at n size count stream streamed refused =
+    let first : take size (part at n reads ++ part (at + n) size reads) ≡ part at size reads =
+    ap (take size) (sym (split_part at n size reads)) ∙ take-take size (n + size) (drop at reads) (omega arith) in
+    ap (λ (l : List ℕ). as_counted count (rows_decoding l)) (sym first) ∙ refused size count (part at n reads) streamed (part (at + n) size reads)
+rows_refused (Journal e) reads given at n size count stream streamed refused = refused
+rows_refused NoMemory reads given at n size count stream streamed refused = tt
 
 -- all rows, once as many bytes were pushed
 pub rows_all : (reads pushed : List ℕ) (given : List RowView) (at n size count : ℕ) → pushed ≡ part at n reads → size ≤ n
@@ -71,3 +87,54 @@ pub rows_sized : (pushed : List ℕ) (given : List RowView) (size count : ℕ) �
 rows_sized pushed given size count inside all =
     let so = counted_rows count (rows_decoding (take size pushed)) given all in
     omega (arith, (rows_read (take size pushed) given so.0).1, length-take size pushed, inside)
+
+-- a result of which two facts hold
+pub on_both : {A E : Type 0} (P Q R : Type 0) (result : Result A E) → OnOk result P → OnOk result Q → (P → Q → R) → OnOk result R
+on_both P Q R (Ok x) p q so = so p q
+on_both P Q R (Err e) p q so = tt
+
+-- the result of reading on in rows
+pub goes_on : (area : ℕ) (reads : List ℕ) (old new : RowsRead) (result : Result (Unit {0}) OpenError) → (AreStreamed area reads old → OnOk result (AreStreamed area reads new))
+    → (AreStreamed area reads old → IfErr result (λ e. RowsRefused e (rows_in area reads old))) → GoesOnInRows area reads old new result
+goes_on area reads old new (Ok done) on off = on
+goes_on area reads old new (Err e) on off = off
+
+-- all rows of a half are planned
+pub planned_on : (geometry : Geometry) (half : Half) (reads : List ℕ) (rows : RowsRead) (planned : PlannedRows) → planned.front ≡ rows.front → planned.journal ≡ rows.journal
+    → planned.sums.items ≡ rows.sums.items → length rows.sums.items ≡ rows.first → AreRowsReadOn geometry half reads rows → rows_in (area_at geometry half) reads rows ≡ Some planned.note.rows → ArePlannedOn geometry half reads planned
+planned_on geometry half reads rows planned front journal sums counted on is = record {
+  front = subst (λ (f : Front). IsReadByFront f geometry half reads) (sym front) on.front;
+  journal = record {
+    scanned = (λ i. journal_scan command_format (limits_of (front i).head.version) (journal_of geometry half reads) (front i).head.place) ∙ on.journal.scanned
+        ∙ ap (λ (s : Scan). let r : Result (Reading Command) JournalRefusal = Ok (reading_of s) in r) (sym journal);
+    sealed = ap (λ (s : Scan). s.sealed) journal ∙ on.journal.sealed;
+  };
+  rows = (λ i. as_counted (front i).count (rows_decoding (part (512 * area_at geometry half + 32) (front i).size reads))) ∙ is;
+  summed = sums ∙ on.summed ∙ sym (λ i. sums_in (number i) 0 (part (512 * area_at geometry half + 32) (front i).size reads));
+}
+  where
+    number : length planned.sums.items ≡ rows.first
+    number = ap length sums ∙ counted
+
+-- the error of rows that are seen
+pub if_refused : {A : Type 0} (result : Result A OpenError) (reads : List ℕ) (given : List RowView) (at n size count : ℕ) (stream : StreamView) → HasStreamed size count (part at n reads) given stream
+    → IfErr result (RefusesRows given stream) → IfErr result (λ e. RowsRefused e (as_counted count (rows_decoding (part at size reads))))
+if_refused (Ok x) reads given at n size count stream streamed refused = tt
+if_refused (Err e) reads given at n size count stream streamed refused = rows_refused e reads given at n size count stream streamed refused
+
+area_inside : (geometry : Geometry) (half : Half) → area_at geometry half + geometry.checkpoint ≤ image_sectors geometry
+area_inside geometry First = omega arith
+area_inside geometry Second = omega arith
+
+-- the sectors up to the end of the rows have their bytes
+pub rows_long : (geometry : Geometry) (half : Half) (reads : List ℕ) (first size : ℕ) → 512 * image_sectors geometry ≤ length reads → 32 + size ≤ 512 * geometry.checkpoint
+    → first ≡ sectors_of (32 + size) → size ≤ length (part (512 * area_at geometry half + 32) (512 * first - 32) reads)
+rows_long geometry half reads first size room fits is =
+    omega (arith, length-take (512 * first - 32) (drop (512 * area_at geometry half + 32) reads), length-drop (512 * area_at geometry half + 32) reads, area_inside geometry half, room, fits, is)
+
+-- nothing is pushed before the first sector is read
+pub streamed_start : (area : ℕ) (reads : List ℕ) (rows : RowsRead) (front : Front) → rows.front ≡ front → rows.first ≡ 0
+    → HasStreamed front.size front.count [] rows.note.rows rows.stream → AreStreamed area reads rows
+streamed_start area reads rows front same none is =
+    subst (λ (f : Front). HasStreamed f.size f.count (part (512 * area + 32) (512 * rows.first - 32) reads) rows.note.rows rows.stream) (sym same)
+    (subst (λ (n : ℕ). HasStreamed front.size front.count (part (512 * area + 32) (512 * n - 32) reads) rows.note.rows rows.stream) (sym none) is)

@@ -1,6 +1,6 @@
 -- A pour of which nothing is taken, and the checkpoint that it makes.
 use Rattle.std.proofs.Common.{◌≡◌, ℕ, ◌-◌, ◌^◌, ◌<◌, List, ◌∷◌, ◌++◌, length, min, Ok, Err, IfOk, sym, ap, subst, ◌∙◌, arith}
-use Rattle.std.specs.Prelude.{Result, OnOk}
+use Rattle.std.specs.Prelude.{Result, OnOk, IfErr}
 use Rattle.path_rows.specs.declared.command.Command.{Command}
 use Rattle.path_rows.specs.Database.{RowView, rows_len}
 use Rattle.path_rows.specs.Command.{database_after_all}
@@ -44,3 +44,7 @@ poured (Err e) head epoch place plan long small spelled is = tt
 pub on_ok : {A E : Type 0} (P : Type 0) (result : Result A E) → P → OnOk result P
 on_ok P (Ok x) holds = holds
 on_ok P (Err e) holds = tt
+
+pub if_err : {A E : Type 0} (result : Result A E) (x : E) (Q : Type 0) → Q → IfErr result (λ e. e ≡ x → Q)
+if_err (Ok a) x Q q = tt
+if_err (Err e) x Q q = λ is. q

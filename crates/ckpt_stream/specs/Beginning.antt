@@ -17,6 +17,7 @@ use Rattle.store_open.specs.Sealed.{SealedHalf, sealed_half}
 use Rattle.store_open.specs.declared.sealed.SealedError.{SealedError}
 use Rattle.store_open.specs.declared.sealed.SealedError.TheVariants.{Fault, NoMemory, Damaged}
 use Rattle.row_edits.specs.Pouring.{PourView, untaken, untaken_len, edits_end}
+use Rattle.ckpt_stream.specs.Sums.{AreSummed}
 use Rattle.ckpt_stream.specs.Merge.{MergeView, bytes_made, IsReady}
 
 -- The checkpoint of a sealed half: its rows, at the place that it reaches, in the version that is
@@ -37,6 +38,8 @@ pub record PoursCheckpoint (epoch place : ℕ) (rows : List RowView) (commands :
 pub record MakesFrom (merge : MergeView) (old : Checkpoint (List RowView)) : Type 0 where
   pub size : merge.size ≡ length (rows_encoding old.db)
   pub makes : untaken merge.pour (rows_encoding old.db) ≡ bytes_made merge
+  -- The sums are those of these rows.
+  pub sums : AreSummed merge.sums (rows_encoding old.db)
 
 -- A merge makes the checkpoint of this epoch of a sealed half.
 pub record IsMergeOf (geometry : Geometry) (half : Half) (epoch : ℕ) (disk : Disk) (merge : MergeView) : Type 0 where

@@ -1,4 +1,9 @@
+pub mod Sums
 pub mod Merge
 pub mod Making
 pub mod OldArea
+pub mod OldJournal
+pub mod OldRows
+pub mod HalfRead
 pub mod Beginning
+pub mod Preparation

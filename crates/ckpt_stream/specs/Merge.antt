@@ -1,9 +1,12 @@
 -- A checkpoint that is made while it is written.
-use Rattle.std.specs.Prelude.{◌≡◌, ℕ, ◌+◌, ◌*◌, ◌≤◌, ◌⊎◌, List, [], ◌∷◌, length, take, drop, Option, Some, None}
+use Rattle.std.specs.Prelude.{◌≡◌, ℕ, ◌+◌, ◌*◌, ◌≤◌, ◌⊎◌, List, [], ◌∷◌, length, take, drop, Option, Some, None, Result, Ok, Err}
 use Rattle.byte_lists.specs.Content.{part}
-use Rattle.byte_lists.specs.Sectors.{padded}
+use Rattle.byte_lists.specs.Sectors.{padded, sectors_of}
 use Rattle.byte_lists.specs.declared.format.TheConstants.{SECTOR}
 use Rattle.sector_dev.specs.Disk.{Disk, IsHonest, reads_of}
+use Rattle.sector_dev.specs.Calls.{Keeps, one_more}
+use Rattle.ckpt_stream.specs.declared.error.PieceError.{PieceError}
+use Rattle.ckpt_stream.specs.declared.error.PieceError.TheVariants.{Fault, Damaged}
 use Rattle.path_rows.specs.Database.{RowView}
 use Rattle.store_layout.specs.Checkpoint.{checkpoint_bytes, checkpoint_encoding}
 use Rattle.ckpt_pair.specs.Checkpoint.{written_checkpoint}
@@ -19,6 +22,8 @@ pub record MergeView : Type 0 where
   pub pour : PourView
   -- The number of bytes of the rows in the old area.
   pub size : ℕ
+  -- The sums of the sectors of the old area, as they were planned.
+  pub sums : List ℕ
   -- The rows of the checkpoint.
   pub rows : List RowView
   -- The epoch of the checkpoint.
@@ -28,7 +33,7 @@ pub record MergeView : Type 0 where
 
 -- A merge's fields as contracts see them.
 abbrev pub merge_view : Inside → MergeView
-merge_view s = record { pour = s.pour; size = s.size; rows = s.note.rows; epoch = s.epoch; place = s.place }
+merge_view s = record { pour = s.pour; size = s.size; sums = s.sums.items; rows = s.note.rows; epoch = s.epoch; place = s.place }
 
 -- The bytes of the checkpoint.
 abbrev pub bytes_made : MergeView → List ℕ
@@ -51,6 +56,8 @@ pub record IsMerge (s : Inside) : Type 0 where
   pub sectors : SECTOR * s.sectors ≡ length (encoding_made (merge_view s))
   -- The edits read exactly the rows of the old area.
   pub end : edits_end s.pour ≡ s.size
+  -- Each sector up to the end of those rows has a sum.
+  pub summed : length s.sums.items ≡ sectors_of (32 + s.size)
 
 -- The bytes that are written next: at most 256 sectors of what is made, with zeros up to a whole
 -- sector.
@@ -64,6 +71,25 @@ after_piece pour = record pour { out = drop PIECE pour.out }
 -- A piece can be written: a whole piece is made, or nothing is left to be made.
 abbrev pub IsReady : PourView → Type 0
 IsReady pour = (PIECE ≤ length pour.out) ⊎ (pour.edits ≡ Keep 0 ∷ [])
+
+-- The result of the write of a piece: it was written also where what is made next is damaged.
+abbrev pub as_write : Result (Unit {0}) PieceError → Result (Unit {0}) PieceError
+as_write (Ok done) = Ok done
+as_write (Err Fault) = Err Fault
+as_write (Err Damaged) = Ok tt
+
+-- The count of failed calls after a piece was made. A call of the device failed exactly where the
+-- error is `Fault`.
+abbrev pub faults_behind : Result (Unit {0}) PieceError → ℕ → ℕ
+faults_behind (Ok done) faults = faults
+faults_behind (Err Fault) faults = one_more faults
+faults_behind (Err Damaged) faults = faults
+
+-- The contents of the device were read for a piece, and are unchanged.
+pub record LooksForPiece (result : Result (Unit {0}) PieceError) (old new : Disk) : Type 0 where
+  pub keeps : Keeps old new
+  pub faults : new.faults ≡ faults_behind result old.faults
+  pub history : IsHonest old → new.history ≡ old.history
 
 -- More is made from the rows of an area, which have `size` bytes.
 pub record MakesOn (disk : Disk) (area size : ℕ) (old new : PourView) : Type 0 where

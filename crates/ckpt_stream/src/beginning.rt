@@ -1,10 +1,11 @@
 //! Beginning the checkpoint of a sealed half.
 
-ghost use Rattle.std.specs.Prelude.{◌≡◌, ◌<◌, ◌≤◌, ◌^◌, List, IfOk, OnOk};
+ghost use Rattle.std.specs.Prelude.{◌≡◌, ◌+◌, ◌*◌, ◌<◌, ◌≤◌, ◌^◌, List, IfOk, OnOk};
+ghost use Rattle.byte_lists.specs.declared.format.TheConstants.{SECTOR};
 ghost use Rattle.path_rows.specs.Database.{RowView, IsDatabase, rows_len};
 ghost use Rattle.path_rows.specs.declared.command.Command.{Command};
 ghost use Rattle.store_layout.specs.Checkpoint.{CanBeCheckpoint};
-ghost use Rattle.store_layout.specs.Layout.{IsGeometry, image_sectors};
+ghost use Rattle.store_layout.specs.Layout.{Geometry as GeometryView, IsGeometry, image_sectors};
 ghost use Rattle.store_layout.specs.Geometry.{geometry_view};
 ghost use Rattle.ckpt_pair.specs.Checkpoint.{written_checkpoint};
 ghost use Rattle.ckpt_pair.specs.Rows.{rows_format};
@@ -12,17 +13,25 @@ ghost use Rattle.store_open.specs.Sealed.{LooksAtHalf};
 ghost use Rattle.row_edits.specs.Edits.{bytes_in};
 ghost use Rattle.row_edits.specs.Planner.{IsPlanOf};
 ghost use Rattle.ckpt_stream.specs.Beginning.{MergesSealed, PoursCheckpoint};
+ghost use Rattle.ckpt_stream.specs.HalfRead.{IsHalfRead, IsWithin, IsReadOn, ReadsAll, ArePlannedOn};
+ghost use Rattle.ckpt_stream.specs.OldRows.{ArePlanned};
+ghost use Rattle.ckpt_stream.specs.Preparation.{SealedContents, IsUnread, IsPreparedFrom, IsPreparedFor};
+ghost use Rattle.sector_dev.specs.Disk.{IsHonest, reads_of};
 
+use crate::error::PieceError;
+use crate::half_read::HalfRead;
 use crate::making::make_piece;
 use crate::merge::{Merge, WINDOW};
-use crate::old_area::{plan_rows, read_old_front};
+use crate::old_rows::PlannedRows;
+use crate::preparation::Preparation;
 use byte_lists::sector_count;
 use ckpt_pair::{BEFORE_ROWS, area_room, checkpoint_front};
 use row_edits::{Plan, Pour};
 use sector_dev::Device;
 use std::alloc::{AllocError, Global};
+use std::mem::replace;
 use store_layout::{Geometry, Half};
-use store_open::{SealedError, scan_journal};
+use store_open::SealedError;
 
 /// Reads a half whose journal is sealed, and plans its checkpoint of this epoch: the half's rows
 /// after the journal's commands. The rows from which the first piece is made are read twice, and
@@ -40,32 +49,104 @@ pub fn begin_merge<D: Device>(
     ensures looks { LooksAtHalf result (D.disk device.old) (D.disk device.new) }
     ensures merges { MergesSealed (geometry_view geometry) half epoch result (D.disk device.old) }
 {
-    let front = read_old_front(device, geometry, half)?;
-    let head = front.head;
-    let journal = scan_journal(alloc, device, geometry, half, head.place, head.version)?;
-    if !journal.sealed {
+    let mut preparation = Preparation::new();
+    begin_prepared(alloc, device, geometry, half, epoch, &mut preparation)
+}
+
+/// Reads what is not read yet of a half whose journal is sealed, and plans its checkpoint, as
+/// `begin_merge` does. What is prepared is used up: the preparation begins anew, also after an
+/// error.
+pub fn begin_prepared<D: Device>(
+    alloc: Global,
+    device: &mut D,
+    geometry: Geometry,
+    half: Half,
+    epoch: u64,
+    preparation: &mut Preparation,
+) -> Result<Merge, SealedError>
+    requires allowed { IsGeometry (geometry_view geometry) }
+    requires room { image_sectors (geometry_view geometry) ≤ (D.disk device.old).sectors }
+    requires prepared { IsHonest (D.disk device.old) → IsPreparedFor (geometry_view geometry) half (reads_of (D.disk device.old)) preparation.old }
+    ensures looks { LooksAtHalf result (D.disk device.old) (D.disk device.new) }
+    ensures merges { MergesSealed (geometry_view geometry) half epoch result (D.disk device.old) }
+    ensures spent { IsUnread preparation.new }
+    ensures from { (geometry : GeometryView) (contents : SealedContents) → IsPreparedFrom geometry contents preparation.new }
+{
+    let read = replace(&mut preparation.read, HalfRead::Unread);
+    if !read.is_within(geometry) {
         return Err(SealedError::Damaged);
     }
-    let area = geometry.area_at(half);
-    let mut window = vec![in alloc; 0; WINDOW]?;
-    let (plan, note) = plan_rows(alloc, device, area, front, &journal.commands, &mut window)?;
+    let planned = read_rest(alloc, device, geometry, half, read)?;
+    merge_of(alloc, device, geometry, half, epoch, planned)
+}
+
+/// Reads the rest of a half, and plans its rows.
+fn read_rest<D: Device>(
+    alloc: Global,
+    device: &mut D,
+    geometry: Geometry,
+    half: Half,
+    read: HalfRead,
+) -> Result<PlannedRows, SealedError>
+    requires allowed { IsGeometry (geometry_view geometry) }
+    requires room { image_sectors (geometry_view geometry) ≤ (D.disk device.old).sectors }
+    requires whole { IsHalfRead read }
+    requires within { IsWithin (geometry_view geometry) read }
+    requires reads { IsHonest (D.disk device.old) → IsReadOn (geometry_view geometry) half (reads_of (D.disk device.old)) read }
+    ensures looks { LooksAtHalf result (D.disk device.old) (D.disk device.new) }
+    ensures planned { IfOk result ArePlanned }
+    ensures fits { IfOk result (λ planned. 32 + planned.front.size ≤ SECTOR * geometry.checkpoint) }
+    ensures reads { IsHonest (D.disk device.old) → ReadsAll (geometry_view geometry) half (reads_of (D.disk device.old)) result }
+{
+    let mut read = read;
+    'pieces: loop {
+        if let HalfRead::Planned(planned) = read {
+            return Ok(planned);
+        }
+        read = read.read_next(alloc, device, geometry, half)?;
+    }
+}
+
+/// The merge of a half that is read whole. It reads the rows from which the first piece is made.
+fn merge_of<D: Device>(
+    alloc: Global,
+    device: &mut D,
+    geometry: Geometry,
+    half: Half,
+    epoch: u64,
+    planned: PlannedRows,
+) -> Result<Merge, SealedError>
+    requires allowed { IsGeometry (geometry_view geometry) }
+    requires room { image_sectors (geometry_view geometry) ≤ (D.disk device.old).sectors }
+    requires planned { ArePlanned planned }
+    requires fits { 32 + planned.front.size ≤ SECTOR * geometry.checkpoint }
+    requires reads { IsHonest (D.disk device.old) → ArePlannedOn (geometry_view geometry) half (reads_of (D.disk device.old)) planned }
+    ensures looks { LooksAtHalf result (D.disk device.old) (D.disk device.new) }
+    ensures merges { MergesSealed (geometry_view geometry) half epoch result (D.disk device.old) }
+{
+    let (size, place) = (planned.front.size, planned.journal.place);
+    let note = planned.note.after(&planned.journal.commands);
+    let (plan, sums) = (planned.plan, planned.sums);
     if plan.size > area_room(geometry.checkpoint) {
         return Err(SealedError::Damaged);
     }
-    let note = note.after(&journal.commands);
     let sectors = sector_count(BEFORE_ROWS + plan.size as usize) as u64;
-    let mut pour = pour_of(alloc, epoch, journal.place, plan)?;
-    match make_piece(device, area, front.size, &mut pour, &mut window) {
+    let mut window = vec![in alloc; 0; WINDOW]?;
+    let mut pour = pour_of(alloc, epoch, place, plan)?;
+    let area = geometry.area_at(half);
+    match make_piece(device, area, size, &sums, &mut pour, &mut window) {
         Ok(()) => Ok(Merge {
             pour,
             window,
-            size: front.size,
+            size,
+            sums,
             sectors,
             note,
             epoch,
-            place: journal.place,
+            place,
         }),
-        Err(_) => Err(SealedError::Fault),
+        Err(PieceError::Fault) => Err(SealedError::Fault),
+        Err(PieceError::Damaged) => Err(SealedError::Damaged),
     }
 }
 

@@ -8,10 +8,18 @@
 #![tactic(auto)]
 
 mod beginning;
+mod error;
+mod half_read;
 mod making;
 mod merge;
 mod old_area;
+mod old_journal;
+mod old_rows;
+mod preparation;
 mod sectors;
+mod sums;
 
-pub use beginning::begin_merge;
+pub use beginning::{begin_merge, begin_prepared};
+pub use error::PieceError;
 pub use merge::{Merge, PIECE_SECTORS};
+pub use preparation::Preparation;

@@ -1,40 +1,50 @@
 //! Making the next piece of a checkpoint.
 
-ghost use Rattle.std.specs.Prelude.{◌≡◌, ◌+◌, ◌-◌, ◌*◌, ◌<◌, ◌≤◌, length, take, drop, min, List, ℕ, OnOk};
+ghost use Rattle.std.specs.Prelude.{◌≡◌, ◌+◌, ◌-◌, ◌*◌, ◌<◌, ◌≤◌, length, take, drop, min, List, ℕ, IfErr, OnErr, OnOk};
 ghost use Rattle.byte_lists.specs.Content.{part};
 ghost use Rattle.byte_lists.specs.Sectors.{padded};
 ghost use Rattle.byte_lists.specs.declared.format.TheConstants.{SECTOR};
-ghost use Rattle.store_open.specs.Looking.{LooksAt};
 ghost use Rattle.row_edits.specs.Pouring.{untaken, untaken_len, edits_end};
 ghost use Rattle.row_edits.specs.declared.pour.TheConstants.{PIECE};
-ghost use Rattle.ckpt_stream.specs.Merge.{IsReady, MakesOn};
+ghost use Rattle.ckpt_stream.specs.Merge.{IsReady, LooksForPiece, MakesOn};
+ghost use Rattle.ckpt_stream.specs.Sums.{row_offset, rows_in_window, sums_in, AreSummed};
+ghost use Rattle.ckpt_stream.specs.declared.error.PieceError.TheVariants.{Damaged as IsDamaged};
+ghost use Rattle.sector_dev.specs.Disk.{IsHonest, reads_of};
+ghost use Rattle.byte_lists.specs.Sectors.{sectors_of};
 ghost use Rattle.ckpt_stream.specs.Making.{WhyPoured};
 
+use crate::error::PieceError;
 use crate::merge::PIECE_SECTORS;
 use crate::sectors::read_sectors;
+use crate::sums::have_sums;
 use byte_lists::SECTOR;
 use ckpt_pair::BEFORE_ROWS;
 use row_edits::{PIECE, Pour};
-use sector_dev::{DevError, Device};
+use sector_dev::Device;
 
 /// Makes the next piece of a checkpoint from the rows of an area, which have `size` bytes: it reads
 /// at most 256 sectors of the area at a time, until a whole piece is made or nothing is left to be
-/// made.
+/// made. Sectors that have other sums than were kept of them are `Damaged`, and nothing is made of
+/// them.
 pub(crate) fn make_piece<D: Device>(
     device: &mut D,
     area: u64,
     size: u32,
+    sums: &[u64],
     pour: &mut Pour,
     window: &mut [u8],
-) -> Result<(), DevError>
+) -> Result<(), PieceError>
     requires window { length window.old ≡ PIECE }
     requires room { SECTOR * area + 32 + size ≤ SECTOR * (D.disk device.old).sectors }
     requires end { edits_end pour.old ≡ size }
-    ensures looks { LooksAt result (D.disk device.old) (D.disk device.new) }
+    requires sums { length sums.now ≡ sectors_of (32 + size) }
+    ensures looks { LooksForPiece result (D.disk device.old) (D.disk device.new) }
     ensures window { length window.new ≡ PIECE }
     ensures end { edits_end pour.new ≡ size }
     ensures made { MakesOn (D.disk device.old) area size pour.old pour.new }
     ensures ready { OnOk result (IsReady pour.new) }
+    ensures damaged { IfErr result (λ e. e ≡ IsDamaged → IsHonest (D.disk device.old)
+        → ¬ AreSummed sums.now (part (SECTOR * area + 32) size (reads_of (D.disk device.old)))) }
 {
     pour.pour(0, &window[..0]);
     'pieces: loop {
@@ -44,7 +54,7 @@ pub(crate) fn make_piece<D: Device>(
         let first = (at + BEFORE_ROWS as u64) / SECTOR as u64;
         let count = count_wanted(at, size, first, pour.made().len());
         read_sectors(device, area + first, count, window)?;
-        pour_sectors(pour, size, first, count, window);
+        pour_sectors(pour, size, sums, first, count, window)?;
     }
 }
 
@@ -66,23 +76,56 @@ fn count_wanted(at: u64, size: u32, first: u64, made: usize) -> u64
     wanted.min(left).min(PIECE_SECTORS)
 }
 
-/// Makes what it can from sectors of an area, which are in a window.
-fn pour_sectors(pour: &mut Pour, size: u32, first: u64, count: u64, window: &[u8])
+/// Makes what it can from sectors of an area, which are in a window, where they have the sums that
+/// were kept of them. Else nothing is made.
+fn pour_sectors(
+    pour: &mut Pour,
+    size: u32,
+    sums: &[u64],
+    first: u64,
+    count: u64,
+    window: &[u8],
+) -> Result<(), PieceError>
     requires some { 1 ≤ count }
     requires window { SECTOR * count ≤ length window.now }
     requires inside { SECTOR * first ≤ 32 + size }
+    requires sums { length sums.now ≡ sectors_of (32 + size) }
+    requires summed { first + count ≤ length sums.now }
+    ensures compared { OnOk result (part first count sums.now ≡ sums_in count first (rows_in_window size first count window.now)) }
+    ensures damaged { OnErr result ((area : ℕ) (reads : List ℕ) → take (SECTOR * count) window.now ≡ part (SECTOR * (area + first)) (SECTOR * count) reads
+        → length (part (SECTOR * area + 32) size reads) ≡ size → ¬ AreSummed sums.now (part (SECTOR * area + 32) size reads)) }
+    ensures refused { IfErr result (λ e. e ≡ IsDamaged) }
     ensures same { (area : ℕ) (reads : List ℕ) → take (SECTOR * count) window.now ≡ part (SECTOR * (area + first)) (SECTOR * count) reads
         → untaken pour.new (part (SECTOR * area + 32) size reads) ≡ untaken pour.old (part (SECTOR * area + 32) size reads) }
     ensures len { untaken_len pour.new ≡ untaken_len pour.old }
     ensures end { edits_end pour.new ≡ edits_end pour.old }
     ensures forward { pour.old.position ≤ pour.new.position }
-    ensures stops { WhyPoured (SECTOR * first) (min (SECTOR * (first + count)) (32 + size)) pour.new }
+    ensures stops { OnOk result (WhyPoured (SECTOR * first) (min (SECTOR * (first + count)) (32 + size)) pour.new) }
+{
+    let rows = row_part(window, size, first, count);
+    if !have_sums(sums, first, count, rows) {
+        return Err(PieceError::Damaged);
+    }
+    let from = (SECTOR as u64 * first).saturating_sub(BEFORE_ROWS as u64);
+    pour.pour(from, rows);
+    Ok(())
+}
+
+/// The bytes of the rows of an area, which have `size` bytes, in sectors that are in a window.
+pub(crate) fn row_part(window: &[u8], size: u32, first: u64, count: u64) -> &[u8]
+    requires some { 1 ≤ count }
+    requires window { SECTOR * count ≤ length window.now }
+    requires inside { SECTOR * first ≤ 32 + size }
+    ensures is { result.now ≡ rows_in_window size first count window.now }
+    ensures len { length result.now ≡ min (row_offset (first + count)) size - row_offset first }
+    ensures shown { (area : ℕ) (reads : List ℕ) → take (SECTOR * count) window.now ≡ part (SECTOR * (area + first)) (SECTOR * count) reads
+        → take (length result.now) (drop (row_offset first) (part (SECTOR * area + 32) size reads)) ≡ result.now }
 {
     let head = BEFORE_ROWS as u64;
     let offset = SECTOR as u64 * first;
     let start = head - offset.min(head);
     let to = (SECTOR as u64 * count).min(head + u64::from(size) - offset);
-    pour.pour(offset + start - head, &window[start as usize..to as usize]);
+    &window[start as usize..to as usize]
 }
 
 /// Puts the next piece of what is made into a window: at most 131,072 bytes, with zeros up to a

@@ -1,15 +1,20 @@
 //! A checkpoint that is made while it is written.
 
-ghost use Rattle.std.specs.Prelude.{◌≡◌, ◌+◌, ◌*◌, ◌≤◌, length, OnOk};
+ghost use Rattle.std.specs.Prelude.{◌≡◌, ◌+◌, ◌*◌, ◌≤◌, length, IfErr, OnOk};
 ghost use Rattle.row_edits.specs.declared.pour.TheConstants.{PIECE};
 ghost use Rattle.byte_lists.specs.declared.format.TheConstants.{SECTOR};
 ghost use Rattle.sector_dev.specs.Calls.{WriteCall};
-ghost use Rattle.ckpt_stream.specs.Merge.{encoding_made, next_piece, after_piece, IsReady, MakesOn};
+ghost use Rattle.ckpt_stream.specs.Merge.{encoding_made, next_piece, after_piece, as_write, IsReady, MakesOn};
+ghost use Rattle.ckpt_stream.specs.Sums.{AreSummed};
+ghost use Rattle.ckpt_stream.specs.declared.error.PieceError.TheVariants.{Damaged as IsDamaged};
+ghost use Rattle.sector_dev.specs.Disk.{IsHonest, reads_of};
+ghost use Rattle.byte_lists.specs.Content.{part};
 
+use crate::error::PieceError;
 use crate::making::{make_piece, put_piece};
 use byte_lists::SECTOR;
 use row_edits::{PIECE, Pour, RowsNote};
-use sector_dev::{DevError, Device};
+use sector_dev::Device;
 use std::marker::Model;
 
 /// The sectors of a piece of a checkpoint: the most that are written, or read of the old area, at a
@@ -21,12 +26,13 @@ pub(crate) const WINDOW: usize = PIECE;
 
 /// The checkpoint of a half whose journal is sealed, made while it is written. Beside the edits and
 /// the rows of the journal's keys it has two buffers: a window of 131,072 bytes, and 147,461 bytes
-/// for what is made and not written yet.
+/// for what is made and not written yet; and a sum of eight bytes for each sector of the old area.
 #[derive(Drop)]
 pub struct Merge {
     pub(crate) pour: Pour,
     pub(crate) window: Vec<u8>,
     pub(crate) size: u32,
+    pub(crate) sums: Vec<u64>,
     pub(crate) sectors: u64,
     pub(crate) note: RowsNote,
     pub(crate) epoch: u64,
@@ -62,25 +68,36 @@ impl Merge {
 
     /// Writes the next sectors of the checkpoint, at most 256, from the sector `at` on, and then
     /// makes those after them: it reads the rows of the old area, which begins at the sector
-    /// `area`. Where the write or a read fails, the merge cannot be used any more. The call takes
+    /// `area`. Sectors of that area that have other sums than when they were planned are `Damaged`,
+    /// and nothing is made of them, so that no byte of them is ever written. Where the write or a
+    /// read fails, and where a sector is damaged, the merge cannot be used any more. The call takes
     /// no memory.
     pub fn write_next<D: Device>(
         &mut self,
         device: &mut D,
         area: u64,
         at: u64,
-    ) -> Result<(), DevError>
+    ) -> Result<(), PieceError>
         requires old { SECTOR * area + 32 + self.old.size ≤ SECTOR * (D.disk device.old).sectors }
         requires new { SECTOR * at + length (next_piece self.old.pour) ≤ SECTOR * (D.disk device.old).sectors }
-        ensures call { WriteCall at (next_piece self.old.pour) result (D.disk device.old) (D.disk device.new) }
+        ensures call { WriteCall at (next_piece self.old.pour) (as_write result) (D.disk device.old) (D.disk device.new) }
         ensures kept { self.new ≡ record self.old { pour = self.new.pour } }
         ensures ready { OnOk result (IsReady self.new.pour) }
         ensures made { OnOk result (MakesOn (D.disk device.new) area self.old.size (after_piece self.old.pour) self.new.pour) }
+        ensures damaged { IfErr result (λ e. e ≡ IsDamaged → IsHonest (D.disk device.new)
+            → ¬ AreSummed self.old.sums (part (SECTOR * area + 32) self.old.size (reads_of (D.disk device.new)))) }
     {
         let count = put_piece(&mut self.window, self.pour.made());
         device.write(at, &self.window[..count])?;
         let taken = self.pour.made().len().min(PIECE);
         self.pour.take(taken);
-        make_piece(device, area, self.size, &mut self.pour, &mut self.window)
+        make_piece(
+            device,
+            area,
+            self.size,
+            &self.sums,
+            &mut self.pour,
+            &mut self.window,
+        )
     }
 }

@@ -11,4 +11,4 @@ returns-clause-made g c =
     let made = subst (λ (p : PourView). MakesOn (g.D.Device.disk c.write.new.self) c.args.area c.self.inside.size p c.make_piece.new.pour) c.take.ensures c.make_piece.ensures.made in
     subst (λ (m : MergeView). OnOk c.make_piece.result (MakesOn (g.D.Device.disk c.make_piece.new.device) c.args.area m.size (after_piece m.pour) c.make_piece.new.pour)) c.self.view_is
     (made_on c.make_piece.result (g.D.Device.disk c.write.new.self) (g.D.Device.disk c.make_piece.new.device) c.args.area c.self.inside.size c.min-taken.result c.self.inside.pour c.make_piece.new.pour
-    (omega (arith, c.min-taken.ensures, ap length c.made-2.ensures)) c.make_piece.ensures.looks made)
+    (omega (arith, c.min-taken.ensures, ap length c.made-2.ensures)) c.make_piece.ensures.looks.keeps c.make_piece.ensures.looks.history made)

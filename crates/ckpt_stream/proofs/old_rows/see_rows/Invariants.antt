@@ -1,0 +1,16 @@
+-- How far the rows of a stream are seen.
+use Rattle.std.proofs.Common.{ℕ, List}
+use Rattle.path_rows.specs.declared.command.Command.{Command}
+use Rattle.ckpt_pair.specs.Stream.{HasStreamed}
+use Rattle.row_edits.specs.Planner.{HasSeen}
+use Rattle.ckpt_stream.proofs.old_rows.see_rows.Given as goal
+
+-- The rows that the stream gave are noted and planned.
+abbrev pub invariant-rows : goal.invariant-rows
+invariant-rows l = record {
+  seen : (commands : List Command) → HasSeen commands l.fn.note.rows l.fn.planner → HasSeen commands l.note.rows l.planner;
+  streamed : (size count : ℕ) (pushed : List ℕ) → HasStreamed size count pushed l.fn.note.rows l.fn.stream → HasStreamed size count pushed l.note.rows l.stream;
+}
+
+abbrev pub decreases-rows : goal.decreases-rows
+decreases-rows l = l.stream.rows

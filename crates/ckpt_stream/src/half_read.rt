@@ -1,0 +1,81 @@
+//! How far a sealed half is read.
+
+ghost use Rattle.std.specs.Prelude.{◌≡◌, ◌≤◌, ◌+◌, ◌-◌, ◌*◌, ◌↔◌, IfOk, IsTrue};
+ghost use Rattle.byte_lists.specs.declared.format.TheConstants.{SECTOR};
+ghost use Rattle.sector_dev.specs.Disk.{IsHonest, reads_of};
+ghost use Rattle.store_layout.specs.Layout.{IsGeometry, image_sectors};
+ghost use Rattle.store_layout.specs.Geometry.{geometry_view};
+ghost use Rattle.store_open.specs.Sealed.{LooksAtHalf};
+ghost use Rattle.ckpt_stream.specs.HalfRead.{IsHalfRead, IsWithin, pieces_to_come, ReadsOn};
+
+use crate::old_area::open_half;
+use crate::old_journal::{JournalRead, scan_on};
+use crate::old_rows::{PlannedRows, RowsRead, rows_on};
+use byte_lists::SECTOR;
+use ckpt_pair::BEFORE_ROWS;
+use sector_dev::Device;
+use std::alloc::Global;
+use store_layout::{Geometry, Half};
+use store_open::SealedError;
+
+/// How far a sealed half is read.
+#[derive(Drop)]
+pub(crate) enum HalfRead {
+    /// Nothing is read.
+    Unread,
+    /// The front of its area, and the groups of its journal up to a gate.
+    Journal(JournalRead),
+    /// The front, the journal, and the rows in the first sectors of the area.
+    Rows(RowsRead),
+    /// Everything: the rows after the journal's commands are planned.
+    Planned(PlannedRows),
+}
+
+impl HalfRead {
+    /// Whether what was read of the front and of the journal's size is within these sizes.
+    pub(crate) fn is_within(&self, geometry: Geometry) -> bool
+        ensures { IsTrue result ↔ IsWithin (geometry_view geometry) self.now }
+    {
+        match self {
+            HalfRead::Unread => true,
+            HalfRead::Journal(journal) => {
+                journal.sectors == geometry.journal && fits(journal.front.size, geometry)
+            }
+            HalfRead::Rows(rows) => fits(rows.front.size, geometry),
+            HalfRead::Planned(planned) => fits(planned.front.size, geometry),
+        }
+    }
+
+    /// Reads the next piece. Where everything is read, nothing changes.
+    pub(crate) fn read_next<D: Device>(
+        self,
+        alloc: Global,
+        device: &mut D,
+        geometry: Geometry,
+        half: Half,
+    ) -> Result<HalfRead, SealedError>
+        requires allowed { IsGeometry (geometry_view geometry) }
+        requires room { image_sectors (geometry_view geometry) ≤ (D.disk device.old).sectors }
+        requires whole { IsHalfRead self }
+        requires within { IsWithin (geometry_view geometry) self }
+        ensures looks { LooksAtHalf result (D.disk device.old) (D.disk device.new) }
+        ensures whole { IfOk result IsHalfRead }
+        ensures within { IfOk result (IsWithin (geometry_view geometry)) }
+        ensures nearer { IfOk result (λ next. pieces_to_come next ≤ pieces_to_come self - 1) }
+        ensures reads { IsHonest (D.disk device.old) → ReadsOn (geometry_view geometry) half (reads_of (D.disk device.old)) self result }
+    {
+        match self {
+            HalfRead::Unread => open_half(alloc, device, geometry, half),
+            HalfRead::Journal(journal) => scan_on(alloc, device, geometry, half, journal),
+            HalfRead::Rows(rows) => rows_on(alloc, device, geometry, half, rows),
+            HalfRead::Planned(planned) => Ok(HalfRead::Planned(planned)),
+        }
+    }
+}
+
+/// Whether rows of this number of bytes are within an area.
+fn fits(size: u32, geometry: Geometry) -> bool
+    ensures { IsTrue result ↔ 32 + size ≤ SECTOR * geometry.checkpoint }
+{
+    BEFORE_ROWS as u64 + u64::from(size) <= SECTOR as u64 * u64::from(geometry.checkpoint)
+}

@@ -1,0 +1,204 @@
+//! Reading the rows of a sealed half in pieces, each row once.
+
+ghost use Rattle.std.specs.Prelude.{◌≡◌, ◌+◌, ◌-◌, ◌*◌, ◌<◌, ◌≤◌, List, [], ℕ, length, take, IfOk, IfErr, OnOk, Some};
+ghost use Rattle.byte_lists.specs.Sectors.{sectors_of};
+ghost use Rattle.byte_lists.specs.declared.format.TheConstants.{SECTOR};
+ghost use Rattle.sector_dev.specs.Disk.{IsHonest, reads_of};
+ghost use Rattle.path_rows.specs.declared.command.Command.{Command};
+ghost use Rattle.path_db.specs.RowRecord.{rows_decoding};
+ghost use Rattle.store_layout.specs.Layout.{IsGeometry, image_sectors};
+ghost use Rattle.store_layout.specs.Geometry.{geometry_view};
+ghost use Rattle.ckpt_pair.specs.Rows.{as_counted};
+ghost use Rattle.ckpt_pair.specs.Stream.{HasStreamed};
+ghost use Rattle.row_edits.specs.Planner.{HasSeen};
+ghost use Rattle.row_edits.specs.declared.pour.TheConstants.{PIECE};
+ghost use Rattle.store_open.specs.Refusals.{LooksFor};
+ghost use Rattle.store_open.specs.Sealed.{LooksAtHalf};
+ghost use Rattle.ckpt_stream.specs.declared.half_read.HalfRead.TheVariants.{Rows};
+ghost use Rattle.ckpt_stream.specs.OldRows.{AreRowsRead, RefusesRows, GoesOnInRows, AreSummedOn, ArePlanned};
+ghost use Rattle.ckpt_stream.specs.HalfRead.{IsHalfRead, IsWithin, pieces_to_come, ReadsOn};
+
+use crate::half_read::HalfRead;
+use crate::making::row_part;
+use crate::merge::{PIECE_SECTORS, WINDOW};
+use crate::sectors::read_sectors;
+use crate::sums::push_sums;
+use byte_lists::SECTOR;
+use ckpt_pair::{BEFORE_ROWS, Front, RowStream};
+use gate_journal::Scan;
+use path_db::written_rows_are_counted;
+use row_edits::{Plan, Planner, RowsNote};
+use sector_dev::Device;
+use std::alloc::{AllocError, Global};
+use store_layout::{Geometry, Half};
+use store_open::{OpenError, SealedError};
+
+/// The rows of a sealed half, read and planned up to a sector of its area.
+#[derive(Drop)]
+pub(crate) struct RowsRead {
+    /// The front of the half's area.
+    pub(crate) front: Front,
+    /// The half's journal.
+    pub(crate) journal: Scan,
+    /// The rows so far, planned for the journal's commands.
+    pub(crate) planner: Planner,
+    /// The bytes that are read and are no whole row yet.
+    pub(crate) stream: RowStream,
+    /// The rows so far.
+    pub(crate) note: RowsNote,
+    /// The sums of the sectors of the area that are read.
+    pub(crate) sums: Vec<u64>,
+    /// The number of sectors of the area that are read.
+    pub(crate) first: u64,
+}
+
+/// The rows of a sealed half, all read and planned.
+#[derive(Drop)]
+pub(crate) struct PlannedRows {
+    /// The front of the half's area.
+    pub(crate) front: Front,
+    /// The half's journal.
+    pub(crate) journal: Scan,
+    /// The plan of the rows for the journal's commands.
+    pub(crate) plan: Plan,
+    /// The rows.
+    pub(crate) note: RowsNote,
+    /// The sums of the sectors of the area up to the end of the rows.
+    pub(crate) sums: Vec<u64>,
+}
+
+/// The rows of an area before its first sector is read.
+pub(crate) fn start_rows(alloc: Global, front: Front, journal: Scan) -> Result<RowsRead, AllocError>
+    ensures front { IfOk result (λ rows. rows.front ≡ front) }
+    ensures journal { IfOk result (λ rows. rows.journal ≡ journal) }
+    ensures first { IfOk result (λ rows. rows.first ≡ 0) }
+    ensures sums { IfOk result (λ rows. rows.sums.items ≡ []) }
+    ensures none { IfOk result (λ rows. HasStreamed front.size front.count [] rows.note.rows rows.stream) }
+    ensures read { IfOk result AreRowsRead }
+{
+    let planner = Planner::new(alloc, &journal.commands)?;
+    let stream = RowStream::new(alloc, front.size, front.count);
+    Ok(RowsRead {
+        front,
+        journal,
+        planner,
+        stream,
+        note: RowsNote::new(),
+        sums: Vec::new(alloc),
+        first: 0,
+    })
+}
+
+/// Reads on in the rows of a half: at most 256 sectors. Where all sectors are read, the plan is
+/// finished.
+pub(crate) fn rows_on<D: Device>(
+    alloc: Global,
+    device: &mut D,
+    geometry: Geometry,
+    half: Half,
+    rows: RowsRead,
+) -> Result<HalfRead, SealedError>
+    requires allowed { IsGeometry (geometry_view geometry) }
+    requires room { image_sectors (geometry_view geometry) ≤ (D.disk device.old).sectors }
+    requires whole { IsHalfRead (Rows rows) }
+    requires within { IsWithin (geometry_view geometry) (Rows rows) }
+    ensures looks { LooksAtHalf result (D.disk device.old) (D.disk device.new) }
+    ensures whole { IfOk result IsHalfRead }
+    ensures within { IfOk result (IsWithin (geometry_view geometry)) }
+    ensures nearer { IfOk result (λ next. pieces_to_come next ≤ pieces_to_come (Rows rows) - 1) }
+    ensures reads { IsHonest (D.disk device.old) → ReadsOn (geometry_view geometry) half (reads_of (D.disk device.old)) (Rows rows) result }
+{
+    if rows.first == sectors_before_end(rows.front.size) {
+        return Ok(HalfRead::Planned(finish_rows(alloc, rows)?));
+    }
+    let mut rows = rows;
+    read_rows(alloc, device, geometry.area_at(half), &mut rows)?;
+    Ok(HalfRead::Rows(rows))
+}
+
+/// The number of sectors from the start of an area to the end of its rows, which have `size` bytes.
+fn sectors_before_end(size: u32) -> u64
+    ensures { result ≡ sectors_of (32 + size) }
+{
+    (BEFORE_ROWS as u64 + u64::from(size) + (SECTOR as u64 - 1)) / SECTOR as u64
+}
+
+/// Reads the next sectors of an area, at most 256, and sees the rows that end in them.
+fn read_rows<D: Device>(
+    alloc: Global,
+    device: &mut D,
+    area: u64,
+    rows: &mut RowsRead,
+) -> Result<(), OpenError>
+    requires room { SECTOR * area + 32 + rows.old.front.size ≤ SECTOR * (D.disk device.old).sectors }
+    requires read { AreRowsRead rows.old }
+    requires more { rows.old.first < sectors_of (32 + rows.old.front.size) }
+    ensures looks { LooksFor result (D.disk device.old) (D.disk device.new) }
+    ensures front { rows.new.front ≡ rows.old.front }
+    ensures journal { rows.new.journal ≡ rows.old.journal }
+    ensures read { OnOk result (AreRowsRead rows.new) }
+    ensures further { OnOk result (rows.old.first < rows.new.first) }
+    ensures streamed { IsHonest (D.disk device.old) → GoesOnInRows area (reads_of (D.disk device.old)) rows.old rows.new result }
+    ensures summed { IsHonest (D.disk device.old) → AreSummedOn area (reads_of (D.disk device.old)) rows.old
+        → OnOk result (AreSummedOn area (reads_of (D.disk device.old)) rows.new) }
+{
+    let mut window = vec![in alloc; 0; WINDOW]?;
+    let first = rows.first;
+    let count = (sectors_before_end(rows.front.size) - first).min(PIECE_SECTORS);
+    read_sectors(device, area + first, count, &mut window)?;
+    let part = row_part(&window, rows.front.size, first, count);
+    push_sums(&mut rows.sums, first, count, part)?;
+    let start = BEFORE_ROWS - (SECTOR * first as usize).min(BEFORE_ROWS);
+    rows.stream.push(&window[start..SECTOR * count as usize])?;
+    rows.first = first + count;
+    see_rows(&mut rows.stream, &mut rows.planner, &mut rows.note)
+}
+
+/// Sees each row that a stream has whole.
+fn see_rows(
+    stream: &mut RowStream,
+    planner: &mut Planner,
+    note: &mut RowsNote,
+) -> Result<(), OpenError>
+    ensures seen { OnOk result ((commands : List Command) → HasSeen commands note.old.rows planner.old → HasSeen commands note.new.rows planner.new) }
+    ensures streamed { OnOk result ((size count : ℕ) (pushed : List ℕ) → HasStreamed size count pushed note.old.rows stream.old
+        → HasStreamed size count pushed note.new.rows stream.new) }
+    ensures all { OnOk result ((size count : ℕ) (pushed : List ℕ) → HasStreamed size count pushed note.old.rows stream.old → size ≤ length pushed
+        → as_counted count (rows_decoding (take size pushed)) ≡ Some note.new.rows) }
+    ensures refused { IfErr result (RefusesRows note.old.rows stream.old) }
+{
+    'rows: loop {
+        match stream.next()? {
+            Some(row) => {
+                *note = note.and(&row);
+                planner.see(row)?;
+            }
+            None => return Ok(()),
+        }
+    }
+}
+
+/// Finishes the plan, once all sectors of the rows are read.
+fn finish_rows(alloc: Global, rows: RowsRead) -> Result<PlannedRows, OpenError>
+    requires read { AreRowsRead rows }
+    requires all { rows.first ≡ sectors_of (32 + rows.front.size) }
+    ensures front { IfOk result (λ planned. planned.front ≡ rows.front) }
+    ensures journal { IfOk result (λ planned. planned.journal ≡ rows.journal) }
+    ensures sums { IfOk result (λ planned. planned.sums.items ≡ rows.sums.items) }
+    ensures planned { IfOk result ArePlanned }
+    ensures rows { IfOk result (λ planned. (pushed : List ℕ) → HasStreamed rows.front.size rows.front.count pushed rows.note.rows rows.stream
+        → rows.front.size ≤ length pushed → as_counted rows.front.count (rows_decoding (take rows.front.size pushed)) ≡ Some planned.note.rows) }
+    ensures refused { IfErr result (RefusesRows rows.note.rows rows.stream) }
+{
+    written_rows_are_counted();
+    let mut rows = rows;
+    see_rows(&mut rows.stream, &mut rows.planner, &mut rows.note)?;
+    let plan = rows.planner.finish(alloc, &rows.journal.commands)?;
+    Ok(PlannedRows {
+        front: rows.front,
+        journal: rows.journal,
+        plan,
+        note: rows.note,
+        sums: rows.sums,
+    })
+}
