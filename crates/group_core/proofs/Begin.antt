@@ -1,5 +1,5 @@
 -- Beginning a checkpoint: what reads give of the sealed half, and the state with its plan.
-use Rattle.std.proofs.Common.{◌≡◌, inl, ℕ, ◌+◌, ◌*◌, ◌%◌, ◌^◌, ◌≤◌, Bool, true, false, List, length, Some, Result, Ok, Err, refl, sym, ◌∙◌, ap, subst, arith}
+use Rattle.std.proofs.Common.{◌≡◌, inl, inr, ℕ, ◌+◌, ◌*◌, ◌%◌, ◌^◌, ◌≤◌, Bool, true, false, List, length, Some, Result, Ok, Err, refl, sym, ◌∙◌, ap, subst, arith}
 use Rattle.byte_lists.specs.Sectors.{sectors_of}
 use Rattle.byte_lists.proofs.Padding.{length-padded}
 use Rattle.path_rows.specs.Database.{RowView}
@@ -11,7 +11,7 @@ use Rattle.sector_dev.specs.Stretch.{Leaves}
 use Rattle.sector_dev.proofs.Images.{image_of_reads}
 use Rattle.sector_dev.proofs.Stretches.{honest_before, leaves_here}
 use Rattle.store_layout.specs.Limits.{limits_of}
-use Rattle.store_layout.specs.Journal.{all_of}
+use Rattle.store_layout.specs.Journal.{all_of, IsJournal}
 use Rattle.store_layout.specs.declared.half.Half.{Half}
 use Rattle.store_layout.specs.Layout.{Geometry, other, area_of, journal_of}
 use Rattle.store_layout.specs.StoreFormat.{db_after}
@@ -24,6 +24,7 @@ use Rattle.ckpt_pair.specs.Checkpoint.{written_checkpoint}
 use Rattle.ckpt_pair.specs.Rows.{rows_format}
 use Rattle.ckpt_stream.specs.Merge.{MergeView, encoding_made}
 use Rattle.ckpt_stream.specs.Beginning.{IsMergeOf, MergesSealed}
+use Rattle.ckpt_stream.specs.Preparation.{SealedContents, HasSealed, PreparationView, IsPreparedFrom, IsPreparedFor}
 use Rattle.store_open.specs.PathStores.{store_format}
 use Rattle.store_open.specs.Behind.{SameBehind}
 use Rattle.store_open.specs.Sealed.{SealedHalf, sealed_half, folded_in, folded_behind, LooksAtHalf}
@@ -47,7 +48,8 @@ use Rattle.group_core.specs.declared.bookkeeping.Turn.{Turn}
 use Rattle.group_core.specs.declared.beginning.BeginError.TheVariants.{Damaged}
 use Rattle.group_core.specs.declared.phases.AtPlan.{AtPlan}
 use Rattle.group_core.specs.declared.values.Commit.{Commit}
-use Rattle.group_core.specs.Beginning.{checkpoint_of, FitsArea, IsEncoded, MayBegin, IsDeviceRead, plan_begun, begun, BeginsCheckpoint}
+use Rattle.group_core.specs.Preparing.{sealed_contents, IsPreparedOf}
+use Rattle.group_core.specs.Beginning.{checkpoint_of, FitsArea, IsEncoded, MayBegin, IsDeviceRead, plan_begun, begun, BeginsCheckpoint, PreparesCheckpoint}
 use Rattle.group_core.proofs.Soundness.{AtWork, checking, sound_at_work}
 use Rattle.group_core.proofs.States.{may_open}
 
@@ -61,6 +63,10 @@ ok_of value = Ok value
 
 abbrev error_of : (T : Type 0) → SealedError → Result T SealedError
 error_of T e = Err e
+
+-- what is prepared is of each half
+abbrev pub IsFresh : PreparationView → Type 0
+IsFresh preparation = (geometry : Geometry) (contents : SealedContents) → IsPreparedFrom geometry contents preparation
 
 -- what an honest device shows of the sealed half
 module _ (view : StateView) (sound : DeviceInvariant view) (turn : view.check ≡ Sealed) (whole : IsWhole view.disk) where
@@ -83,20 +89,24 @@ module _ (view : StateView) (sound : DeviceInvariant view) (turn : view.check �
   pub area_reads : checkpoint_in rows_format latest (area_of view.geometry (other view.half) (reads_of view.disk)) ≡ Ok sound.behind.old
   area_reads = checkpoint_read rows_format latest (area_of view.geometry (other view.half) (reads_of view.disk)) sound.behind.old (old_stands.area.begins) (old_stands.area.known)
 
+  abbrev sealed_checkpoint : Checkpoint (List RowView)
+  sealed_checkpoint = sound.behind.old
+
+  journal_is : IsJournal command_format (limits_of sealed_checkpoint.head.version) (journal_of view.geometry (other view.half) (reads_of view.disk)) sealed_checkpoint.head.place (with_load command_format (sealed_of base) Seal)
+  journal_is =
+      reads_by_its_part Command Durable command_format (limits_of sealed_checkpoint.head.version) view.geometry (sealed_of base) Seal view.disk.history.now sound.held.title old_stands.journal (reads_of view.disk)
+      (image_of_reads view.disk.history.now whole.bytes)
+
   pub half_reads : sealed_half view.geometry (other view.half) (reads_of view.disk) ≡ Some folded
   half_reads =
-      ap (folded_in view.geometry (other view.half) reads) (checkpoint_read rows_format latest (area_of view.geometry (other view.half) reads) old (old_stands.area.begins) (old_stands.area.known))
-      ∙ ap (folded_behind old)
-      (journal_read command_format (limits_of old.head.version) (journal_of view.geometry (other view.half) reads) old.head.place (with_load command_format (sealed_of base) Seal)
-      (store_journal view.geometry reads sound.held.title.store (other view.half))
-      (reads_by_its_part Command Durable command_format (limits_of old.head.version) view.geometry (sealed_of base) Seal view.disk.history.now sound.held.title old_stands.journal reads
-      (image_of_reads view.disk.history.now whole.bytes)))
-    where
-      reads : List ℕ
-      reads = reads_of view.disk
+      ap (folded_in view.geometry (other view.half) (reads_of view.disk)) area_reads
+      ∙ ap (folded_behind sealed_checkpoint)
+      (journal_read command_format (limits_of sealed_checkpoint.head.version) (journal_of view.geometry (other view.half) (reads_of view.disk)) sealed_checkpoint.head.place (with_load command_format (sealed_of base) Seal)
+      (store_journal view.geometry (reads_of view.disk) sound.held.title.store (other view.half)) journal_is)
 
-      old : Checkpoint (List RowView)
-      old = sound.behind.old
+  -- so it has what is prepared
+  pub has_sealed : HasSealed view.geometry (other view.half) (sealed_contents sound.behind) (reads_of view.disk)
+  has_sealed = record { area = area_reads; journal = record { chain = old_stands.journal.groups.chain; ends = journal_is.ends } }
 
   -- a checkpoint of it, of the next epoch, is what the new half is to have
   module _ (read : SealedHalf) (is : sealed_half view.geometry (other view.half) (reads_of view.disk) ≡ Some read) where
@@ -138,8 +148,10 @@ sectors_fit epoch area sealed bytes spelled fits =
 -- the device was looked at
 module _ (old : StateView) (hidden : PrivateState) (has : IsState old hidden) (disk : Disk) (looked : IsDeviceRead old.disk disk) where
   -- and the state may have stopped then
-  pub looked_state : AtWork old.flush old.check → (stopped : Bool) → (stopped ≡ false → old.stopped ≡ false) → IsState (record old { disk = disk; stopped = stopped }) hidden
-  looked_state work stopped going = record {
+  pub looked_state : AtWork old.flush old.check → (stopped : Bool) → (stopped ≡ false → old.stopped ≡ false) → (preparation : PreparationView)
+      → ((with : DeviceInvariantWith old hidden.merge hidden.preparation) → IsHonest old.disk → stopped ≡ false → IsPreparedOf old.check old.geometry with.sound.behind preparation)
+      → IsState (record old { disk = disk; stopped = stopped }) (record hidden { preparation = preparation })
+  looked_state work stopped going preparation prepares = record {
     shape = record {
       limits = has.shape.limits;
       sectors = omega (arith, has.shape.sectors, looked.keeps.sectors);
@@ -175,6 +187,7 @@ module _ (old : StateView) (hidden : PrivateState) (has : IsState old hidden) (d
             fits = λ is. sound.fits (going is);
           };
           streams = λ is. with.streams (going is);
+          prepared = prepares with before;
         });
   }
 
@@ -183,9 +196,9 @@ module _ (old : StateView) (hidden : PrivateState) (has : IsState old hidden) (d
     sound_now honest = (sound_at_work old hidden has (checking Sealed may.sealed (λ (is : Sealed ≡ Ready). cc)) honest).sound
 
     -- the sealed half's checkpoint is planned, and a plan begins
-    pub begun_state : (merge : MergeView) (plan : Turn) → IsMergeOf old.geometry (other old.half) (old.epoch + 1) old.disk merge
-        → IsState (record old { disk = disk; check = Planned; plan = plan; checkpoint = encoding_made merge; written = 0 }) (record hidden { merge = Some merge })
-    begun_state merge plan made = record {
+    pub begun_state : (merge : MergeView) (plan : Turn) → IsMergeOf old.geometry (other old.half) (old.epoch + 1) old.disk merge → (preparation : PreparationView) → IsFresh preparation
+        → IsState (record old { disk = disk; check = Planned; plan = plan; checkpoint = encoding_made merge; written = 0 }) (record hidden { merge = Some merge; preparation = preparation })
+    begun_state merge plan made preparation fresh = record {
       shape = record {
         limits = has.shape.limits;
         sectors = omega (arith, has.shape.sectors, looked.keeps.sectors);
@@ -234,7 +247,7 @@ module _ (old : StateView) (hidden : PrivateState) (has : IsState old hidden) (d
               omega (arith, sized.0, sized.1);
         }
 
-        planned : IsHonest old.disk → DeviceInvariantWith (record old { disk = disk; check = Planned; plan = plan; checkpoint = encoding_made merge; written = 0 }) (Some merge)
+        planned : IsHonest old.disk → DeviceInvariantWith (record old { disk = disk; check = Planned; plan = plan; checkpoint = encoding_made merge; written = 0 }) (Some merge) preparation
         planned before =
             let sound = sound_now before in
             let turn = may.sealed in
@@ -248,7 +261,8 @@ module _ (old : StateView) (hidden : PrivateState) (has : IsState old hidden) (d
                 counts = (record { old = counts old sound turn (whole before) made.sealed (made.reads before); new = refl; version = refl }, spelled);
                 fits = λ is. made.fits;
               };
-              streams = λ going is. record { size = from.size; left = from.makes };
+              streams = λ going is. record { size = from.size; left = from.makes; sums = from.sums };
+              prepared = λ going contents of. fresh old.geometry contents;
             }
 
     -- an honest device shows the half, and its checkpoint fits
@@ -284,9 +298,11 @@ looked_so looks = record { keeps = looks.keeps; history = looks.history }
 
 -- and a state that may begin, seen as `view`, which may have stopped then
 pub looked_on : (old : StateView) (hidden : PrivateState) → IsState old hidden → (view : StateView) → old ≡ view → MayBegin view → (disk : Disk) {T : Type 0} {result : Result T SealedError}
-    → LooksAtHalf result old.disk disk → (stopped : Bool) → (stopped ≡ false → old.stopped ≡ false) → IsState (record old { disk = disk; stopped = stopped }) hidden
-looked_on old hidden has view view_is may_view disk looks stopped going =
-    looked_state old hidden has disk (looked_so looks) (checking Sealed (subst MayBegin (sym view_is) may_view).sealed (λ (is : Sealed ≡ Ready). cc)) stopped going
+    → LooksAtHalf result old.disk disk → (stopped : Bool) → (stopped ≡ false → old.stopped ≡ false) → (preparation : PreparationView) → (stopped ≡ false → IsFresh preparation)
+    → IsState (record old { disk = disk; stopped = stopped }) (record hidden { preparation = preparation })
+looked_on old hidden has view view_is may_view disk looks stopped going preparation fresh =
+    looked_state old hidden has disk (looked_so looks) (checking Sealed (subst MayBegin (sym view_is) may_view).sealed (λ (is : Sealed ≡ Ready). cc)) stopped going preparation
+    (λ with honest is contents of. fresh is old.geometry contents)
 
 -- A state that may begin, seen as `view`, and what was read of its sealed half.
 module _ (old : StateView) (hidden : PrivateState) (has : IsState old hidden) (whole : IsHonest old.disk → IsWhole old.disk) (view : StateView) (view_is : old ≡ view) (may_view : MayBegin view)
@@ -307,7 +323,8 @@ module _ (old : StateView) (hidden : PrivateState) (has : IsState old hidden) (w
       fits = made_so.fits;
     }
 
-    pub begun_so : {T : Type 0} {result : Result T SealedError} → LooksAtHalf result old.disk disk → IsState (begun old disk (encoding_made merge)) (record hidden { merge = Some merge })
+    pub begun_so : {T : Type 0} {result : Result T SealedError} → LooksAtHalf result old.disk disk → (preparation : PreparationView) → IsFresh preparation
+        → IsState (begun old disk (encoding_made merge)) (record hidden { merge = Some merge; preparation = preparation })
     begun_so looks = begun_state old hidden has disk (looked_so looks) may_old whole merge (plan_begun old.plan) made_so
 
     pub begins_so : {T : Type 0} (value : T) → LooksAtHalf (ok_of value) old.disk disk → (plan : Commit AtPlan) → plan.home ≡ old.home → plan.number ≡ (old.plan.number + 1) % 2 ^ 64
@@ -339,3 +356,57 @@ module _ (old : StateView) (hidden : PrivateState) (has : IsState old hidden) (w
 
       refused : MergesSealed old.geometry side (old.epoch + 1) (Err half.Damaged) old.disk
       refused = subst (λ (x : SealedError). MergesSealed old.geometry side (old.epoch + 1) (Err x) old.disk) is merges
+
+  -- what the state and the half have in common
+  with_old : IsHonest old.disk → DeviceInvariantWith old hidden.merge hidden.preparation
+  with_old = sound_at_work old hidden has (checking Sealed may_old.sealed (λ (is : Sealed ≡ Ready). cc))
+
+  module _ (honest : IsHonest old.disk) where
+    abbrev contents_now : SealedContents
+    contents_now = sealed_contents (with_old honest).sound.behind
+
+    has_now : HasSealed old.geometry side contents_now (reads_of old.disk)
+    has_now = subst (λ (h : Half). HasSealed old.geometry h contents_now (reads_of old.disk)) (sym side_is) (has_sealed old (with_old honest).sound may_old.sealed (whole honest))
+
+    from_now : IsPreparedFrom old.geometry contents_now hidden.preparation
+    from_now = (with_old honest).prepared may_old.going contents_now (λ _. refl)
+
+  -- so it is after a piece more was read
+  abbrev ReadsOn : PreparationView → Type 0
+  ReadsOn preparation =
+      IsHonest old.disk → (contents : SealedContents) → HasSealed old.geometry side contents (reads_of old.disk) → IsPreparedFrom old.geometry contents hidden.preparation
+      → IsPreparedFrom old.geometry contents preparation
+
+  pub read_on_so : {T : Type 0} {result : Result T SealedError} → LooksAtHalf result old.disk disk → (stopped : Bool) → (stopped ≡ false → old.stopped ≡ false) → (preparation : PreparationView)
+      → ReadsOn preparation → IsState (record old { disk = disk; stopped = stopped }) (record hidden { preparation = preparation })
+  read_on_so looks stopped going preparation reads_on =
+      looked_state old hidden has disk (looked_so looks) (checking Sealed may_old.sealed (λ (is : Sealed ≡ Ready). cc)) stopped going preparation
+      (λ with honest is contents of. subst (λ (c : SealedContents). IsPreparedFrom old.geometry c preparation) (sym (of may_old.sealed))
+      (reads_on honest (sealed_contents with.sound.behind)
+      (subst (λ (h : Half). HasSealed old.geometry h (sealed_contents with.sound.behind) (reads_of old.disk)) (sym side_is) (has_sealed old with.sound may_old.sealed (whole honest)))
+      (with.prepared (going is) (sealed_contents with.sound.behind) (λ _. refl))))
+
+  -- and an honest device has no damaged half
+  pub read_damaged_so : {T : Type 0} (e : SealedError) → e ≡ half.Damaged → LooksAtHalf (error_of T e) old.disk disk
+      → (e ≡ half.Damaged → IsHonest old.disk → (contents : SealedContents) → HasSealed old.geometry side contents (reads_of old.disk) → ¬ IsPreparedFrom old.geometry contents hidden.preparation)
+      → PreparesCheckpoint (Err Damaged) view (record old { disk = disk; stopped = true })
+  read_damaged_so {T} e is looks_so refused = subst (λ (v : StateView). PreparesCheckpoint (Err Damaged) v (record old { disk = disk; stopped = true })) view_is (
+    may_old,
+    λ honest. refused is honest (contents_now honest) (has_now honest) (from_now honest),
+    looked_so looks,
+    looks.faults,
+    refl,
+  )
+    where
+      looks : LooksAtHalf (error_of T half.Damaged) old.disk disk
+      looks = subst (λ (x : SealedError). LooksAtHalf (error_of T x) old.disk disk) is looks_so
+
+-- what is prepared is of the half that the state and its device have
+module _ (old : StateView) (hidden : PrivateState) (has : IsState old hidden) (whole : IsHonest old.disk → IsWhole old.disk) (view : StateView) (view_is : old ≡ view) (may_view : MayBegin view)
+    (side : Half) (side_is : side ≡ other old.half) where
+  pub prepared_so : IsHonest old.disk → IsPreparedFor old.geometry side (reads_of old.disk) hidden.preparation
+  prepared_so honest = inr (record {
+    contents = contents_now old hidden has whole view view_is may_view side side_is old.disk honest;
+    has = has_now old hidden has whole view view_is may_view side side_is old.disk honest;
+    from = from_now old hidden has whole view view_is may_view side side_is old.disk honest;
+  })

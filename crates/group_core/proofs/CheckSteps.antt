@@ -19,7 +19,7 @@ use Rattle.ckpt_pair.specs.Versions.{latest}
 use Rattle.ckpt_pair.specs.Rows.{rows_format}
 use Rattle.ckpt_stream.specs.Merge.{MergeView, encoding_if_any}
 use Rattle.group_phases.specs.declared.phases.Check.{Check}
-use Rattle.group_phases.specs.declared.phases.Check.TheVariants.{Ready, Planned, Laid, Switched, SwitchFailed, Live, Closing, CloseFailed}
+use Rattle.group_phases.specs.declared.phases.Check.TheVariants.{Ready, Sealed, Planned, Laid, Switched, SwitchFailed, Live, Closing, CloseFailed}
 use Rattle.byte_lists.specs.Sectors.{open_gate, closed_gate}
 use Rattle.group_phases.specs.declared.phases.Flush.{Flush}
 use Rattle.group_phases.specs.declared.phases.Flush.TheVariants.{Following, Followed, DurableFollowed}
@@ -37,7 +37,7 @@ use Rattle.group_core.specs.Stops.{config_of, commit_state_of}
 use Rattle.group_core.specs.Steps.{is_whole, TakesPlanTurn, TakesChunkTurn}
 use Rattle.group_core.specs.Invariant.{PrivateState, FitsLoad, HasFollowerBytes, IsFollowerMade, MayBePending, HasPlan, HasNextEpoch, CountsAt, StateInvariant, DeviceInvariant, DeviceInvariantWith, IsState}
 use Rattle.group_core.specs.Merging.{HasMerge, IsUnderWay, Streams}
-use Rattle.group_core.proofs.Soundness.{sound_at_work, either_stays}
+use Rattle.group_core.proofs.Soundness.{sound_at_work, either_stays, unread}
 use Rattle.group_core.proofs.FlushSteps.{success, failure}
 
 -- the state after a call of the checkpointer
@@ -147,12 +147,12 @@ module _ (old : StateView) (hidden : PrivateState) (has : IsState old hidden) wh
     }
 
     merged_state : (merge : Option MergeView) → old.checkpoint ≡ encoding_if_any merge → MergeSo merge
-        → (phase : Check) → old.check ≡ phase → phase ≢ Ready → Keeps old.disk disk → HasPlan old.geometry (record { bytes = old.checkpoint; written = written }) → HasNextEpoch check old.epoch
+        → (phase : Check) → old.check ≡ phase → phase ≢ Ready → phase ≢ Sealed → Keeps old.disk disk → HasPlan old.geometry (record { bytes = old.checkpoint; written = written }) → HasNextEpoch check old.epoch
         → ((sound : DeviceInvariant old) → CountsAt check old.epoch old.checkpoint sound.behind.old sound.behind.new)
         → ((sound : DeviceInvariant old) → IsHonest old.disk → IsHeldBy (config_of old) (held.checked (commit_state_of old) check written) sound.behind disk.history.now)
-        → ((with : DeviceInvariantWith old hidden.merge) → IsHonest old.disk → stopped ≡ false → check ≡ Planned → HasMerge (Streams with.sound.behind.old.db written) merge)
+        → ((with : DeviceInvariantWith old hidden.merge hidden.preparation) → IsHonest old.disk → stopped ≡ false → check ≡ Planned → HasMerge (Streams with.sound.behind.old.db written) merge)
         → IsState (checked old disk check written plan stopped) (record hidden { merge = merge })
-    merged_state merge bytes merge_so phase turn other keeps has_plan epoch counts holds streams = record {
+    merged_state merge bytes merge_so phase turn other unsealed keeps has_plan epoch counts holds streams = record {
       shape = checked_shape merge bytes merge_so keeps.sectors has_plan epoch;
       sound = λ honest.
           let before = honest_before old.disk disk keeps honest in
@@ -161,24 +161,25 @@ module _ (old : StateView) (hidden : PrivateState) (has : IsState old hidden) wh
           inl (record {
             sound = record { behind = sound.behind; held = holds sound before; counts = counts sound; fits = λ is. sound.fits (going is) };
             streams = streams with before;
+            prepared = λ is. unread old hidden.preparation with phase turn unsealed (going is) check sound.behind;
           });
     }
 
     -- the checkpoint is not written on
     checked_state : (stopped ≡ false → check ≡ Planned → ⊥)
-        → (phase : Check) → old.check ≡ phase → phase ≢ Ready → Keeps old.disk disk → HasPlan old.geometry (record { bytes = old.checkpoint; written = written }) → HasNextEpoch check old.epoch
+        → (phase : Check) → old.check ≡ phase → phase ≢ Ready → phase ≢ Sealed → Keeps old.disk disk → HasPlan old.geometry (record { bytes = old.checkpoint; written = written }) → HasNextEpoch check old.epoch
         → ((sound : DeviceInvariant old) → CountsAt check old.epoch old.checkpoint sound.behind.old sound.behind.new)
         → ((sound : DeviceInvariant old) → IsHonest old.disk → IsHeldBy (config_of old) (held.checked (commit_state_of old) check written) sound.behind disk.history.now)
         → IsState (checked old disk check written plan stopped) hidden
-    checked_state none phase turn other keeps has_plan epoch counts holds =
-        merged_state hidden.merge has.shape.bytes (λ is planned. absurd (none is planned)) phase turn other keeps has_plan epoch counts holds (λ with before is planned. absurd (none is planned))
+    checked_state none phase turn other unsealed keeps has_plan epoch counts holds =
+        merged_state hidden.merge has.shape.bytes (λ is planned. absurd (none is planned)) phase turn other unsealed keeps has_plan epoch counts holds (λ with before is planned. absurd (none is planned))
 
   -- the value is spent, and no call is made
   pub plan_spent : (plan : Turn) → IsState (record old { plan = plan }) hidden
   plan_spent plan = record {
     shape = checked_shape old.disk old.check old.written plan old.stopped (λ is. is) hidden.merge has.shape.bytes has.shape.merge refl has.shape.plan has.shape.epoch;
-    sound = λ honest. either_stays hidden.merge old (record old { plan = plan })
-        (λ with. record { sound = record { behind = with.sound.behind; held = with.sound.held; counts = with.sound.counts; fits = with.sound.fits }; streams = with.streams })
+    sound = λ honest. either_stays hidden.merge hidden.preparation old (record old { plan = plan })
+        (λ with. record { sound = record { behind = with.sound.behind; held = with.sound.held; counts = with.sound.counts; fits = with.sound.fits }; streams = with.streams; prepared = with.prepared })
         (λ broken. record { stopped = broken.stopped; rests = broken.rests; ready = broken.ready; images = broken.images }) (has.sound honest);
   }
 
@@ -190,12 +191,12 @@ module _ (old : StateView) (hidden : PrivateState) (has : IsState old hidden) wh
   counts_at check turn sound = subst (λ (p : Check). CountsAt p old.epoch old.checkpoint sound.behind.old sound.behind.new) turn sound.counts
 
   -- a call that fails leaves its phase
-  module _ (disk : Disk) (plan : Turn) (stopped : Bool) (stops : stopped ≡ true) (check : Check) (turn : old.check ≡ check) (other : check ≢ Ready) where
+  module _ (disk : Disk) (plan : Turn) (stopped : Bool) (stops : stopped ≡ true) (check : Check) (turn : old.check ≡ check) (other : check ≢ Ready) (unsealed : check ≢ Sealed) where
     stays : Keeps old.disk disk
         → ((sound : DeviceInvariant old) → IsHonest old.disk → IsHeldBy (config_of old) (held.checked (commit_state_of old) check old.written) sound.behind disk.history.now)
         → IsState (checked old disk old.check old.written plan stopped) hidden
     stays keeps holds =
-        checked_state disk old.check old.written plan stopped (λ (is : stopped ≡ false). cc) (λ (is : stopped ≡ false) planned. cc) check turn other keeps has.shape.plan has.shape.epoch (λ sound. sound.counts)
+        checked_state disk old.check old.written plan stopped (λ (is : stopped ≡ false). cc) (λ (is : stopped ≡ false) planned. cc) check turn other unsealed keeps has.shape.plan has.shape.epoch (λ sound. sound.counts)
         (λ sound honest. subst (λ (p : Check). IsHeldBy (config_of old) (held.checked (commit_state_of old) p old.written) sound.behind disk.history.now) (sym turn) (holds sound honest))
 
   module _ (disk : Disk) where
@@ -206,12 +207,12 @@ module _ (old : StateView) (hidden : PrivateState) (has : IsState old hidden) wh
 
       pub chunks_synced : {T : Type 0} (E : Type 0) (v : T) → SyncCall (success E v) old.disk disk → IsState (checked old disk Laid old.written old.plan old.stopped) hidden
       chunks_synced {T} E v call =
-          checked_state disk Laid old.written old.plan old.stopped (λ is. is) (λ is (planned : Laid ≡ Planned). cc) Planned turn (λ (is : Planned ≡ Ready). cc) call.keeps has.shape.plan (epoch_at Planned turn) (λ sound. (counts_at Planned turn sound).0)
+          checked_state disk Laid old.written old.plan old.stopped (λ is. is) (λ is (planned : Laid ≡ Planned). cc) Planned turn (λ (is : Planned ≡ Ready). cc) (λ (is : Planned ≡ Sealed). cc) call.keeps has.shape.plan (epoch_at Planned turn) (λ sound. (counts_at Planned turn sound).0)
           (λ sound honest. held_while_chunks_are_synced T E (List RowView) Command (config_of old) (commit_state_of old) sound.behind (success E v) old.disk disk turn sound.held (all_written sound) call honest)
 
       pub chunks_not_synced : {E : Type 0} (T : Type 0) (e : E) (plan : Turn) (stopped : Bool) → stopped ≡ true → SyncCall (failure T e) old.disk disk → IsState (checked old disk old.check old.written plan stopped) hidden
       chunks_not_synced {E} T e plan stopped stops call =
-          stays disk plan stopped stops Planned turn (λ (is : Planned ≡ Ready). cc) call.keeps
+          stays disk plan stopped stops Planned turn (λ (is : Planned ≡ Ready). cc) (λ (is : Planned ≡ Sealed). cc) call.keeps
           (λ sound honest. held_while_chunks_are_synced T E (List RowView) Command (config_of old) (commit_state_of old) sound.behind (failure T e) old.disk disk turn sound.held (all_written sound) call honest)
 
     -- the new half's gate
@@ -222,18 +223,18 @@ module _ (old : StateView) (hidden : PrivateState) (has : IsState old hidden) wh
 
       pub half_opened : {T : Type 0} (E : Type 0) (v : T) → WriteCall sector given (success E v) old.disk disk → IsState (checked old disk Switched old.written old.plan old.stopped) hidden
       half_opened {T} E v call =
-          checked_state disk Switched old.written old.plan old.stopped (λ is. is) (λ is (planned : Switched ≡ Planned). cc) Laid turn (λ (is : Laid ≡ Ready). cc) call.keeps has.shape.plan (epoch_at Laid turn) (counts_at Laid turn)
+          checked_state disk Switched old.written old.plan old.stopped (λ is. is) (λ is (planned : Switched ≡ Planned). cc) Laid turn (λ (is : Laid ≡ Ready). cc) (λ (is : Laid ≡ Sealed). cc) call.keeps has.shape.plan (epoch_at Laid turn) (counts_at Laid turn)
           (λ sound honest. held_while_half_is_opened T E (List RowView) Command (config_of old) (commit_state_of old) sound.behind (success E v) old.disk disk turn (gate_so (success E v) call) honest sound.held)
 
       pub half_doubtful : {E : Type 0} (T : Type 0) (e : E) (plan : Turn) (stopped : Bool) → stopped ≡ true → WriteCall sector given (failure T e) old.disk disk → IsState (checked old disk SwitchFailed old.written plan stopped) hidden
       half_doubtful {E} T e plan stopped stops call =
-          checked_state disk SwitchFailed old.written plan stopped (λ (is : stopped ≡ false). cc) (λ is (planned : SwitchFailed ≡ Planned). cc) Laid turn (λ (is : Laid ≡ Ready). cc) call.keeps has.shape.plan tt (counts_at Laid turn)
+          checked_state disk SwitchFailed old.written plan stopped (λ (is : stopped ≡ false). cc) (λ is (planned : SwitchFailed ≡ Planned). cc) Laid turn (λ (is : Laid ≡ Ready). cc) (λ (is : Laid ≡ Sealed). cc) call.keeps has.shape.plan tt (counts_at Laid turn)
           (λ sound honest. held_while_half_is_opened T E (List RowView) Command (config_of old) (commit_state_of old) sound.behind (failure T e) old.disk disk turn (gate_so (failure T e) call) honest sound.held)
 
     -- it is synced
     pub half_not_synced : {E : Type 0} (T : Type 0) (e : E) (plan : Turn) (stopped : Bool) → stopped ≡ true → old.check ≡ Switched → SyncCall (failure T e) old.disk disk → IsState (checked old disk old.check old.written plan stopped) hidden
     half_not_synced {E} T e plan stopped stops turn call =
-        stays disk plan stopped stops Switched turn (λ (is : Switched ≡ Ready). cc) call.keeps
+        stays disk plan stopped stops Switched turn (λ (is : Switched ≡ Ready). cc) (λ (is : Switched ≡ Sealed). cc) call.keeps
         (λ sound honest. held_while_half_is_synced T E (List RowView) Command (config_of old) (commit_state_of old) sound.behind (failure T e) old.disk disk turn call honest sound.held)
 
     pub half_synced : {T : Type 0} (E : Type 0) (v : T) (version : ℕ) → version ≡ latest → old.check ≡ Switched → SyncCall (success E v) old.disk disk
@@ -266,7 +267,8 @@ module _ (old : StateView) (hidden : PrivateState) (has : IsState old hidden) wh
           };
           sound = λ honest.
               let before = honest_before old.disk disk call.keeps honest in
-              let sound = (sound_at_work old hidden has (inr (away Switched turn (λ (is : Switched ≡ Ready). cc))) before).sound in
+              let with = sound_at_work old hidden has (inr (away Switched turn (λ (is : Switched ≡ Ready). cc))) before in
+              let sound = with.sound in
               let next = counts_at Switched turn sound in
               let live = held_while_half_is_synced T E (List RowView) Command (config_of old) (commit_state_of old) sound.behind (success E v) old.disk disk turn call before sound.held in
               inl (record {
@@ -278,6 +280,7 @@ module _ (old : StateView) (hidden : PrivateState) (has : IsState old hidden) wh
                   fits = sound.fits;
                 };
                 streams = λ going (is : Live ≡ Planned). absurd (cc);
+                prepared = λ going. unread old hidden.preparation with Switched turn (λ (is : Switched ≡ Sealed). cc) going Live sound.behind;
               });
         })
 
@@ -289,23 +292,23 @@ module _ (old : StateView) (hidden : PrivateState) (has : IsState old hidden) wh
 
       pub half_closed : {T : Type 0} (E : Type 0) (v : T) → WriteCall sector given (success E v) old.disk disk → IsState (checked old disk Closing old.written old.plan old.stopped) hidden
       half_closed {T} E v call =
-          checked_state disk Closing old.written old.plan old.stopped (λ is. is) (λ is (planned : Closing ≡ Planned). cc) Live turn (λ (is : Live ≡ Ready). cc) call.keeps has.shape.plan tt (counts_at Live turn)
+          checked_state disk Closing old.written old.plan old.stopped (λ is. is) (λ is (planned : Closing ≡ Planned). cc) Live turn (λ (is : Live ≡ Ready). cc) (λ (is : Live ≡ Sealed). cc) call.keeps has.shape.plan tt (counts_at Live turn)
           (λ sound honest. held_while_half_is_closed T E (List RowView) Command (config_of old) (commit_state_of old) sound.behind (success E v) old.disk disk turn (gates_so (success E v) call) honest sound.held)
 
       pub half_not_closed : {E : Type 0} (T : Type 0) (e : E) (plan : Turn) (stopped : Bool) → stopped ≡ true → WriteCall sector given (failure T e) old.disk disk → IsState (checked old disk CloseFailed old.written plan stopped) hidden
       half_not_closed {E} T e plan stopped stops call =
-          checked_state disk CloseFailed old.written plan stopped (λ (is : stopped ≡ false). cc) (λ is (planned : CloseFailed ≡ Planned). cc) Live turn (λ (is : Live ≡ Ready). cc) call.keeps has.shape.plan tt (counts_at Live turn)
+          checked_state disk CloseFailed old.written plan stopped (λ (is : stopped ≡ false). cc) (λ is (planned : CloseFailed ≡ Planned). cc) Live turn (λ (is : Live ≡ Ready). cc) (λ (is : Live ≡ Sealed). cc) call.keeps has.shape.plan tt (counts_at Live turn)
           (λ sound honest. held_while_half_is_closed T E (List RowView) Command (config_of old) (commit_state_of old) sound.behind (failure T e) old.disk disk turn (gates_so (failure T e) call) honest sound.held)
 
     -- and their sync
     pub close_synced : {T : Type 0} (E : Type 0) (v : T) (plan : Turn) → old.check ≡ Closing → SyncCall (success E v) old.disk disk → IsState (checked old disk Ready old.written plan old.stopped) hidden
     close_synced {T} E v plan turn call =
-        checked_state disk Ready old.written plan old.stopped (λ is. is) (λ is (planned : Ready ≡ Planned). cc) Closing turn (λ (is : Closing ≡ Ready). cc) call.keeps has.shape.plan tt (counts_at Closing turn)
+        checked_state disk Ready old.written plan old.stopped (λ is. is) (λ is (planned : Ready ≡ Planned). cc) Closing turn (λ (is : Closing ≡ Ready). cc) (λ (is : Closing ≡ Sealed). cc) call.keeps has.shape.plan tt (counts_at Closing turn)
         (λ sound honest. held_while_close_is_synced T E (List RowView) Command (config_of old) (commit_state_of old) sound.behind (success E v) old.disk disk turn call honest sound.held)
 
     pub close_not_synced : {E : Type 0} (T : Type 0) (e : E) (plan : Turn) (stopped : Bool) → stopped ≡ true → old.check ≡ Closing → SyncCall (failure T e) old.disk disk → IsState (checked old disk old.check old.written plan stopped) hidden
     close_not_synced {E} T e plan stopped stops turn call =
-        stays disk plan stopped stops Closing turn (λ (is : Closing ≡ Ready). cc) call.keeps
+        stays disk plan stopped stops Closing turn (λ (is : Closing ≡ Ready). cc) (λ (is : Closing ≡ Sealed). cc) call.keeps
         (λ sound honest. held_while_close_is_synced T E (List RowView) Command (config_of old) (commit_state_of old) sound.behind (failure T e) old.disk disk turn call honest sound.held)
 
     -- the next sectors
@@ -329,6 +332,11 @@ module _ (old : StateView) (hidden : PrivateState) (has : IsState old hidden) wh
         written = omega (arith, inside, has.shape.plan.whole);
       }
 
+      holds : {T : Type 0} (E : Type 0) (v : T) → WriteCall sector given (success E v) old.disk disk → (sound : DeviceInvariant old) → IsHonest old.disk
+          → IsHeldBy (config_of old) (held.checked (commit_state_of old) Planned (old.written + more)) sound.behind disk.history.now
+      holds {T} E v call sound honest =
+          held_while_chunk_is_written T E (List RowView) Command (config_of old) (commit_state_of old) sound.behind more (success E v) old.disk disk turn sound.held (inside_so sound) (chunk_so (success E v) sound call) honest
+
       -- and then the sectors after them are made
       pub chunk_written : {T : Type 0} (E : Type 0) (v : T) (merge : Option MergeView) → old.checkpoint ≡ encoding_if_any merge → HasMerge (IsUnderWay old.geometry (old.written + more)) merge
           → old.stopped ≡ false
@@ -338,21 +346,33 @@ module _ (old : StateView) (hidden : PrivateState) (has : IsState old hidden) wh
           → IsState (record (checked old disk old.check (old.written + more) old.plan old.stopped) { checkpoint = encoding_if_any merge }) (record hidden { merge = merge })
       chunk_written {T} E v merge so under going on call =
           subst (λ (bytes : List ℕ). IsState (record (checked old disk old.check (old.written + more) old.plan old.stopped) { checkpoint = bytes }) (record hidden { merge = merge })) so
-          (merged_state disk old.check (old.written + more) old.plan old.stopped (λ is. is) merge so (λ is planned. under) Planned turn (λ (is : Planned ≡ Ready). cc) call.keeps plan_after has.shape.epoch
-          (λ sound. sound.counts) (λ sound honest. subst (λ (p : Check). IsHeldBy (config_of old) (held.checked (commit_state_of old) p (old.written + more)) sound.behind disk.history.now) (sym turn) (holds sound honest))
-          (λ with honest is planned. on with.sound.behind.old (honest_after old.disk disk call.keeps honest) (holds with.sound honest).base.0.area (with.streams going turn)))
-        where
-          holds : (sound : DeviceInvariant old) → IsHonest old.disk → IsHeldBy (config_of old) (held.checked (commit_state_of old) Planned (old.written + more)) sound.behind disk.history.now
-          holds sound honest =
-              held_while_chunk_is_written T E (List RowView) Command (config_of old) (commit_state_of old) sound.behind more (success E v) old.disk disk turn sound.held (inside_so sound) (chunk_so (success E v) sound call) honest
+          (merged_state disk old.check (old.written + more) old.plan old.stopped (λ is. is) merge so (λ is planned. under) Planned turn (λ (is : Planned ≡ Ready). cc) (λ (is : Planned ≡ Sealed). cc) call.keeps plan_after has.shape.epoch
+          (λ sound. sound.counts) (λ sound honest. subst (λ (p : Check). IsHeldBy (config_of old) (held.checked (commit_state_of old) p (old.written + more)) sound.behind disk.history.now) (sym turn) (holds E v call sound honest))
+          (λ with honest is planned. on with.sound.behind.old (honest_after old.disk disk call.keeps honest) (holds E v call with.sound honest).base.0.area (with.streams going turn)))
 
       pub chunk_not_written : {E : Type 0} (T : Type 0) (e : E) (plan : Turn) (stopped : Bool) → stopped ≡ true → (merge : Option MergeView) → old.checkpoint ≡ encoding_if_any merge
           → WriteCall sector given (failure T e) old.disk disk
           → IsState (record (checked old disk old.check old.written plan stopped) { checkpoint = encoding_if_any merge }) (record hidden { merge = merge })
       chunk_not_written {E} T e plan stopped stops merge so call =
           subst (λ (bytes : List ℕ). IsState (record (checked old disk old.check old.written plan stopped) { checkpoint = bytes }) (record hidden { merge = merge })) so
-          (merged_state disk old.check old.written plan stopped (λ (is : stopped ≡ false). cc) merge so (λ (is : stopped ≡ false) planned. absurd (cc)) Planned turn (λ (is : Planned ≡ Ready). cc) call.keeps has.shape.plan has.shape.epoch
+          (merged_state disk old.check old.written plan stopped (λ (is : stopped ≡ false). cc) merge so (λ (is : stopped ≡ false) planned. absurd (cc)) Planned turn (λ (is : Planned ≡ Ready). cc) (λ (is : Planned ≡ Sealed). cc) call.keeps has.shape.plan has.shape.epoch
           (λ sound. sound.counts)
           (λ sound honest. subst (λ (p : Check). IsHeldBy (config_of old) (held.checked (commit_state_of old) p old.written) sound.behind disk.history.now) (sym turn)
           (held_while_chunk_is_written T E (List RowView) Command (config_of old) (commit_state_of old) sound.behind more (failure T e) old.disk disk turn sound.held (inside_so sound) (chunk_so (failure T e) sound call) honest))
           (λ with honest (is : stopped ≡ false) planned. absurd (cc)))
+
+      -- or what is read after them is damaged, which an honest device does not have
+      module _ {T : Type 0} (E : Type 0) (v : T) (call : WriteCall sector given (success E v) old.disk disk) (going : old.stopped ≡ false)
+          (differs : (checkpoint : Checkpoint (List RowView)) → IsHonest disk → HasCheckpoint (config_of old) (other old.half) checkpoint disk.history.now → HasMerge (Streams checkpoint.db old.written) hidden.merge → ⊥) where
+        pub never_damaged : IsHonest old.disk → ⊥
+        never_damaged honest =
+            let with = sound_at_work old hidden has (inr (away Planned turn (λ (is : Planned ≡ Ready). cc))) honest in
+            differs with.sound.behind.old (honest_after old.disk disk call.keeps honest) (holds E v call with.sound honest).base.0.area (with.streams going turn)
+
+        pub chunk_damaged : (plan : Turn) (stopped : Bool) → stopped ≡ true → (merge : Option MergeView) → old.checkpoint ≡ encoding_if_any merge
+            → IsState (record (checked old disk old.check old.written plan stopped) { checkpoint = encoding_if_any merge }) (record hidden { merge = merge })
+        chunk_damaged plan stopped stops merge so =
+            subst (λ (bytes : List ℕ). IsState (record (checked old disk old.check old.written plan stopped) { checkpoint = bytes }) (record hidden { merge = merge })) so
+            (merged_state disk old.check old.written plan stopped (λ (is : stopped ≡ false). cc) merge so (λ (is : stopped ≡ false) planned. absurd (cc)) Planned turn (λ (is : Planned ≡ Ready). cc) (λ (is : Planned ≡ Sealed). cc) call.keeps has.shape.plan has.shape.epoch
+            (λ sound. sound.counts) (λ sound honest. absurd (never_damaged honest))
+            (λ with honest (is : stopped ≡ false) planned. absurd (cc)))

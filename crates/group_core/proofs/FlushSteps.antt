@@ -105,6 +105,7 @@ module _ (old : StateView) (hidden : PrivateState) (has : IsState old hidden) wh
           inl (record {
             sound = record { behind = sound.behind; held = holds sound before; counts = sound.counts; fits = λ going. sound.fits (later.going going) };
             streams = λ going. with.streams (later.going going);
+            prepared = λ going. with.prepared (later.going going);
           });
     }
 
@@ -112,8 +113,8 @@ module _ (old : StateView) (hidden : PrivateState) (has : IsState old hidden) wh
   pub value_spent : (group : Turn) → IsState (record old { group = group }) hidden
   value_spent group = record {
     shape = flushed_shape old.disk old.flush group old.stopped (record { staged = λ is. is; rests = λ is. is; going = λ is. is; follower = has.shape.follower }) refl;
-    sound = λ honest. either_stays hidden.merge old (record old { group = group })
-        (λ with. record { sound = record { behind = with.sound.behind; held = with.sound.held; counts = with.sound.counts; fits = with.sound.fits }; streams = with.streams })
+    sound = λ honest. either_stays hidden.merge hidden.preparation old (record old { group = group })
+        (λ with. record { sound = record { behind = with.sound.behind; held = with.sound.held; counts = with.sound.counts; fits = with.sound.fits }; streams = with.streams; prepared = with.prepared })
         (λ broken. record { stopped = broken.stopped; rests = broken.rests; ready = broken.ready; images = broken.images }) (has.sound honest);
   }
 

@@ -46,7 +46,7 @@ later_front_so taken n list given same =
     let count : taken + n - taken ≡ n = omega arith in
     ap (λ (k : ℕ). take k (drop taken given)) count ∙ ap (λ (l : List Command). take n (drop taken l)) same
 
--- what publishing shows, and what it makes of the bytes
+-- what publishing shows, and how it changes the bytes
 record Shown : Type 0 where
   value : StoreValue (List RowView)
   pending : List Command
@@ -217,6 +217,7 @@ module _ (old : StateView) (hidden : PrivateState) (has : IsState old hidden) wh
               fits = sound.fits;
             };
             streams = with.streams;
+            prepared = with.prepared;
           });
     }
 
@@ -308,6 +309,7 @@ module _ (old : StateView) (hidden : PrivateState) (has : IsState old hidden) wh
               fits = sound.fits;
             };
             streams = with.streams;
+            prepared = with.prepared;
           });
     }
 

@@ -140,6 +140,7 @@ module _ (old : StateView) (hidden : PrivateState) (has : IsState old hidden) (t
               fits = sound.fits;
             };
             streams = with.streams;
+            prepared = with.prepared;
           });
     }
 
@@ -246,5 +247,6 @@ module _ (old : StateView) (hidden : PrivateState) (has : IsState old hidden) (t
               fits = λ going. has.shape.fits going 0 (omega arith);
             };
             streams = λ going (is : Sealed ≡ Planned). absurd (cc);
+            prepared = λ going contents of. with.prepared going contents (λ (is : old.check ≡ Sealed). let rests = ready sound in absurd (cc));
           });
     })

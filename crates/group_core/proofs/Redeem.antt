@@ -45,8 +45,8 @@ module _ (old : StateView) (hidden : PrivateState) (has : IsState old hidden) wh
       → IsState (record old { kept = kept }) (record hidden { owed = owed })
   kept_owed kept outcomes owed front = record {
     shape = kept_shape kept outcomes owed front;
-    sound = λ honest. either_stays hidden.merge old (record old { kept = kept })
-        (λ with. record { sound = record { behind = with.sound.behind; held = with.sound.held; counts = with.sound.counts; fits = with.sound.fits }; streams = with.streams })
+    sound = λ honest. either_stays hidden.merge hidden.preparation old (record old { kept = kept })
+        (λ with. record { sound = record { behind = with.sound.behind; held = with.sound.held; counts = with.sound.counts; fits = with.sound.fits }; streams = with.streams; prepared = with.prepared })
         (λ broken. record { stopped = broken.stopped; rests = broken.rests; ready = broken.ready; images = broken.images }) (has.sound honest);
   }
 
@@ -78,10 +78,11 @@ module _ (old : StateView) (hidden : PrivateState) (has : IsState old hidden) wh
   pub halted_state : IsState (record old { stopped = true }) hidden
   halted_state = record {
     shape = flushed_shape old hidden has old.disk old.flush old.group true (record { staged = λ is. is; rests = λ is. is; going = λ (is : true ≡ false). cc; follower = has.shape.follower }) refl;
-    sound = λ honest. either_stays hidden.merge old (record old { stopped = true })
+    sound = λ honest. either_stays hidden.merge hidden.preparation old (record old { stopped = true })
         (λ with. record {
           sound = record { behind = with.sound.behind; held = with.sound.held; counts = with.sound.counts; fits = λ (is : true ≡ false). absurd cc };
           streams = λ (is : true ≡ false). absurd cc;
+          prepared = λ (is : true ≡ false). absurd cc;
         })
         (λ broken. record { stopped = refl; rests = broken.rests; ready = broken.ready; images = broken.images }) (has.sound honest);
   }

@@ -141,7 +141,7 @@ module _ (old : StateView) (hidden : PrivateState) (has : IsState old hidden) (m
       sound = λ honest.
           let with = sound_going old hidden has may.going honest in
           let sound = with.sound in
-          inl (record { sound = record { behind = sound.behind; held = holds sound; counts = sound.counts; fits = sound.fits }; streams = with.streams });
+          inl (record { sound = record { behind = sound.behind; held = holds sound; counts = sound.counts; fits = sound.fits }; streams = with.streams; prepared = with.prepared });
     }
 
 module _ (old : StateView) (hidden : PrivateState) (has : IsState old hidden) where

@@ -30,7 +30,9 @@ use Rattle.group_core.specs.StateView.{StateView}
 use Rattle.group_core.specs.Stops.{config_of, commit_state_of, MayOpen}
 use Rattle.group_core.specs.Invariant.{PrivateState, FitArea, HasNextEpoch, CountsAt, StateInvariant, DeviceInvariant, DeviceInvariantWith, IsBroken, IsState}
 use Rattle.group_core.specs.Starting.{value_of_store, CanContinue, check_in, started}
+use Rattle.ckpt_stream.specs.Preparation.{PreparationView}
 use Rattle.group_core.proofs.States.{may_open}
+use Rattle.group_core.proofs.Begin.{IsFresh}
 use Rattle.group_core.proofs.KeptOutcomes.{none_kept}
 
 -- what does not hold is false
@@ -62,8 +64,8 @@ module _ (store : StoreView) (whole : IsStoreWhole store) (device : IsHonest sto
   rows_fit : stopped ≡ false → FitArea view store.rows
   rows_fit goes = omega (arith, (going.0 goes).rows, counted store.rows)
 
-  start_shape : (staged staged_next : List ℕ) → StateInvariant view (record { staged = staged; staged_next = staged_next; tip = store.rows; place = store.place; owed = []; merge = None })
-  start_shape staged staged_next = record {
+  start_shape : (staged staged_next : List ℕ) (preparation : PreparationView) → StateInvariant view (record { staged = staged; staged_next = staged_next; tip = store.rows; place = store.place; owed = []; merge = None; preparation = preparation })
+  start_shape staged staged_next preparation = record {
     limits = whole.room.allowed;
     sectors = whole.room.room;
     room = whole.within.seal;
@@ -213,14 +215,17 @@ module _ (store : StoreView) (whole : IsStoreWhole store) (device : IsHonest sto
     is_broken : IsBroken view
     is_broken = record { stopped = stops stopped going.0; rests = refl; ready = ap check_in (whole.unsealed broken); images = images }
 
-  either : (honest : IsHonest store.disk) (b : Bool) → store.broken ≡ b → DeviceInvariantWith view None ⊎ IsBroken view
-  either honest true broken = inr (is_broken honest broken)
-  either honest false fine = inl (record { sound = sound honest ((whole.sound honest).rest fine); streams = λ goes is. absurd (never_planned store.sealed is) })
+  either : (preparation : PreparationView) → IsFresh preparation → (honest : IsHonest store.disk) (b : Bool) → store.broken ≡ b → DeviceInvariantWith view None preparation ⊎ IsBroken view
+  either preparation fresh honest true broken = inr (is_broken honest broken)
+  either preparation fresh honest false fine = inl (record { sound = sound honest ((whole.sound honest).rest fine); streams = λ goes is. absurd (never_planned store.sealed is); prepared = λ goes contents of. fresh store.geometry contents })
 
-  pub started_state : (staged staged_next : List ℕ) → IsState view (record { staged = staged; staged_next = staged_next; tip = store.rows; place = store.place; owed = []; merge = None })
-  started_state staged staged_next = record { shape = start_shape staged staged_next; sound = λ honest. either honest store.broken refl }
+  pub started_state : (staged staged_next : List ℕ) (preparation : PreparationView) → IsFresh preparation
+      → IsState view (record { staged = staged; staged_next = staged_next; tip = store.rows; place = store.place; owed = []; merge = None; preparation = preparation })
+  started_state staged staged_next preparation fresh = record { shape = start_shape staged staged_next preparation; sound = λ honest. either preparation fresh honest store.broken refl }
 
-  pub started_so : (seen : StateView) (hidden : PrivateState) → seen ≡ view → hidden.tip ≡ store.rows → hidden.place ≡ store.place → hidden.owed ≡ [] → hidden.merge ≡ None → IsState seen hidden
-  started_so seen hidden seen_is tip place owed merge =
+  pub started_so : (seen : StateView) (hidden : PrivateState) → seen ≡ view → hidden.tip ≡ store.rows → hidden.place ≡ store.place → hidden.owed ≡ [] → hidden.merge ≡ None → IsFresh hidden.preparation
+      → IsState seen hidden
+  started_so seen hidden seen_is tip place owed merge fresh =
       subst (λ (v : StateView). IsState v hidden) (sym seen_is)
-      (subst (λ (h : PrivateState). IsState view h) (λ i. record { staged = hidden.staged; staged_next = hidden.staged_next; tip = sym tip i; place = sym place i; owed = sym owed i; merge = sym merge i }) (started_state hidden.staged hidden.staged_next))
+      (subst (λ (h : PrivateState). IsState view h) (λ i. record { staged = hidden.staged; staged_next = hidden.staged_next; tip = sym tip i; place = sym place i; owed = sym owed i; merge = sym merge i; preparation = hidden.preparation })
+      (started_state hidden.staged hidden.staged_next hidden.preparation fresh))

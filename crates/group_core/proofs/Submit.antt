@@ -152,7 +152,7 @@ module _ (old : StateView) (hidden : PrivateState) (has : IsState old hidden) wh
     accepted_exactly : IsState (record old { pending = more; kept = with_outcome command }) (record hidden { tip = database_after hidden.tip command })
     accepted_exactly = record {
       shape = accepted_shape;
-      sound = λ honest. either_stays hidden.merge old (record old { pending = more; kept = with_outcome command })
+      sound = λ honest. either_stays hidden.merge hidden.preparation old (record old { pending = more; kept = with_outcome command })
           (λ with. record {
             sound = record {
               behind = with.sound.behind;
@@ -161,6 +161,7 @@ module _ (old : StateView) (hidden : PrivateState) (has : IsState old hidden) wh
               fits = with.sound.fits;
             };
             streams = with.streams;
+            prepared = with.prepared;
           })
           (λ broken. let both : false ≡ true = sym may.going ∙ broken.stopped in absurd (cc)) (has.sound honest);
     }

@@ -27,8 +27,10 @@ use Rattle.group_phases.specs.CommitState.{load_of, DeviceContents, IsHeldBy}
 use Rattle.group_core.specs.StateView.{StateView}
 use Rattle.group_core.specs.Stops.{config_of, commit_state_of, MayOpen}
 use Rattle.ckpt_stream.specs.Merge.{MergeView, encoding_if_any}
+use Rattle.ckpt_stream.specs.Preparation.{PreparationView}
 use Rattle.group_core.specs.Keeping.{KeepsOutcomes}
 use Rattle.group_core.specs.Merging.{HasMerge, IsUnderWay, Streams}
+use Rattle.group_core.specs.Preparing.{IsPreparedOf}
 use Rattle.group_core.specs.Showing.{IsFrontOf}
 
 -- The fields of a state that no clause sees.
@@ -45,6 +47,8 @@ pub record PrivateState : Type 0 where
   pub owed : List Command
   -- The last checkpoint that was begun.
   pub merge : Option MergeView
+  -- What is prepared of the next checkpoint.
+  pub preparation : PreparationView
 
 -- What is in flight may be after the tail's gate.
 abbrev pub FitsLoad : Limits → Geometry → ℕ → ℕ → GroupOrSeal Command → Type 0
@@ -194,13 +198,16 @@ pub record DeviceInvariant (view : StateView) : Type 0 where
   -- While the state goes on, the fold up to a seal fits the area.
   pub fits : view.stopped ≡ false → checkpoint_size rows_format behind.new ≤ SECTOR * view.geometry.checkpoint
 
--- What holds over an honest device, with the checkpoint that is made while it is written.
-pub record DeviceInvariantWith (view : StateView) (merge : Option MergeView) : Type 0 where
-  -- What holds without that checkpoint.
+-- What holds over an honest device, with the checkpoint that is made while it is written, and with
+-- what is prepared of the next one.
+pub record DeviceInvariantWith (view : StateView) (merge : Option MergeView) (preparation : PreparationView) : Type 0 where
+  -- What holds without these two.
   pub sound : DeviceInvariant view
   -- While the state goes on, what is not yet made of the checkpoint is what is not yet written of
   -- it.
   pub streams : view.stopped ≡ false → view.check ≡ Planned → HasMerge (Streams sound.behind.old.db view.written) merge
+  -- While the state goes on, what is prepared is of the sealed half.
+  pub prepared : view.stopped ≡ false → IsPreparedOf view.check view.geometry sound.behind preparation
 
 -- What holds instead over the device of a store whose checkpoint had failed: the state has stopped
 -- before anything began, and every image opens to what the state shows.
@@ -214,4 +221,4 @@ pub record IsBroken (view : StateView) : Type 0 where
 -- device.
 pub record IsState (view : StateView) (hidden : PrivateState) : Type 0 where
   pub shape : StateInvariant view hidden
-  pub sound : IsHonest view.disk → DeviceInvariantWith view hidden.merge ⊎ IsBroken view
+  pub sound : IsHonest view.disk → DeviceInvariantWith view hidden.merge hidden.preparation ⊎ IsBroken view

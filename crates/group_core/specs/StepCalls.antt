@@ -27,14 +27,15 @@ IsMade (Write sector bytes) result old new = WriteCall sector bytes result old n
 IsMade Sync result old new = SyncCall result old new
 
 -- A step makes this call and no other. Where the device decides, the call has the step's result. A
--- step that is refused before that makes no call.
+-- step that is refused before that makes no call. A step that is `Damaged` made the call, which
+-- succeeded.
 abbrev pub StepCall : {P N : Type 0} → DeviceCall → Result N (StepError P) → Disk → Disk → Type 0
 StepCall {P} {N} call (Ok next) old new = IsMade {T = N} {E = StepError P} call (Ok next) old new
 StepCall {P} {N} call (Err Fault) old new = IsMade {T = N} {E = StepError P} call (Err Fault) old new
 StepCall call (Err (Stranger back)) old new = new ≡ old
 StepCall call (Err Stopped) old new = new ≡ old
 StepCall call (Err (NoMemory back)) old new = ⊥
-StepCall call (Err Damaged) old new = ⊥
+StepCall {P} {N} call (Err Damaged) old new = IsMade {T = Unit {0}} {E = StepError P} call (Ok tt) old new
 
 -- The write of what is in flight, after the tail's gate.
 abbrev pub load_write : StateView → DeviceCall

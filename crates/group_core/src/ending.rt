@@ -76,6 +76,7 @@ impl<D: Device, S: Showcase> State<D, S> {
             version: _version,
             merge: _merge,
             written: _written,
+            preparation: _preparation,
             stopped: _stopped,
         } = self;
         (device, show)

@@ -3,8 +3,8 @@
 use crate::values::{Commit, Durable, DurableFollowed};
 
 /// Why a step with a value of phase `P` was refused. The first that holds is answered, in this
-/// order: `Stranger`, `Stopped`, and then `Fault`. `NoMemory` and `Damaged` are reserved for
-/// `write_chunk`, and the contract of each step rules them out.
+/// order: `Stranger`, `Stopped`, and then `Fault` or `Damaged`. Only `write_chunk` is answered by
+/// `Damaged`. `NoMemory` is reserved for it, and the contract of each step rules that out.
 pub enum StepError<P> {
     /// The device failed: the value is spent, and the state has stopped.
     Fault,
@@ -14,8 +14,9 @@ pub enum StepError<P> {
     Stranger(Commit<P>),
     /// Memory was refused. The value is returned.
     NoMemory(Commit<P>),
-    /// What was read back is no half or journal of a store: the value is spent, and the state has
-    /// stopped.
+    /// A sector of the old half's area has another sum than when the checkpoint was begun, which is
+    /// never so on an honest device: the value is spent, and the state has stopped. The old half
+    /// still counts.
     Damaged,
 }
 

@@ -71,7 +71,8 @@ impl<D: Device, S: Showcase> State<D, S> {
 
     /// The number of commands that follow the group in flight.
     fn next_to_follow(&self, value: &Opened) -> Result<usize, FollowError>
-        ensures { MatchResult result (λ n. MayFollow value.now self.now × TakesFollower self.now n) (λ e. (e ≢ NoMemory) × IsFollowRefused e value.now self.now) }
+        ensures { MatchResult result (λ n. MayFollow value.now self.now × TakesFollower self.now n)
+            (λ e. (e ≢ NoMemory) × IsFollowRefused e value.now self.now) }
     {
         if self.flush != Flush::Opened || !value.is_of(self.home, self.group.number) {
             return Err(FollowError::Stranger);

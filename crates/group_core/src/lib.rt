@@ -2,8 +2,8 @@
 //! checkpointer that folds a sealed journal into the other half. One call makes at most one write
 //! or one sync of the device, and its clause says which.
 //!
-//! Here are the start of a state, submitting commands, staging, beginning a checkpoint, the steps
-//! of both actors on the device, publishing, redeeming, stopping, lookups, and the end of a state.
+//! Here are the start of a state, submitting commands, staging, preparing and beginning a
+//! checkpoint, the steps of both actors on the device, publishing, redeeming, stopping, lookups, and the end of a state.
 //!
 //! To the layer above: each step is exact, and says what a stop within it leaves: what is
 //! committed, with a front of the accepted commands as long as the phase of the flusher allows.
@@ -21,6 +21,7 @@ mod halting;
 mod numbers;
 mod phases;
 mod plain_show;
+mod preparing;
 mod publishing;
 mod reading;
 mod redeeming;
@@ -43,6 +44,7 @@ pub use phases::{
     AtPlan, AtStable, AtStaged, AtSwitched, AtWritten,
 };
 pub use plain_show::PlainShow;
+pub use preparing::Prepared;
 pub use showcase::Showcase;
 pub use staging::StageError;
 pub use state::State;

@@ -10,6 +10,7 @@ use crate::bookkeeping::Turn;
 use crate::showcase::Showcase;
 use crate::state::State;
 use ckpt_pair::area_room;
+use ckpt_stream::Preparation;
 use group_phases::{Check, Flush};
 use path_db::written_rows_are_counted;
 use rising_map::RisingMap;
@@ -68,6 +69,7 @@ impl<D: Device, S: Showcase> State<D, S> {
             version,
             merge: None,
             written: 0,
+            preparation: Preparation::new(),
             stopped,
         }
     }

@@ -2,7 +2,7 @@
 
 use crate::bookkeeping::Turn;
 use crate::showcase::Showcase;
-use ckpt_stream::Merge;
+use ckpt_stream::{Merge, Preparation};
 use group_phases::{Check, Flush};
 use path_db::{Command, Outcome, PathDb};
 use rising_map::RisingMap;
@@ -68,6 +68,8 @@ pub struct State<D: Device, S: Showcase> {
     pub(crate) merge: Option<Merge>,
     /// The number of sectors of that checkpoint that are written.
     pub(crate) written: u64,
+    /// What is read of the sealed half for the next checkpoint: nothing while no half is sealed.
+    pub(crate) preparation: Preparation,
     /// Whether the state has stopped, which is final.
     pub(crate) stopped: bool,
 }
@@ -122,5 +124,5 @@ impl<D: Device, S: Showcase> Model for State<D, S> {
       checkpoint = encoding_if_any s.merge;
       written = s.written;
       stopped = s.stopped;
-    }) (record { staged = s.staged.items; staged_next = s.staged_next.items; tip = s.tip; place = s.place; owed = S.owed s.show; merge = s.merge }) };
+    }) (record { staged = s.staged.items; staged_next = s.staged_next.items; tip = s.tip; place = s.place; owed = S.owed s.show; merge = s.merge; preparation = s.preparation }) };
 }

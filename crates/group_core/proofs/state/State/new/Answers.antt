@@ -33,7 +33,7 @@ invariant_of-result g c =
       written = 0;
       stopped = not c.goes_on-stopped.result;
     })
-    parts.ensures.rows c.place-place.ensures c.requires.paid refl
+    parts.ensures.rows c.place-place.ensures c.requires.paid refl c.new-5.ensures.from
 
 pub returns-clause-left : goal.returns-clause-left
 returns-clause-left g c = opens_so _ c.into_parts-device.ensures.device (invariant_of-result g c)
