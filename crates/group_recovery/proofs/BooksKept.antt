@@ -9,7 +9,7 @@ use Rattle.group_phases.specs.declared.phases.Check.TheVariants as check
 use Rattle.group_core.specs.declared.beginning.BeginError.TheVariants as begin
 use Rattle.group_core.specs.StateView.{StateView}
 use Rattle.group_core.specs.Staging.{Takes}
-use Rattle.group_core.specs.Steps.{chunk_written, at_phase, half_counts, half_ready}
+use Rattle.group_core.specs.Steps.{at_phase, half_counts, half_ready}
 use Rattle.group_recovery.specs.declared.events.Event.{Event}
 use Rattle.group_recovery.specs.declared.events.Event.TheVariants as event
 use Rattle.group_recovery.specs.declared.events.Reply.{Reply}
@@ -19,7 +19,7 @@ use Rattle.group_recovery.specs.declared.events.StepRefusal.TheVariants as why
 use Rattle.group_recovery.specs.Machine.{Machine, machine_of}
 use Rattle.group_recovery.specs.Bookkeeping.{Bookkeeping, bookkeeping_of, rows_before_next, with_outcome, IsInFlight, stopped_by, KeepsBooks, EventsKeepTheBooks, StopsAreForGood}
 use Rattle.group_recovery.specs.Reopening.{PrefixesAreReopened, FrontsAreReopened}
-use Rattle.group_recovery.specs.RunSteps.{RunView, FlushEvent, CheckEvent, StageEvent, BeginEvent, PublishEvent, FollowEvent, PublishFollowedEvent, HaltEvent, LookupEvent, SubmitEvent, RedeemEvent}
+use Rattle.group_recovery.specs.RunSteps.{RunView, FlushEvent, CheckEvent, ChunkEvent, StageEvent, PrepareEvent, BeginEvent, PublishEvent, FollowEvent, PublishFollowedEvent, HaltEvent, LookupEvent, SubmitEvent, RedeemEvent}
 use Rattle.group_recovery.proofs.Runs.{none_or_some}
 
 module _ (old new : StateView) where
@@ -42,6 +42,14 @@ module _ (old new : StateView) where
   checked has after failed reply.NoValue same step = so step.1
   checked has after failed _ same step = absurd step
 
+  chunk_so : (r : Reply) → ChunkEvent r old new → bookkeeping_of new ≡ stopped_by r (bookkeeping_of old)
+  chunk_so reply.Done step = so step.3
+  chunk_so (reply.StepRefused why.Stopped) step = so step.2
+  chunk_so (reply.StepRefused why.Fault) step = so step.3
+  chunk_so (reply.StepRefused why.Damaged) step = so step.4
+  chunk_so reply.NoValue step = so step.1
+  chunk_so _ step = absurd step
+
   begun_so : (r : Reply) → BeginEvent r old new → bookkeeping_of new ≡ stopped_by r (bookkeeping_of old)
   begun_so reply.Done step = so step.1.4
   begun_so (reply.BeginRefused begin.Stopped) step = so step.1
@@ -52,6 +60,11 @@ module _ (old new : StateView) where
   begun_so (reply.BeginRefused begin.NoMemory) step = so step.3
   begun_so (reply.BeginRefused begin.Damaged) step = so step.4
   begun_so _ step = absurd step
+
+  prepared_so : (r : Reply) → PrepareEvent r old new → bookkeeping_of new ≡ stopped_by r (bookkeeping_of old)
+  prepared_so (reply.Prepared prepared) step = so step.3
+  prepared_so (reply.BeginRefused e) step = begun_so (reply.BeginRefused e) step
+  prepared_so _ step = absurd step
 
   looked_up : (query : Query) (now : ℕ) (r : Reply) → LookupEvent query now r old new → bookkeeping_of new ≡ stopped_by r (bookkeeping_of old)
   looked_up query now (reply.Answer found) step = so step.1
@@ -136,8 +149,9 @@ books_kept event.WriteFollowing r old new step = flushed old.state new.state _ _
 books_kept event.SyncFollowed r old new step = flushed old.state new.state _ _ _ r step.1
 books_kept event.PublishFollowed r old new step = published_followed old.state new.state r step.1
 books_kept (event.Redeem k) r old new step = redeemed k r old new step
+books_kept event.Prepare r old new step = prepared_so old.state new.state r step.1
 books_kept event.Begin r old new step = begun_so old.state new.state r step.1
-books_kept event.WriteChunk r old new step = checked old.state new.state _ (chunk_written old.state) _ r refl step.1
+books_kept event.WriteChunk r old new step = chunk_so old.state new.state r step.1
 books_kept event.SyncChunks r old new step = checked old.state new.state _ (at_phase check.Laid old.state) _ r refl step.1
 books_kept event.OpenHalf r old new step = checked old.state new.state _ (at_phase check.Switched old.state) _ r refl step.1
 books_kept event.SyncHalf r old new step = half_counted old.state new.state _ (half_counts old.state) _ r refl step.1

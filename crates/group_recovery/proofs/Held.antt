@@ -20,13 +20,13 @@ use Rattle.group_recovery.specs.declared.holding.HeldPlan.{HeldPlan}
 use Rattle.group_recovery.specs.declared.holding.HeldPlan.TheVariants as plan
 use Rattle.group_core.specs.declared.ticket.Ticket.{Ticket}
 use Rattle.group_core.specs.StateView.{StateView}
-use Rattle.group_core.specs.Steps.{IsFlushTurn, IsCheckTurn, IsPlanTurn, is_whole, spent}
+use Rattle.group_core.specs.Steps.{IsFlushTurn, IsCheckTurn, IsPlanTurn, is_whole, spent, chunk_written}
 use Rattle.group_core.specs.Staging.{Takes, staged_by}
 use Rattle.group_core.specs.Following.{followed_by}
 use Rattle.group_core.specs.Beginning.{plan_begun}
 use Rattle.group_core.specs.Redeeming.{outcome_at}
 use Rattle.group_core.specs.Submitting.{next_place}
-use Rattle.group_recovery.specs.RunSteps.{IsPlanOutAt, IsPlanOut, FlushEvent, CheckEvent, StageEvent, FollowEvent, BeginEvent, HaltEvent, LookupEvent}
+use Rattle.group_recovery.specs.RunSteps.{IsPlanOutAt, IsPlanOut, FlushEvent, CheckEvent, ChunkEvent, StageEvent, FollowEvent, PrepareEvent, BeginEvent, HaltEvent, LookupEvent}
 use Rattle.group_recovery.specs.Holding.{HoldsGroup, HoldsPlan, SealWaits, HoldsTickets, IsHolding}
 use Rattle.group_recovery.proofs.Prefix.{Moves}
 
@@ -230,6 +230,18 @@ module _ (old : StateView) where
   pub planned_busy : (whole : Bool) → IsPlanOut whole old → old.check ≢ check.Ready
   planned_busy whole has is = let at = has.1 in cc
 
+  chunk_on : (reply : Reply) (new : StateView) → CheckEvent (IsPlanOut false old) (chunk_written old) check.Planned reply old new → CheckRest old new
+  chunk_on reply new step = check_rest (IsPlanOut false old) (planned_busy false) old.check old.plan (chunk_written old).written old.epoch old.version check.Planned reply new step
+
+  pub chunk_rest : (reply : Reply) (new : StateView) → ChunkEvent reply old new → CheckRest old new
+  chunk_rest (reply.StepRefused why.Damaged) new step =
+      subst (CheckRest old) (sym step.4) (check_touched new.disk old.check (spent old.plan) old.checkpoint old.written old.epoch old.version true (λ is. is))
+  chunk_rest reply.Done new step = chunk_on reply.Done new step
+  chunk_rest (reply.StepRefused why.Stopped) new step = chunk_on (reply.StepRefused why.Stopped) new step
+  chunk_rest (reply.StepRefused why.Fault) new step = chunk_on (reply.StepRefused why.Fault) new step
+  chunk_rest reply.NoValue new step = chunk_on reply.NoValue new step
+  chunk_rest _ new step = absurd step
+
   pub at_busy : (phase : Check) → phase ≢ check.Ready → IsPlanOutAt phase old → old.check ≢ check.Ready
   at_busy phase other has is = other (sym has.1 ∙ is)
 
@@ -250,6 +262,26 @@ module _ (old : StateView) where
       subst (CheckRest old) (sym step.4) (check_touched new.disk old.check old.plan old.checkpoint old.written old.epoch old.version true (λ is. is))
   begin_rest _ new step = absurd step
 
+  pub prepare_rest : (reply : Reply) (new : StateView) → PrepareEvent reply old new → CheckRest old new
+  prepare_rest (reply.Prepared prepared) new step =
+      subst (CheckRest old) (sym step.3) (check_touched new.disk old.check old.plan old.checkpoint old.written old.epoch old.version old.stopped (λ is. is))
+  prepare_rest (reply.BeginRefused e) new step = begin_rest (reply.BeginRefused e) new step
+  prepare_rest _ new step = absurd step
+
+  plan_untouched : (disk : Disk) (stopped : Bool) → PlanStays old (record old { disk = disk; stopped = stopped })
+  plan_untouched disk stopped = record { home = refl; check = refl; plan = refl; checkpoint = refl; written = refl }
+
+  pub prepare_stays : (reply : Reply) (new : StateView) → PrepareEvent reply old new → PlanStays old new
+  prepare_stays (reply.Prepared prepared) new step = subst (PlanStays old) (sym step.3) (plan_untouched new.disk old.stopped)
+  prepare_stays (reply.BeginRefused begin.Stopped) new step = subst (PlanStays old) (sym step.1) (plan_untouched old.disk old.stopped)
+  prepare_stays (reply.BeginRefused begin.InFlight) new step = subst (PlanStays old) (sym step.2) (plan_untouched old.disk old.stopped)
+  prepare_stays (reply.BeginRefused begin.NotSealed) new step = subst (PlanStays old) (sym step.3) (plan_untouched old.disk old.stopped)
+  prepare_stays (reply.BeginRefused begin.Exhausted) new step = subst (PlanStays old) (sym step.4) (plan_untouched old.disk old.stopped)
+  prepare_stays (reply.BeginRefused begin.Fault) new step = subst (PlanStays old) (sym step.3) (plan_untouched new.disk true)
+  prepare_stays (reply.BeginRefused begin.NoMemory) new step = subst (PlanStays old) (sym step.3) (plan_untouched new.disk old.stopped)
+  prepare_stays (reply.BeginRefused begin.Damaged) new step = subst (PlanStays old) (sym step.4) (plan_untouched new.disk true)
+  prepare_stays _ new step = absurd step
+
 -- the values that a run holds, by what an event leaves
 pub flush_holding : {tickets : List (Option Ticket)} {held after : HeldGroup} {planned : HeldPlan} {old new : StateView} → FlushRest old new → IsHolding old tickets held planned
     → HoldsGroup after new → IsHolding new tickets after planned
@@ -268,3 +300,8 @@ check_holding {held = held} rest holding holds = record {
   plan = holds;
   seal = rest.seal holding.seal;
 }
+
+pub prepare_holding : {tickets : List (Option Ticket)} {held : HeldGroup} {planned : HeldPlan} {old new : StateView} → (reply : Reply) → PrepareEvent reply old new → IsHolding old tickets held planned
+    → IsHolding new tickets held planned
+prepare_holding {planned = planned} {old = old} {new = new} reply step holding =
+    check_holding (prepare_rest old reply new step) holding (plan_stays (prepare_stays old reply new step) planned holding.plan)

@@ -69,6 +69,7 @@ machine_steps event.WriteFollowing r old new step = flushed event.WriteFollowing
 machine_steps event.SyncFollowed r old new step = flushed event.SyncFollowed r old new step tt
 machine_steps event.PublishFollowed r old new step = published_followed r old.state new.state step.1
 machine_steps (event.Redeem k) r old new step = redeemed k r old new step
+machine_steps event.Prepare r old new step = checked event.Prepare r old new step tt
 machine_steps event.Begin r old new step = checked event.Begin r old new step tt
 machine_steps event.WriteChunk r old new step = checked event.WriteChunk r old new step tt
 machine_steps event.SyncChunks r old new step = checked event.SyncChunks r old new step tt

@@ -27,7 +27,7 @@ use Rattle.group_recovery.specs.Holding.{HoldsGroup, HoldsPlan, SealWaits, Holds
 use Rattle.group_recovery.specs.Winding.{ending_events, winding_events, HasWound}
 use Rattle.group_recovery.specs.RunLeaves.{accepted_by, accepted_in, lock_order, RunLeaves}
 use Rattle.group_recovery.proofs.Prefix.{Moves, leaves_at_first, leaves_then}
-use Rattle.group_recovery.proofs.Held.{TicketsStay, GroupStays, PlanStays, moves_none, tickets_stay, group_stays, plan_stays, FlushRest, CheckRest, flush_rest, check_rest, stage_rest, follow_rest, begin_rest, halt_rest, lookup_rest, planned_busy, at_busy, flush_holding}
+use Rattle.group_recovery.proofs.Held.{TicketsStay, GroupStays, PlanStays, moves_none, tickets_stay, group_stays, plan_stays, FlushRest, CheckRest, flush_rest, check_rest, chunk_rest, stage_rest, follow_rest, prepare_rest, begin_rest, halt_rest, lookup_rest, planned_busy, at_busy, flush_holding}
 
 pub none_or_some : (n : ℕ) → (n ≡ 0) ⊎ (1 ≤ n)
 none_or_some zero = inl refl
@@ -89,6 +89,7 @@ redeem_moves k _ old new step = absurd step
 
 -- the checkpointer's events, and the events that leave the checkpointer's phase unchanged
 abbrev pub IsCheckers : Event → Type 0
+IsCheckers event.Prepare = Unit {0}
 IsCheckers event.Begin = Unit {0}
 IsCheckers event.WriteChunk = Unit {0}
 IsCheckers event.SyncChunks = Unit {0}
@@ -112,8 +113,9 @@ IsFlushers event.Halt = Unit {0}
 IsFlushers _ = ⊥
 
 pub check_leaves : (e : Event) (r : Reply) (old new : RunView) → IsRunStep e r old new → IsCheckers e → CheckRest old.state new.state
+check_leaves event.Prepare r old new step is = prepare_rest old.state r new.state step.1
 check_leaves event.Begin r old new step is = begin_rest old.state r new.state step.1
-check_leaves event.WriteChunk r old new step is = check_rest old.state _ (planned_busy old.state false) old.state.check old.state.plan _ old.state.epoch old.state.version check.Planned r new.state step.1
+check_leaves event.WriteChunk r old new step is = chunk_rest old.state r new.state step.1
 check_leaves event.SyncChunks r old new step is = check_rest old.state _ (planned_busy old.state true) check.Laid old.state.plan old.state.written old.state.epoch old.state.version check.Planned r new.state step.1
 check_leaves event.OpenHalf r old new step is = check_rest old.state _ (at_busy old.state check.Laid (λ (same : check.Laid ≡ check.Ready). cc)) check.Switched old.state.plan old.state.written old.state.epoch old.state.version check.SwitchFailed r new.state step.1
 check_leaves event.SyncHalf r old new step is = check_rest old.state _ (at_busy old.state check.Switched (λ (same : check.Switched ≡ check.Ready). cc)) check.Live old.state.plan old.state.written _ _ check.Switched r new.state step.1
@@ -154,6 +156,7 @@ step_moves event.WriteFollowing r old new inside step = flush_moves event.WriteF
 step_moves event.SyncFollowed r old new inside step = flush_moves event.SyncFollowed r old new step tt
 step_moves event.PublishFollowed r old new inside step = publish_followed_moves r old.state new.state inside step.1
 step_moves (event.Redeem k) r old new inside step = redeem_moves k r old new step
+step_moves event.Prepare r old new inside step = check_moves event.Prepare r old new step tt
 step_moves event.Begin r old new inside step = check_moves event.Begin r old new step tt
 step_moves event.WriteChunk r old new inside step = check_moves event.WriteChunk r old new step tt
 step_moves event.SyncChunks r old new inside step = check_moves event.SyncChunks r old new step tt

@@ -30,6 +30,7 @@ step_reply step.Damaged = reply.StepRefused why.Damaged
 abbrev pub SpendsValue : {P : Type 0} → StepError P → Type 0
 SpendsValue step.Fault = Unit {0}
 SpendsValue step.Stopped = Unit {0}
+SpendsValue step.Damaged = Unit {0}
 SpendsValue _ = ⊥
 
 -- The flusher's value is held exactly where it is out, and its phase is the state's.

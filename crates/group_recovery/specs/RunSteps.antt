@@ -3,6 +3,7 @@
 use Rattle.std.specs.Prelude.{◌≡◌, ℕ, ◌<◌, ◌≤◌, Bool, true, false, List, [], ◌∷◌, ◌++◌, length, Option, Some, None, Ok, Err, slice_index_or, slice_set}
 use Rattle.path_rows.specs.declared.command.Command.{Command}
 use Rattle.path_rows.specs.Answer.{segments_of}
+use Rattle.sector_dev.specs.Disk.{IsHonest}
 use Rattle.sector_dev.specs.Calls.{one_more}
 use Rattle.seg_lookup.specs.declared.query.Query.{Query}
 use Rattle.seg_lookup.specs.Query.{query_view}
@@ -26,7 +27,7 @@ use Rattle.group_core.specs.Steps.{IsFlushTurn, spent, is_whole, chunk_written, 
 use Rattle.group_core.specs.Staging.{Stages}
 use Rattle.group_core.specs.Publishing.{IsPublished}
 use Rattle.group_core.specs.Following.{TakesFollower, followed_by, IsFollowRefused, HasFollower, with_follower_in_flight}
-use Rattle.group_core.specs.Beginning.{BeginsCheckpoint}
+use Rattle.group_core.specs.Beginning.{BeginsCheckpoint, PreparesCheckpoint}
 use Rattle.group_core.specs.Redeeming.{outcome_at, kept_without, halted}
 use Rattle.group_core.specs.Submitting.{MayBeSubmitted, CheckpointHasRoom, IsSubmitRefused, next_place, with_pending_command}
 use Rattle.group_recovery.specs.SameDevice.{DeviceGoesOn}
@@ -82,11 +83,25 @@ CheckEvent has after failed (reply.StepRefused why.Fault) old new =
 CheckEvent has after failed reply.NoValue old new = (¬ has) × (new ≡ old)
 CheckEvent has after failed _ old new = ⊥
 
+-- The write of the next sectors of the new checkpoint. A sector of the old area that has another
+-- sum than before, which is never so over an honest device, spends the value and stops the state.
+abbrev pub ChunkEvent : Reply → StateView → StateView → Type 0
+ChunkEvent (reply.StepRefused why.Damaged) old new =
+    IsPlanOut false old × (old.stopped ≡ false) × (¬ IsHonest old.disk) × (new.disk.faults ≡ old.disk.faults)
+    × (new ≡ record old { disk = new.disk; plan = spent old.plan; stopped = true })
+ChunkEvent reply old new = CheckEvent (IsPlanOut false old) (chunk_written old) check.Planned reply old new
+
 -- Staging, which takes no value.
 abbrev pub StageEvent : Reply → StateView → StateView → Type 0
 StageEvent reply.Done old new = (value : Commit AtStaged) × Stages (Ok value) old new
 StageEvent (reply.StageRefused e) old new = Stages (Err e) old new
 StageEvent _ old new = ⊥
+
+-- Preparing a checkpoint, which takes no value.
+abbrev pub PrepareEvent : Reply → StateView → StateView → Type 0
+PrepareEvent (reply.Prepared prepared) old new = PreparesCheckpoint (Ok prepared) old new
+PrepareEvent (reply.BeginRefused e) old new = PreparesCheckpoint (Err e) old new
+PrepareEvent _ old new = ⊥
 
 -- Beginning a checkpoint, which takes no value.
 abbrev pub BeginEvent : Reply → StateView → StateView → Type 0
@@ -179,9 +194,9 @@ IsRunStep event.WriteFollowing reply old new = OnState (FlushEvent flush.Followi
 IsRunStep event.SyncFollowed reply old new = OnState (FlushEvent flush.Followed flush.DurableFollowed flush.Followed reply) old new
 IsRunStep event.PublishFollowed reply old new = OnState (PublishFollowedEvent reply) old new
 IsRunStep (event.Redeem k) reply old new = RedeemEvent k reply old new
+IsRunStep event.Prepare reply old new = OnState (PrepareEvent reply) old new
 IsRunStep event.Begin reply old new = OnState (BeginEvent reply) old new
-IsRunStep event.WriteChunk reply old new =
-    OnState (CheckEvent (IsPlanOut false old.state) (chunk_written old.state) check.Planned reply) old new
+IsRunStep event.WriteChunk reply old new = OnState (ChunkEvent reply) old new
 IsRunStep event.SyncChunks reply old new =
     OnState (CheckEvent (IsPlanOut true old.state) (at_phase check.Laid old.state) check.Planned reply) old new
 IsRunStep event.OpenHalf reply old new =

@@ -1,6 +1,6 @@
 //! The events of a run, and the replies to them.
 
-use group_core::{BeginError, FollowError, StageError, SubmitError};
+use group_core::{BeginError, FollowError, Prepared, StageError, SubmitError};
 use path_db::{Command, Outcome};
 use seg_core::Segment;
 use seg_lookup::Query;
@@ -32,6 +32,8 @@ pub enum Event {
     PublishFollowed,
     /// Redeems the ticket of the k-th command that this run accepted, counted from 0.
     Redeem(usize),
+    /// Prepares a checkpoint: reads the next piece of the sealed half.
+    Prepare,
     /// Begins a checkpoint.
     Begin,
     /// Writes the next sectors of the checkpoint.
@@ -63,7 +65,7 @@ pub enum StepRefusal {
     Stranger = 3,
     /// Memory was refused.
     NoMemory = 4,
-    /// The sectors that were read back are no half or journal of a store.
+    /// A sector of the old half's area has another sum than when the checkpoint was begun.
     Damaged = 5,
 }
 
@@ -89,7 +91,9 @@ pub enum Reply {
     StageRefused(StageError),
     /// No group follows.
     FollowRefused(FollowError),
-    /// No checkpoint was begun.
+    /// This much of the sealed half is read.
+    Prepared(Prepared),
+    /// No checkpoint was begun, or prepared.
     BeginRefused(BeginError),
     /// A step with a value was refused.
     StepRefused(StepRefusal),

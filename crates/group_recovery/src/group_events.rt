@@ -23,7 +23,7 @@ pub(crate) fn refusal<P: Copy>(refused: StepError<P>) -> Reply
         StepError::Stopped => Reply::StepRefused(StepRefusal::Stopped),
         StepError::Stranger(_value) => unreachable!(),
         StepError::NoMemory(_value) => unreachable!(),
-        StepError::Damaged => unreachable!(),
+        StepError::Damaged => Reply::StepRefused(StepRefusal::Damaged),
     }
 }
 

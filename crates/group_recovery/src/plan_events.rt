@@ -5,9 +5,9 @@ ghost use Rattle.group_phases.specs.declared.phases.Check.TheVariants.{Planned a
 ghost use Rattle.group_phases.specs.declared.phases.Check.TheVariants.{SwitchFailed as switch_failed, Live as live};
 ghost use Rattle.group_phases.specs.declared.phases.Check.TheVariants.{Closing as closing, CloseFailed as close_failed};
 ghost use Rattle.group_core.specs.Stops.{StepLeaves};
-ghost use Rattle.group_core.specs.Steps.{chunk_written, at_phase, half_counts, half_ready};
+ghost use Rattle.group_core.specs.Steps.{at_phase, half_counts, half_ready};
 ghost use Rattle.group_recovery.specs.Holding.{HoldsPlan};
-ghost use Rattle.group_recovery.specs.RunSteps.{BeginEvent, CheckEvent, IsPlanOutAt, IsPlanOut};
+ghost use Rattle.group_recovery.specs.RunSteps.{PrepareEvent, BeginEvent, CheckEvent, ChunkEvent, IsPlanOutAt, IsPlanOut};
 
 use crate::events::Reply;
 use crate::group_events::refusal;
@@ -15,6 +15,17 @@ use crate::holding::HeldPlan;
 use group_core::{Showcase, State};
 use sector_dev::Device;
 use std::mem;
+
+/// Prepares a checkpoint.
+pub(crate) fn prepare<D: Device, S: Showcase>(state: &mut State<D, S>) -> Reply
+    ensures step { PrepareEvent result state.old state.new }
+    ensures any_moment { StepLeaves state.old state.new }
+{
+    match state.prepare() {
+        Ok(prepared) => Reply::Prepared(prepared),
+        Err(refused) => Reply::BeginRefused(refused),
+    }
+}
 
 /// Begins a checkpoint.
 pub(crate) fn begin<D: Device, S: Showcase>(held: &mut HeldPlan, state: &mut State<D, S>) -> Reply
@@ -39,7 +50,7 @@ pub(crate) fn write_chunk<D: Device, S: Showcase>(
 ) -> Reply
     requires held { HoldsPlan held.old state.old }
     ensures held { HoldsPlan held.new state.new }
-    ensures step { CheckEvent (IsPlanOut false state.old) (chunk_written state.old) planned result state.old state.new }
+    ensures step { ChunkEvent result state.old state.new }
     ensures any_moment { StepLeaves state.old state.new }
 {
     match mem::replace(held, HeldPlan::None) {

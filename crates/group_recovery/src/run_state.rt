@@ -11,7 +11,7 @@ use crate::follow_events::{follow, publish_followed, sync_followed, write_follow
 use crate::group_events::{open_gate, publish, stage, sync_gate, sync_group, write_group};
 use crate::holding::{HeldGroup, HeldPlan};
 use crate::plan_events::{
-    begin, close_half, open_half, sync_chunks, sync_close, sync_half, write_chunk,
+    begin, close_half, open_half, prepare, sync_chunks, sync_close, sync_half, write_chunk,
 };
 use crate::ticket_events::{end_all, redeem, submit};
 use group_core::{PlainShow, State, Ticket};
@@ -128,6 +128,7 @@ impl<D: Device> Run<D> {
                 publish_followed(&mut self.group, &mut self.state)
             }
             Event::Redeem(k) => redeem(&mut self.tickets, &mut self.state, *k),
+            Event::Prepare => prepare(&mut self.state),
             Event::Begin => begin(&mut self.plan, &mut self.state),
             Event::WriteChunk => write_chunk(&mut self.plan, &mut self.state),
             Event::SyncChunks => sync_chunks(&mut self.plan, &mut self.state),

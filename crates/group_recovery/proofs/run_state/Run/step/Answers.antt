@@ -1,8 +1,8 @@
-use Rattle.std.proofs.Common.{◌≡◌, true, false}
+use Rattle.std.proofs.Common.{◌≡◌, true}
 use Rattle.group_phases.specs.declared.phases.Flush.TheVariants as flush
 use Rattle.group_phases.specs.declared.phases.Check.TheVariants as check
-use Rattle.group_core.specs.Steps.{spent, chunk_written, half_counts}
-use Rattle.group_recovery.proofs.Held.{flush_rest, stage_rest, follow_rest, check_rest, begin_rest, planned_busy, at_busy, flush_holding, check_holding}
+use Rattle.group_core.specs.Steps.{spent, half_counts}
+use Rattle.group_recovery.proofs.Held.{flush_rest, stage_rest, follow_rest, check_rest, chunk_rest, begin_rest, prepare_holding, planned_busy, at_busy, flush_holding, check_holding}
 use Rattle.group_recovery.proofs.Runs.{publish_holding, publish_followed_holding, halt_holding}
 use Rattle.group_recovery.proofs.run_state.Run.step.Goals as goal
 
@@ -46,13 +46,17 @@ pub invariant_of-self-in-PublishFollowed : goal.invariant_of-self-in-PublishFoll
 invariant_of-self-in-PublishFollowed g c =
     publish_followed_holding c.publish_followed.result c.self.inside.state c.publish_followed.new.state c.stops_leave_fronts-in-PublishFollowed.ensures.taken c.publish_followed.ensures.step c.self.invariant c.publish_followed.ensures.held
 
+pub invariant_of-self-in-Prepare : goal.invariant_of-self-in-Prepare
+invariant_of-self-in-Prepare g c =
+    prepare_holding c.prepare.result c.prepare.ensures.step c.self.invariant
+
 pub invariant_of-self-in-Begin : goal.invariant_of-self-in-Begin
 invariant_of-self-in-Begin g c =
     check_holding (begin_rest c.self.inside.state c.begin.result c.begin.new.state c.begin.ensures.step) c.self.invariant c.begin.ensures.held
 
 pub invariant_of-self-in-WriteChunk : goal.invariant_of-self-in-WriteChunk
 invariant_of-self-in-WriteChunk g c =
-    check_holding (check_rest c.self.inside.state _ (planned_busy c.self.inside.state false) c.self.inside.state.check c.self.inside.state.plan (chunk_written c.self.inside.state).written c.self.inside.state.epoch c.self.inside.state.version check.Planned c.write_chunk.result c.write_chunk.new.state c.write_chunk.ensures.step) c.self.invariant c.write_chunk.ensures.held
+    check_holding (chunk_rest c.self.inside.state c.write_chunk.result c.write_chunk.new.state c.write_chunk.ensures.step) c.self.invariant c.write_chunk.ensures.held
 
 pub invariant_of-self-in-SyncChunks : goal.invariant_of-self-in-SyncChunks
 invariant_of-self-in-SyncChunks g c =
