@@ -1,1 +1,2 @@
 pub mod KeeperSteps
+pub mod Sent

@@ -2,6 +2,7 @@
 use Rattle.std.specs.Prelude.{◌≡◌, ℕ, ◌+◌, ◌<◌, List, [], ◌∷◌, ◌++◌, length, Some, slice_get}
 use Rattle.atomic_table.specs.Seated.{TableId}
 use Rattle.path_rows.specs.declared.command.Command.{Command}
+use Rattle.command_log.specs.declared.rule.Claim.{Claim}
 
 -- A log of accepted commands.
 pub record Log : Type 0 where
@@ -9,11 +10,6 @@ pub record Log : Type 0 where
   pub commands : List Command
   -- The number of the first commands that are committed.
   pub committed : ℕ
-
--- A command and its index in the log.
-pub record Claim : Type 0 where
-  pub index : ℕ
-  pub command : Command
 
 -- A log by its table.
 pub record LogOfTable : Type 0 where
@@ -24,6 +20,11 @@ pub record LogOfTable : Type 0 where
 pub record ClaimOfTable : Type 0 where
   pub table : TableId
   pub claim : Claim
+
+-- Claims by the table of their log.
+pub record ClaimsOfTable : Type 0 where
+  pub table : TableId
+  pub claims : List Claim
 
 -- The log in which nothing is accepted yet.
 abbrev pub empty_log : Log

@@ -1,12 +1,14 @@
 -- What the passes of a log's table know.
-use Rattle.std.specs.Prelude.{◌≡◌, ℕ, ◌<◌, List, [], Bool, true, false}
+use Rattle.std.specs.Prelude.{◌≡◌, ℕ, ◌<◌, List, [], ◌∷◌, Bool, true, false, ◌&&◌, if◌then◌else◌}
+use Rattle.std.specs.List.{AllByRecursion}
 use mathlib.Core.Option.{some}
 use lib.ListN.{get_elem?}
 use Rattle.atomic_table.specs.Seated.{TableId}
 use Rattle.path_rows.specs.declared.command.Command.{Command}
 use Rattle.path_rows.specs.declared.command.Command.TheVariants.{Purge}
 use Rattle.command_log.specs.declared.rule.LogView.{LogView}
-use Rattle.command_log.specs.Log.{Log, Claim, HasAt}
+use Rattle.command_log.specs.declared.rule.Claim.{Claim}
+use Rattle.command_log.specs.Log.{Log, HasAt, IsCommitted}
 
 -- The name of no table.
 abbrev pub no_table : TableId
@@ -34,6 +36,7 @@ keeper_view log = record {
   is_sure = false;
   index = 0;
   command = no_command;
+  gathered = [];
 }
 
 -- The view of a pass that claims a command at its index, and where it is sure, that the command is
@@ -47,6 +50,7 @@ claim_view is_sure claim = record {
   is_sure = is_sure;
   index = claim.index;
   command = claim.command;
+  gathered = [];
 }
 
 -- The view of a pass that claims nothing.
@@ -59,7 +63,25 @@ no_view = record {
   is_sure = false;
   index = 0;
   command = no_command;
+  gathered = [];
 }
+
+-- The view of a pass in which these claims of committed commands were put together.
+abbrev pub gathered_view : List Claim → LogView
+gathered_view known = record {
+  keeps = false;
+  commands = [];
+  committed = 0;
+  claims = false;
+  is_sure = false;
+  index = 0;
+  command = no_command;
+  gathered = known;
+}
+
+-- The claims of committed commands that a pass has.
+abbrev pub known_in : LogView → List Claim
+known_in view = if view.claims && view.is_sure then claim_in view ∷ view.gathered else view.gathered
 
 -- The view of the keeper with the claim of another pass.
 abbrev pub view_with : LogView → LogView → LogView
@@ -71,6 +93,7 @@ view_with keeper view = record {
   is_sure = view.is_sure;
   index = view.index;
   command = view.command;
+  gathered = view.gathered;
 }
 
 -- The view is the keeper's.
@@ -81,6 +104,7 @@ IsKeeper view = view ≡ keeper_view (log_in view)
 pub record IsTrueOf (log : Log) (view : LogView) : Type 0 where
   pub has : view.claims ≡ true → HasAt log (claim_in view)
   pub sure : view.is_sure ≡ true → view.index < log.committed
+  pub gathered : AllByRecursion (IsCommitted log) view.gathered
 
 -- What the pass of a number knows is true: only one pass, the keeper, knows the whole log.
 pub record IsPassOf (keeper : ℕ) (log : Log) (pass : ℕ) (view : LogView) : Type 0 where

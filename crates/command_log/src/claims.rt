@@ -16,7 +16,7 @@ pub struct Accepted<B: LogName> {
 
 impl<B: LogName> Model for Accepted<B> {
     ghost use Rattle.std.specs.Prelude.{◌≡◌, [], false};
-    ghost use Rattle.command_log.specs.Log.{Claim};
+    ghost use Rattle.command_log.specs.declared.rule.Claim.{Claim};
     ghost use Rattle.command_log.specs.Passes.{claim_in, claim_view};
 
     ghost Value = { Claim };
@@ -36,7 +36,7 @@ pub struct Logged<B: LogName> {
 
 impl<B: LogName> Model for Logged<B> {
     ghost use Rattle.std.specs.Prelude.{◌≡◌, [], true};
-    ghost use Rattle.command_log.specs.Log.{Claim};
+    ghost use Rattle.command_log.specs.declared.rule.Claim.{Claim};
     ghost use Rattle.command_log.specs.Passes.{claim_in, claim_view};
 
     ghost Value = { Claim };

@@ -10,6 +10,7 @@
 #![tactic(auto)]
 
 mod claims;
+mod gathering;
 mod log;
 mod name;
 mod rule;
@@ -17,7 +18,8 @@ mod steps;
 mod unnamed;
 
 pub use claims::{Accepted, Logged};
+pub use gathering::{LogDesk, LoggedList};
 pub use log::CommandLog;
 pub use name::LogName;
-pub use rule::{LogPass, LogRule, LogTable, LogView};
-pub use unnamed::{UnnamedClaim, UnnamedLog};
+pub use rule::{Claim, LogPass, LogRule, LogTable, LogView};
+pub use unnamed::{UnnamedClaim, UnnamedList, UnnamedLog};

@@ -4,25 +4,29 @@ ghost use Rattle.std.specs.Prelude.{◌≡◌, ◌+◌, ◌<◌, ◌≤◌, leng
 ghost use Rattle.command_log.specs.Log.{empty_log, log_with, with_committed, next_claim, HasAt, IsCommitted};
 
 use crate::claims::{Accepted, Logged};
+use crate::gathering::LoggedList;
 use crate::name::LogName;
 use crate::rule::{LogPass, LogTable};
 use crate::steps;
-use crate::unnamed::UnnamedLog;
+use crate::unnamed::{UnnamedList, UnnamedLog};
 use path_rows::Command;
+use std::alloc::Global;
 use std::marker::{Model, PhantomData};
 use std::snapshot::Snapshot;
+use std::sync::Arc;
 
 /// The log of all commands that were accepted since the log was made. To a contract it is these
 /// commands, and the number of the first of them that are committed.
 #[derive(Drop)]
 pub struct CommandLog<B: LogName> {
-    table: LogTable,
+    table: Arc<LogTable, Global>,
     keeper: LogPass,
     name: PhantomData<B>,
 }
 
 impl<B: LogName> Model for CommandLog<B> {
     ghost use Rattle.std.specs.Prelude.{◌≡◌, ◌≤◌, length};
+    ghost use Rattle.std.specs.Arc.{arc_value};
     ghost use Rattle.command_log.specs.Log.{Log};
     ghost use Rattle.command_log.specs.Passes.{log_in, IsKeeper};
 
@@ -30,7 +34,7 @@ impl<B: LogName> Model for CommandLog<B> {
 
     ghost view = { λ l. log_in l.keeper.me.0 };
 
-    ghost invariant = { λ l. (l.table.shared.table_id.words ≡ 1) × (l.table.shared.table_id ≡ B.table) × (l.keeper.table_id ≡ B.table) × IsKeeper l.keeper.me.0 × (l.keeper.me.0.committed ≤ length l.keeper.me.0.commands) };
+    ghost invariant = { λ l. ((arc_value l.table).shared.table_id.words ≡ 1) × ((arc_value l.table).shared.table_id ≡ B.table) × (l.keeper.table_id ≡ B.table) × IsKeeper l.keeper.me.0 × (l.keeper.me.0.committed ≤ length l.keeper.me.0.commands) };
 }
 
 impl<B: LogName> CommandLog<B> {
@@ -57,6 +61,15 @@ impl<B: LogName> CommandLog<B> {
             name: _,
         } = self;
         UnnamedLog { table, keeper }
+    }
+
+    /// Takes the name off the log, and off claims of it. A list of claims can end so alone.
+    pub fn unnamed_with(self, list: LoggedList<B>) -> (UnnamedLog, UnnamedList)
+        ensures log { result.0 ≡ record { table = B.table; log = self } }
+        ensures claims { result.1 ≡ record { table = B.table; claims = list } }
+    {
+        let LoggedList { pass, name: _ } = list;
+        (self.unnamed(), UnnamedList { pass })
     }
 
     /// Appends an accepted command, which is not committed yet, and returns the claim of its index.

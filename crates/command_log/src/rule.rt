@@ -7,6 +7,14 @@ use std::alloc::Global;
 use std::collections::LinkedList;
 use std::marker::{Brand, PhantomData};
 
+/// A command and its index in a log. The type exists in proofs alone.
+pub struct Claim {
+    /// The index of the command in the log.
+    pub index: u64,
+    /// The command.
+    pub command: Command,
+}
+
 /// What a pass knows. The type exists in proofs alone.
 pub struct LogView {
     /// Whether the pass is the keeper, which knows the whole log.
@@ -23,6 +31,8 @@ pub struct LogView {
     pub index: u64,
     /// The claimed command.
     pub command: Command,
+    /// Further claims of committed commands, which were put together in this pass.
+    pub gathered: LinkedList<Claim>,
 }
 
 /// The rule: there is one log. One pass at most knows the whole log, and each claim is true of it.
@@ -121,4 +131,37 @@ impl Play<(), LogView> for Checks {
     ghost use Rattle.command_log.specs.Passes.{IsChecked};
 
     ghost then = { λ _ before _ after. IsChecked before.0 after.0 };
+}
+
+/// A pass that claims nothing is made.
+pub(crate) struct Issues;
+
+impl Play<(), LogView> for Issues {
+    ghost use Rattle.std.specs.Prelude.{◌≡◌};
+    ghost use Rattle.command_log.specs.Passes.{no_view};
+
+    ghost then = { λ _ _ _ after. after.0 ≡ no_view };
+}
+
+/// A pass takes in the claims of committed commands of another.
+pub(crate) struct Gathers;
+
+impl Join<LogView> for Gathers {
+    ghost use Rattle.std.specs.Prelude.{◌++◌};
+    ghost use Rattle.command_log.specs.Passes.{gathered_view, known_in, no_view};
+
+    ghost both = { λ v w. gathered_view (known_in v ++ known_in w) };
+
+    ghost spent = { no_view };
+}
+
+/// The new pass has the claims of committed commands that a pass has, which keeps them.
+pub(crate) struct Copies;
+
+impl Split<LogView> for Copies {
+    ghost use Rattle.command_log.specs.Passes.{gathered_view, known_in};
+
+    ghost left = { λ v. v };
+
+    ghost right = { λ v. gathered_view (known_in v) };
 }

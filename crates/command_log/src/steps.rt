@@ -1,10 +1,12 @@
-//! The keeper's steps. Each costs one or two loads.
+//! The steps of the keeper, and those of other passes. Each costs one or two loads.
 
-ghost use Rattle.std.specs.Prelude.{◌≡◌, ◌<◌, [], true, false};
+ghost use Rattle.std.specs.Prelude.{◌≡◌, ◌<◌, [], ◌++◌, true, false};
 ghost use Rattle.command_log.specs.Log.{log_with, with_committed, next_claim};
-ghost use Rattle.command_log.specs.Passes.{keeper_view, claim_view, log_in, claim_in, IsKeeper, IsTrueOf};
+ghost use Rattle.command_log.specs.Passes.{keeper_view, claim_view, no_view, gathered_view, log_in, claim_in, known_in, IsKeeper, IsTrueOf};
 
-use crate::rule::{Appends, Checks, Chosen, Commits, Confirms, LogPass, LogTable, Takes};
+use crate::rule::{
+    Appends, Checks, Chosen, Commits, Confirms, Copies, Gathers, Issues, LogPass, LogTable, Takes,
+};
 use path_rows::Command;
 use std::marker::Brand;
 use std::snapshot::Snapshot;
@@ -81,4 +83,32 @@ pub(crate) fn compare(table: &LogTable, keeper: &mut LogPass, claim: LogPass)
 {
     table.shared.join_seat::<Takes>(keeper, claim);
     table.shared.load::<Checks>(keeper, 0);
+}
+
+/// Makes a pass that claims nothing.
+pub(crate) fn issue(table: &LogTable) -> LogPass
+    requires { table.now.shared.table_id.words ≡ 1 }
+    ensures { (result.table_id ≡ table.now.shared.table_id) × (result.me ≡ (no_view, [])) }
+{
+    let (_found, pass) = table.shared.load_new_seat::<Issues>(0);
+    pass
+}
+
+/// A pass takes in the claims of committed commands of another.
+pub(crate) fn gather(table: &LogTable, pass: &mut LogPass, other: LogPass)
+    requires table { (pass.old.table_id ≡ table.now.shared.table_id) × (table.now.shared.table_id.words ≡ 1) }
+    requires other { (other.table_id ≡ pass.old.table_id) × (other.me.1 ≡ []) }
+    ensures table { pass.new.table_id ≡ pass.old.table_id }
+    ensures claims { pass.new.me ≡ (gathered_view (known_in pass.old.me.0 ++ known_in other.me.0), pass.old.me.1) }
+{
+    table.shared.join_seat::<Gathers>(pass, other);
+}
+
+/// Makes one more pass with the claims of committed commands that a pass has.
+pub(crate) fn copy(table: &LogTable, pass: &mut LogPass) -> LogPass
+    requires { (pass.old.table_id ≡ table.now.shared.table_id) × (table.now.shared.table_id.words ≡ 1) }
+    ensures same { (pass.new.table_id ≡ pass.old.table_id) × (pass.new.me ≡ pass.old.me) }
+    ensures given { (result.table_id ≡ pass.old.table_id) × (result.me ≡ (gathered_view (known_in pass.old.me.0), [])) }
+{
+    table.shared.split_seat::<Copies>(pass)
 }

@@ -1,43 +1,59 @@
 //! Logs and claims whose name is not in their type.
 //!
-//! A call that picks a name cannot return what has that name in its type. A log and its claims leave
-//! the call without it: contracts then see the table that the name was of.
+//! A call that picks a name cannot return what has that name in its type. A log and its claims
+//! leave the call without it: contracts then see the table that the name was of.
 
 ghost use Rattle.std.specs.Prelude.{◌≡◌, IfOk};
+ghost use Rattle.std.specs.List.{AllByRecursion};
 ghost use Rattle.command_log.specs.Log.{empty_log, IsCommitted};
 
+use crate::gathering::LogDesk;
+use crate::name::LogName;
 use crate::rule::{LogPass, LogTable};
 use crate::steps;
 use std::alloc::{AllocError, Global};
-use std::marker::Model;
+use std::marker::{Model, PhantomData};
+use std::sync::Arc;
 
 /// A log whose name is not in its type. Contracts see its table, and the log.
 #[derive(Drop)]
 pub struct UnnamedLog {
-    pub(crate) table: LogTable,
+    pub(crate) table: Arc<LogTable, Global>,
     pub(crate) keeper: LogPass,
 }
 
 impl Model for UnnamedLog {
     ghost use Rattle.std.specs.Prelude.{◌≡◌, ◌≤◌, length};
+    ghost use Rattle.std.specs.Arc.{arc_value};
     ghost use Rattle.command_log.specs.Log.{LogOfTable};
     ghost use Rattle.command_log.specs.Passes.{log_in, IsKeeper};
 
     ghost Value = { LogOfTable };
 
-    ghost view = { λ l. record { table = l.table.shared.table_id; log = log_in l.keeper.me.0 } };
+    ghost view = { λ l. record { table = (arc_value l.table).shared.table_id; log = log_in l.keeper.me.0 } };
 
-    ghost invariant = { λ l. (l.table.shared.table_id.words ≡ 1) × (l.keeper.table_id ≡ l.table.shared.table_id) × IsKeeper l.keeper.me.0 × (l.keeper.me.0.committed ≤ length l.keeper.me.0.commands) };
+    ghost invariant = { λ l. ((arc_value l.table).shared.table_id.words ≡ 1) × (l.keeper.table_id ≡ (arc_value l.table).shared.table_id) × IsKeeper l.keeper.me.0 × (l.keeper.me.0.committed ≤ length l.keeper.me.0.commands) };
 }
 
 impl UnnamedLog {
-    /// Makes a log in which nothing is accepted yet. The call takes the memory of one word, and no
-    /// later call takes any.
+    /// Makes a log in which nothing is accepted yet. The call takes the memory of one word and of
+    /// the table that has it, and no later call takes any.
     pub fn new(alloc: Global) -> Result<UnnamedLog, AllocError>
         ensures { IfOk result (λ new. new.log ≡ empty_log) }
     {
         let (table, keeper) = LogTable::of_words(alloc, &[0], &())?;
+        let table = Arc::new(alloc, table)?;
         Ok(UnnamedLog { table, keeper })
+    }
+
+    /// What puts claims of this log together. The call is refused where the log has 2^63 desks.
+    pub fn desk<B: LogName>(&self) -> Result<LogDesk<B>, AllocError>
+        requires { self.now.table ≡ B.table }
+    {
+        Ok(LogDesk {
+            table: Arc::try_clone(&self.table)?,
+            name: PhantomData,
+        })
     }
 
     /// The command of a claim of this log is among the committed ones, at its index. The call
@@ -49,6 +65,17 @@ impl UnnamedLog {
     {
         let UnnamedClaim { pass } = logged;
         steps::compare(&self.table, &mut self.keeper, pass);
+    }
+
+    /// The commands of all claims of a list of this log are among the committed ones, each at its
+    /// index. The call compares nothing.
+    pub fn find_all(&mut self, list: &mut UnnamedList)
+        requires { list.old.table ≡ self.old.table }
+        ensures same { (self.new ≡ self.old) × (list.new ≡ list.old) }
+        ensures found { AllByRecursion (IsCommitted self.old.log) list.old.claims }
+    {
+        let copy = steps::copy(&self.table, &mut list.pass);
+        steps::compare(&self.table, &mut self.keeper, copy);
     }
 }
 
@@ -69,4 +96,23 @@ impl Model for UnnamedClaim {
     ghost view = { λ a. record { table = a.pass.table_id; claim = claim_in a.pass.me.0 } };
 
     ghost invariant = { λ a. a.pass.me ≡ (claim_view true (claim_in a.pass.me.0), []) };
+}
+
+/// Claims of committed commands, of a log whose name is not in its type. Contracts see the log's
+/// table, and the claims.
+#[derive(Drop)]
+pub struct UnnamedList {
+    pub(crate) pass: LogPass,
+}
+
+impl Model for UnnamedList {
+    ghost use Rattle.std.specs.Prelude.{◌≡◌, []};
+    ghost use Rattle.command_log.specs.Log.{ClaimsOfTable};
+    ghost use Rattle.command_log.specs.Passes.{known_in};
+
+    ghost Value = { ClaimsOfTable };
+
+    ghost view = { λ a. record { table = a.pass.table_id; claims = known_in a.pass.me.0 } };
+
+    ghost invariant = { λ a. a.pass.me.1 ≡ [] };
 }

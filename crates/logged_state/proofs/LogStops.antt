@@ -1,6 +1,7 @@
 -- What a stop leaves, by the log.
-use Rattle.std.proofs.Common.{◌≡◌, ℕ, zero, suc, ◌+◌, ◌<◌, List, [], ◌∷◌, take, Some, ◌∙◌, subst, arith}
+use Rattle.std.proofs.Common.{◌≡◌, ℕ, zero, suc, ◌+◌, ◌<◌, List, [], ◌∷◌, take, Some, ◌∙◌, refl, subst, arith}
 use Rattle.std.specs.Prelude.{slice_get}
+use Rattle.std.specs.List.{AllByRecursion}
 use Rattle.path_rows.specs.Database.{RowView}
 use Rattle.path_rows.specs.declared.command.Command.{Command}
 use Rattle.store_layout.specs.Opening.{StoreValue, OpensTo}
@@ -9,9 +10,10 @@ use Rattle.ckpt_pair.specs.Versions.{latest}
 use Rattle.store_open.specs.PathStores.{store_format}
 use Rattle.group_core.specs.StateView.{StateView}
 use Rattle.group_core.specs.Stops.{MayOpen}
-use Rattle.command_log.specs.Log.{Log, Claim, IsCommitted}
+use Rattle.command_log.specs.declared.rule.Claim.{Claim}
+use Rattle.command_log.specs.Log.{Log, IsCommitted}
 use Rattle.logged_state.specs.LoggedView.{IsLogOf}
-use Rattle.logged_state.specs.Left.{OpensToLog, OpensWith}
+use Rattle.logged_state.specs.Left.{OpensToLog, OpensWith, OpensWithAll}
 use Rattle.logged_state.proofs.LogCommits.{then_front, pending_is}
 
 pub opens_to_log : (opening : StoreValue (List RowView)) (log : Log) (view : StateView) → IsLogOf opening log view → (image : List ℕ) → MayOpen view image → OpensToLog opening log image
@@ -44,3 +46,10 @@ opens_with opening log place claim at found image opens =
       has = get_take log.commands opens.count claim.index claim.command (omega (arith, below, committed)) found.has;
       opens = opens.opens;
     }
+
+-- the same of each of some claims
+pub opens_with_all : (opening : StoreValue (List RowView)) (log : Log) (claims : List Claim) → AllByRecursion (IsCommitted log) claims
+    → (image : List ℕ) → OpensToLog opening log image → OpensWithAll opening claims image
+opens_with_all opening log [] found image opens = tt
+opens_with_all opening log (claim ∷ claims) found image opens =
+    (opens_with opening log (opening.place + claim.index) claim refl found.0 image opens, opens_with_all opening log claims found.1 image opens)

@@ -2,7 +2,7 @@
 use Rattle.std.specs.Prelude.{◌≡◌, ◌+◌, List, Result, Ok, Err}
 use Rattle.path_rows.specs.Database.{RowView}
 use Rattle.store_layout.specs.Opening.{StoreValue}
-use Rattle.command_log.specs.Log.{Claim}
+use Rattle.command_log.specs.declared.rule.Claim.{Claim}
 use Rattle.group_core.specs.declared.ticket.Ticket.{Ticket}
 use Rattle.group_core.specs.declared.ticket.Receipt.{Receipt}
 use Rattle.group_core.specs.declared.ticket.Redeemed.{Redeemed}

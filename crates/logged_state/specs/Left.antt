@@ -1,5 +1,6 @@
 -- What a state with a log leaves of its device.
 use Rattle.std.specs.Prelude.{◌≡◌, ℕ, ◌+◌, ◌≤◌, List, length, take, Some, slice_get, Result, Ok, Err}
+use Rattle.std.specs.List.{AllByRecursion}
 use Rattle.path_rows.specs.Database.{RowView}
 use Rattle.path_rows.specs.declared.command.Command.{Command}
 use Rattle.sector_dev.specs.Disk.{Disk}
@@ -7,6 +8,7 @@ use Rattle.store_layout.specs.Opening.{StoreValue, OpensTo}
 use Rattle.store_layout.specs.StoreValues.{value_after}
 use Rattle.ckpt_pair.specs.Versions.{latest}
 use Rattle.store_open.specs.PathStores.{store_format}
+use Rattle.command_log.specs.declared.rule.Claim.{Claim}
 use Rattle.command_log.specs.Log.{Log}
 use Rattle.group_core.specs.Ending.{HasNothingOut}
 use Rattle.logged_state.specs.LoggedView.{LoggedView}
@@ -29,6 +31,10 @@ pub record OpensWith (opening : StoreValue (List RowView)) (place : ℕ) (comman
   pub at : place ≡ opening.place + index
   pub has : slice_get commands index ≡ Some command
   pub opens : OpensTo store_format latest image (value_after store_format opening commands)
+
+-- The image opens to the opening value after commands that have each claimed command at its place.
+abbrev pub OpensWithAll : StoreValue (List RowView) → List Claim → List ℕ → Type 0
+OpensWithAll opening claims image = AllByRecursion (λ claim. OpensWith opening (opening.place + claim.index) claim.command image) claims
 
 -- The device is returned as it is, with the log, or the state is returned where something is left.
 abbrev pub HandsOutLog : {D : Type 0} → (D → Disk) → Result (D × Log) LoggedView → LoggedView → Type 0

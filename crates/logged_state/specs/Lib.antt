@@ -2,3 +2,4 @@ pub mod ReceiptView
 pub mod LoggedView
 pub mod Claims
 pub mod Left
+pub mod LeftView

@@ -1,35 +1,56 @@
 //! The log that a state leaves.
 
 ghost use Rattle.std.specs.Prelude.{◌≡◌, ◌+◌, ℕ, List};
+ghost use Rattle.std.specs.List.{AllByRecursion};
 ghost use Rattle.path_rows.specs.Database.{RowView};
 ghost use Rattle.store_layout.specs.Opening.{StoreValue};
 ghost use Rattle.command_log.specs.Log.{IsCommitted};
-ghost use Rattle.logged_state.specs.Left.{OpensToLog, OpensWith};
+ghost use Rattle.logged_state.specs.Left.{OpensToLog, OpensWith, OpensWithAll};
 
-use command_log::{UnnamedClaim, UnnamedLog};
+use command_log::{UnnamedClaim, UnnamedList, UnnamedLog};
 use std::marker::Model;
 
-/// The log of a state that has ended. Contracts see the log, and its table, which claims of the
-/// state have too.
+/// The log of a state that has ended, with the claims of commands that were acknowledged. Contracts
+/// see both, and the log's table, which claims of the state have too.
 #[derive(Drop)]
 pub struct Left {
     log: UnnamedLog,
+    acknowledged: UnnamedList,
 }
 
 impl Model for Left {
-    ghost use Rattle.command_log.specs.Log.{LogOfTable};
+    ghost use Rattle.std.specs.Prelude.{◌≡◌};
+    ghost use Rattle.logged_state.specs.LeftView.{LeftView};
 
-    ghost Value = { LogOfTable };
+    ghost Value = { LeftView };
 
-    ghost view = { λ left. left.log };
+    ghost view = { λ left. record {
+      table = left.log.table;
+      log = left.log.log;
+      acknowledged = left.acknowledged.claims;
+    } };
+
+    ghost invariant = { λ left. left.acknowledged.table ≡ left.log.table };
 }
 
 impl Left {
-    /// What is left of a state of this log.
-    pub fn of(log: UnnamedLog) -> Left
-        ensures { result ≡ log }
+    /// What is left of a state of this log, and of who acknowledged its commands.
+    pub fn of(log: UnnamedLog, acknowledged: UnnamedList) -> Left
+        requires { acknowledged.table ≡ log.table }
+        ensures { result ≡ record { table = log.table; log = log.log; acknowledged = acknowledged.claims } }
     {
-        Left { log }
+        Left { log, acknowledged }
+    }
+
+    /// Each command that was acknowledged is among the committed ones, at its index. So each image
+    /// that opens to this log opens with each of these commands at its place. The call compares
+    /// nothing.
+    pub fn find_acknowledged(&mut self)
+        ensures same { self.new ≡ self.old }
+        ensures found { AllByRecursion (IsCommitted self.old.log) self.old.acknowledged }
+        ensures opens { (opening : StoreValue (List RowView)) (image : List ℕ) → OpensToLog opening self.old.log image → OpensWithAll opening self.old.acknowledged image }
+    {
+        self.log.find_all(&mut self.acknowledged);
     }
 
     /// The command of a claim of this log is among the committed ones, at its index. So each image
@@ -38,7 +59,8 @@ impl Left {
         requires { claim.table ≡ self.old.table }
         ensures same { self.new ≡ self.old }
         ensures found { IsCommitted self.old.log claim.claim }
-        ensures opens { (opening : StoreValue (List RowView)) (image : List ℕ) → OpensToLog opening self.old.log image → OpensWith opening (opening.place + claim.claim.index) claim.claim.command image }
+        ensures opens { (opening : StoreValue (List RowView)) (image : List ℕ) → OpensToLog opening self.old.log image
+            → OpensWith opening (opening.place + claim.claim.index) claim.claim.command image }
     {
         self.log.find(claim);
     }

@@ -3,10 +3,10 @@
 //!
 //! To the layer above: `LoggedState` has the calls of `group_core::State`, with their contracts.
 //! `submit_logged` also returns the claim of the command, and `redeem_logged` gives a receipt that
-//! has a claim in place of a snapshot, so that it may cross threads. The state is what the opening value and the
-//! log lead to: the committed commands make its value, and the others are pending. So what a stop
-//! leaves of an honest device opens to the opening value after a front of the log that has all
-//! committed commands, and each receipt's command at its place.
+//! has a claim in place of a snapshot, so that it may cross threads. The state is what the opening
+//! value and the log lead to: the committed commands make its value, and the others are pending. So
+//! what a stop leaves of an honest device opens to the opening value after a front of the log that
+//! has all committed commands, and each receipt's command at its place.
 #![tactic(auto)]
 
 mod checkpointer;
@@ -24,7 +24,10 @@ mod staging;
 mod state;
 mod submitting;
 
-pub use command_log::{Accepted, CommandLog, LogName, Logged, UnnamedClaim, UnnamedLog};
+pub use command_log::{
+    Accepted, CommandLog, LogDesk, LogName, Logged, LoggedList, UnnamedClaim, UnnamedList,
+    UnnamedLog,
+};
 pub use left::Left;
 pub use name::StateName;
 pub use receipt::{LoggedReceipt, LoggedRedeemed};

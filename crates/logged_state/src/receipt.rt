@@ -1,9 +1,9 @@
 //! Receipts of a state with a log.
 
-ghost use Rattle.std.specs.Prelude.{◌≡◌, ◌+◌, None};
+ghost use Rattle.std.specs.Prelude.{◌≡◌, ◌+◌, None, [], ◌∷◌, ◌++◌};
 
 use crate::name::StateName;
-use command_log::{Accepted, Logged};
+use command_log::{Accepted, LogDesk, Logged, LoggedList};
 use group_core::{Receipt, Ticket};
 use path_db::Outcome;
 use std::marker::Model;
@@ -75,6 +75,14 @@ impl<B: StateName, N> LoggedReceipt<B, N> {
         ensures taken { self.new ≡ record self.old { note = None } }
     {
         self.note.take()
+    }
+
+    /// Adds the claim that the command is committed to a list. The receipt keeps it too.
+    pub fn add_to(&mut self, desk: &LogDesk<B>, list: &mut LoggedList<B>)
+        ensures claims { list.new ≡ list.old ++ self.old.logged ∷ [] }
+        ensures same { self.new ≡ self.old }
+    {
+        desk.add(list, &mut self.logged);
     }
 
     /// The claim that the command is committed: the place counts from that of the opening value.

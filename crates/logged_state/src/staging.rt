@@ -1,13 +1,13 @@
-//! Staging, and beginning a checkpoint.
+//! Staging, and preparing and beginning a checkpoint.
 
 ghost use Rattle.std.specs.Prelude.{◌≡◌};
 ghost use Rattle.group_core.specs.Stops.{StepLeaves};
 ghost use Rattle.group_core.specs.Staging.{Stages};
-ghost use Rattle.group_core.specs.Beginning.{BeginsCheckpoint};
+ghost use Rattle.group_core.specs.Beginning.{BeginsCheckpoint, PreparesCheckpoint};
 
 use crate::name::StateName;
 use crate::state::LoggedState;
-use group_core::{BeginError, Plan, Showcase, StageError, Staged};
+use group_core::{BeginError, Plan, Prepared, Showcase, StageError, Staged};
 use sector_dev::Device;
 
 impl<D: Device, S: Showcase, B: StateName> LoggedState<D, S, B> {
@@ -18,6 +18,15 @@ impl<D: Device, S: Showcase, B: StateName> LoggedState<D, S, B> {
         ensures log { self.new.log ≡ self.old.log }
     {
         self.state.stage()
+    }
+
+    /// `State::prepare`.
+    pub fn prepare(&mut self) -> Result<Prepared, BeginError>
+        ensures step { PreparesCheckpoint result self.old.state self.new.state }
+        ensures any_moment { StepLeaves self.old.state self.new.state }
+        ensures log { self.new.log ≡ self.old.log }
+    {
+        self.state.prepare()
     }
 
     /// `State::begin`.

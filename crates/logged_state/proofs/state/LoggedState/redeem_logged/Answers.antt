@@ -2,7 +2,7 @@ use Rattle.std.proofs.Common.{◌≡◌, ◌<◌, ap, ◌∙◌, subst}
 use Rattle.group_core.specs.Redeeming.{IsReceipt, redeemed}
 use Rattle.logged_state.specs.LoggedView.{LoggedView}
 use Rattle.logged_state.specs.Claims.{receipt_in}
-use Rattle.command_log.specs.Log.{Claim}
+use Rattle.command_log.specs.declared.rule.Claim.{Claim}
 use Rattle.logged_state.proofs.Receipts.{receipt_is}
 use Rattle.logged_state.proofs.state.LoggedState.redeem_logged.Goals as goal
 
