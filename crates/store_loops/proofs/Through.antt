@@ -1,5 +1,5 @@
 -- What stays known of a call's answer once the lock is free.
-use Rattle.std.proofs.Common.{◌≡◌, ℕ, ◌<◌, List, Option, Some, None, Result, Ok, Err, MatchOption, subst, sym}
+use Rattle.std.proofs.Common.{ℕ, ◌<◌, List, Option, Some, None, Result, Ok, Err, MatchOption, subst, sym}
 use Rattle.path_rows.specs.Database.{RowView}
 use Rattle.path_rows.specs.declared.command.Command.{Command}
 use Rattle.store_layout.specs.Opening.{StoreValue}
@@ -26,12 +26,12 @@ use Rattle.group_core.specs.declared.values.Commit.{Commit}
 use Rattle.group_core.specs.Values.{IsSame}
 use Rattle.group_core.specs.StateView.{StateView}
 use Rattle.group_core.specs.declared.phases.AtPlan.{AtPlan}
-use Rattle.group_core.specs.Steps.{FlushStep, CheckStep, WritesChunk, SyncsChunks, WritesGate, SyncsHalf, SyncsClose, chunk_written, at_phase, half_counts, half_ready}
+use Rattle.group_core.specs.Steps.{FlushStep, CheckStep, WritesChunk, SyncsChunks, WritesGate, SyncsHalf, SyncsClose, at_phase, half_counts, half_ready}
 use Rattle.group_core.specs.Submitting.{Submits}
 use Rattle.group_core.specs.Redeeming.{Redeems}
 use Rattle.group_core.specs.Publishing.{PublishStep}
 use Rattle.group_core.specs.Following.{Follows, PublishFollowedStep}
-use Rattle.store_loops.specs.Receipts.{IsTicketOrCommand, IsShownAbove, IsReceiptOf, IsRedeemed, LeadsOn, LeadsOut, IsHandedIn, IsFollowedOrBack, IsPassedOn}
+use Rattle.store_loops.specs.Receipts.{IsTicketOrCommand, IsShownAbove, IsRedeemed, LeadsOn, LeadsOut, IsHandedIn, IsFollowedOrBack, IsPassedOn}
 
 pub taken : (command : Command) (result : Result Ticket (Command × SubmitError)) (old new : StateView) → Submits command result old new → IsTicketOrCommand command result
 taken command (Ok ticket) old new step = step.2.shows
@@ -81,7 +81,12 @@ check_ends turn value gives after failed (Err Stopped) old new step = tt
 check_ends turn value gives after failed (Err Damaged) old new step = tt
 
 pub chunk_leads : (value : Commit AtPlan) (result : Result (Commit AtPlan) (StepError AtPlan)) (old new : StateView) → WritesChunk value result old new → LeadsOn value result
-chunk_leads value result old new step = check_leads _ value _ (λ next s. s.same) (chunk_written old) _ result old new step
+chunk_leads value (Ok next) old new step = step.2.same
+chunk_leads value (Err (Stranger back)) old new step = step.1
+chunk_leads value (Err (NoMemory back)) old new step = absurd step
+chunk_leads value (Err Fault) old new step = tt
+chunk_leads value (Err Stopped) old new step = tt
+chunk_leads value (Err Damaged) old new step = tt
 
 pub chunks_lead : {Q : Type 0} (value : Commit AtPlan) (result : Result (Commit Q) (StepError AtPlan)) (old new : StateView) → SyncsChunks value result old new → LeadsOn value result
 chunks_lead value result old new step = check_leads _ value _ (λ next s. s) (at_phase laid old) _ result old new step

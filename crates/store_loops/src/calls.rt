@@ -15,7 +15,7 @@ pub enum DeviceCall {
     WriteFollowing,
     /// The flusher syncs them, and the gate of the group in flight.
     SyncFollowed,
-    /// The checkpointer reads the sealed half, and plans the new checkpoint.
+    /// The checkpointer reads a piece of the sealed half, or plans the new checkpoint.
     Begin,
     /// The checkpointer writes a chunk of the new checkpoint.
     WriteChunk,

@@ -1,21 +1,25 @@
 //! What the checkpointer does until the state has stopped.
 
+ghost use Rattle.std.specs.Prelude.{◌≡◌, IfErr};
+ghost use Rattle.group_core.specs.declared.beginning.BeginError.TheVariants as begin_refused;
+
 use crate::retrying::{after_refusal, retry};
 use crate::steps::{Awaited, Steps};
 use crate::watch::{Notice, Watch};
-use group_core::{BeginError, Closing, Laid, Plan};
+use group_core::{BeginError, Closing, Laid, Plan, Prepared};
 use std::sync::Wait;
 
 /// Folds each sealed journal into the other half, and says when a checkpoint begins and when it is
-/// made. The loop ends once the state has stopped; where another refusal is met, the call is made
-/// again after a rest.
+/// made. The half is read in pieces before that, a call for each. The loop ends once the state has
+/// stopped; where another refusal is met, the call is made again after a rest.
 pub fn checkpointer_loop<R: Wait, S: Steps, W: Watch>(rt: &R, steps: &S, watch: &W)
     ensures stopped { S.has_stopped steps.now }
 {
     for _ in rt.forever() {
         let seen = steps.changes(Awaited::Seal);
-        match steps.begin() {
-            Ok(plan) => {
+        match begin_prepared(steps) {
+            Ok(None) => {}
+            Ok(Some(plan)) => {
                 watch.note(Notice::CheckpointBegun);
                 if fold(rt, steps, plan).is_some() {
                     watch.note(Notice::CheckpointDone);
@@ -26,6 +30,17 @@ pub fn checkpointer_loop<R: Wait, S: Steps, W: Watch>(rt: &R, steps: &S, watch: 
         }
     }
     unreachable!()
+}
+
+/// Prepares the next piece of a checkpoint, and begins it once all pieces are prepared. Returns
+/// `None` where there are more pieces.
+fn begin_prepared<S: Steps>(steps: &S) -> Result<Option<Plan>, BeginError>
+    ensures { IfErr result (λ e. e ≡ begin_refused.Stopped → S.has_stopped steps.now) }
+{
+    match steps.prepare()? {
+        Prepared::Part => Ok(None),
+        Prepared::Whole => Ok(Some(steps.begin()?)),
+    }
 }
 
 /// Takes a plan through all its steps. Returns `None` where the state has stopped in between, and

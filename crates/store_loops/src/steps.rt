@@ -8,8 +8,8 @@ ghost use Rattle.store_loops.specs.Receipts.{IsTicketOrCommand, IsRedeemed, Lead
 use group_core::{
     AtClosing, AtFollowed, AtFollowing, AtLaid, AtLive, AtOpened, AtPlan, AtStable, AtStaged,
     AtSwitched, AtWritten, BeginError, Closing, Commit, Durable, DurableFollowed, FollowError,
-    Followed, Following, Laid, Live, Opened, Plan, PublishError, PublishFollowedError, Redeemed,
-    Stable, StageError, Staged, StepError, SubmitError, Switched, Ticket, Written,
+    Followed, Following, Laid, Live, Opened, Plan, Prepared, PublishError, PublishFollowedError,
+    Redeemed, Stable, StageError, Staged, StepError, SubmitError, Switched, Ticket, Written,
 };
 use path_db::Command;
 
@@ -101,7 +101,12 @@ pub trait Steps {
     fn publish_followed(&self, value: DurableFollowed) -> Result<Stable, PublishFollowedError>
         ensures { IsPassedOn value result };
 
-    /// Begins a checkpoint of the sealed half.
+    /// Reads the next piece of the sealed half, at most 256 sectors, for a checkpoint that is begun
+    /// after that.
+    fn prepare(&self) -> Result<Prepared, BeginError>
+        ensures { IfErr result (λ e. e ≡ begin_refused.Stopped → has_stopped self.now) };
+
+    /// Begins a checkpoint of the sealed half. What is not prepared of it is read first.
     fn begin(&self) -> Result<Plan, BeginError>
         ensures { IfErr result (λ e. e ≡ begin_refused.Stopped → has_stopped self.now) };
 
