@@ -5,7 +5,7 @@ use Rattle.std.specs.Result.{ForOk, ForErr}
 use Rattle.path_rows.specs.Database.{RowView}
 use Rattle.path_rows.specs.declared.command.Command.{Command}
 use Rattle.store_layout.specs.Opening.{StoreValue}
-use Rattle.command_log.specs.Log.{Claim}
+use Rattle.command_log.specs.declared.rule.Claim.{Claim}
 use Rattle.group_core.specs.declared.ticket.Ticket.{Ticket}
 use Rattle.group_core.specs.declared.ticket.Redeemed.TheVariants.{Committed}
 use Rattle.group_core.specs.Redeeming.{Redeems}

@@ -1,7 +1,8 @@
 -- What a hub shares between threads.
 use denote.RattleType.{RattleType}
-use denote.Param.Send.{IsSend, IsSync, sendable, recorded_send, recorded_sync, struct_send, struct_sync}
+use denote.Param.Send.{IsSend, IsSync, sendable, recorded_send, recorded_sync, struct_send, struct_sync, enum_send, view_send}
 use denote.Struct.Declared.{shape}
+use denote.Enum.Declared.{shape as enum_shape}
 use Rattle.std.proofs.Crossing.{crosses, Deque-send, Arc-send}
 use Rattle.std.proofs.MapsCrossing.{crosses as maps_cross}
 use Rattle.std.proofs.MapsCrossingOver.{crosses as sets_cross}
@@ -23,9 +24,9 @@ use Rattle.atomic_table.proofs.send_lease.SendLease.TheSendSync as lease
 use Rattle.hub_board.specs.contracts.board.Board as Board
 use Rattle.sector_dev.specs.declared.device.Device as device
 use Rattle.command_log.specs.declared.name.LogName as named
-use Rattle.command_log.specs.contracts.claims.Accepted as Accepted
-use Rattle.command_log.specs.contracts.claims.Logged as Logged
-use Rattle.command_log.specs.contracts.log.CommandLog as CommandLog
+use Rattle.command_log.specs.contracts.gathering.LoggedList as LoggedList
+use Rattle.command_log.specs.contracts.gathering.LogDesk as LogDesk
+use Rattle.command_log.proofs.Sent.{accepted_send, logged_send, list_send, log_send}
 use Rattle.logged_state.specs.declared.name.StateName as opened
 use Rattle.logged_state.specs.contracts.receipt.LoggedReceipt as LoggedReceipt
 use Rattle.logged_state.specs.contracts.state.LoggedState as LoggedState
@@ -40,6 +41,18 @@ use Rattle.path_rows.specs.contracts.row.Row as Row
 use Rattle.rising_map.specs.contracts.map.RisingMap as RisingMap
 use Rattle.row_edits.specs.contracts.pour.Pour as Pour
 use Rattle.ckpt_stream.specs.contracts.merge.Merge as Merge
+use Rattle.row_edits.proofs.note.RowsNote.TheSendSync as note
+use Rattle.row_edits.specs.contracts.plan.Plan as Plan
+use Rattle.row_edits.specs.contracts.planner.Planner as Planner
+use Rattle.gate_journal.specs.contracts.scanner.Scan as Scan
+use Rattle.gate_journal.specs.contracts.scanner.Scanner as Scanner
+use Rattle.ckpt_pair.specs.contracts.reading.Front as Front
+use Rattle.ckpt_pair.specs.contracts.row_stream.RowStream as RowStream
+use Rattle.ckpt_stream.specs.contracts.old_journal.JournalRead as JournalRead
+use Rattle.ckpt_stream.specs.contracts.old_rows.RowsRead as RowsRead
+use Rattle.ckpt_stream.specs.contracts.old_rows.PlannedRows as PlannedRows
+use Rattle.ckpt_stream.specs.contracts.half_read.HalfRead as HalfRead
+use Rattle.ckpt_stream.specs.contracts.preparation.Preparation as Preparation
 use Rattle.group_core.specs.declared.showcase.Showcase as show
 use Rattle.group_core.specs.contracts.state.State as State
 use Rattle.path_rows.specs.contracts.command.Command as Command
@@ -49,16 +62,14 @@ use Rattle.path_hub.specs.contracts.hub.Hub as Hub
 use Rattle.path_hub.specs.contracts.show.HubShow as HubShow
 use Rattle.path_hub.specs.contracts.reader.HubReader as HubReader
 
--- what a pass of a log is in
-module _ (N : RattleType) (l : named.Ghosts N.Denot) (n : IsSend N) where
-  accepted_send : IsSend (Accepted.the_row N l)
-  accepted_send = search (sendable, crosses, seat.the_send) depth 30 fits 20000
+-- what puts claims together
+desk_sync : (N : RattleType) (l : named.Ghosts N.Denot) → IsSync N → IsSync (LogDesk.the_field N l).row
+desk_sync N l m = struct_sync (shape (LogDesk.the_type N l))
+    (search (sendable, crosses, seat.the_send, shared.the_send, shared.the_sync, lease.the_send, lease.the_sync) depth 60 fits 20000, (search (sendable, crosses) depth 20, tt))
 
-  logged_send : IsSend (Logged.the_row N l)
-  logged_send = search (sendable, crosses, seat.the_send) depth 30 fits 20000
-
-  log_send : IsSend (CommandLog.the_row N l)
-  log_send = search (sendable, crosses, seat.the_send, shared.the_send, shared.the_sync, lease.the_send, lease.the_sync) depth 60 fits 20000
+-- claims that were put together, under a lock
+acknowledged_sync : (N : RattleType) (l : named.Ghosts N.Denot) → IsSend N → IsSync (Mutex.the_row (LoggedList.the_row N l))
+acknowledged_sync N l n = search (crosses, list_send) depth 12
 
 module _ (N : RattleType) (s : opened.Ghosts N.Denot) (l : named.Ghosts N.Denot) (q : queue.Ghosts N.Denot) (n : IsSend N) where
   note_send : IsSend (HubNote.the_row N s l q)
@@ -131,11 +142,50 @@ pour_send : IsSend Pour.the_row
 pour_send = search (sendable, crosses, row_send) depth 60 fits 20000
 
 merge_send : IsSend Merge.the_row
-merge_send = search (sendable, crosses, pour_send) depth 60 fits 20000
+merge_send = search (view_send, recorded_send, struct_send, sendable, crosses, pour_send, note.the_send) depth 80 fits 50000
+
+front_send : IsSend (Front.the_field).row
+front_send = search (sendable, crosses) depth 60 fits 20000
+
+scan_send : IsSend (Scan.the_field).row
+scan_send = search (sendable, crosses, command_send) depth 60 fits 20000
+
+scanner_send : IsSend Scanner.the_row
+scanner_send = search (sendable, crosses, command_send) depth 60 fits 20000
+
+plan_send : IsSend (Plan.the_field).row
+plan_send = search (sendable, crosses, row_send) depth 60 fits 20000
+
+planner_send : IsSend (Planner.the_field).row
+planner_send = search (sendable, crosses, segment_send) depth 60 fits 20000
+
+stream_send : IsSend RowStream.the_row
+stream_send = search (sendable, crosses) depth 60 fits 20000
+
+journal_read_send : IsSend (JournalRead.the_field).row
+journal_read_send = struct_send (shape JournalRead.the_type) (front_send, (search (sendable, crosses), (scanner_send, tt)))
+
+rows_read_send : IsSend (RowsRead.the_field).row
+rows_read_send =
+    struct_send (shape RowsRead.the_type)
+    (front_send, (scan_send, (planner_send, (stream_send, (note.the_send, (search (sendable, crosses) depth 20, (search (sendable, crosses), tt)))))))
+
+planned_rows_send : IsSend (PlannedRows.the_field).row
+planned_rows_send =
+    struct_send (shape PlannedRows.the_type)
+    (front_send, (scan_send, (plan_send, (note.the_send, (search (sendable, crosses) depth 20, tt)))))
+
+half_read_send : IsSend (HalfRead.the_field).row
+half_read_send =
+    enum_send (enum_shape HalfRead.the_type)
+    (tt, ((journal_read_send, tt), ((rows_read_send, tt), ((planned_rows_send, tt), tt))))
+
+preparation_send : IsSend Preparation.the_row
+preparation_send = search (sendable, crosses, half_read_send) depth 60 fits 20000
 
 module _ (D S M : RattleType) (d : device.Ghosts D.Denot) (g : show.Ghosts S.Denot M.Denot) (e : IsSend D) (t : IsSend S) where
   state_send : IsSend (State.the_row D S M d g)
-  state_send = search (sendable, crosses, kept_send, db_send, command_send, merge_send) depth 60 fits 20000
+  state_send = search (sendable, crosses, kept_send, db_send, command_send, merge_send, preparation_send) depth 60 fits 20000
 
 module _ (D S N M : RattleType) (d : device.Ghosts D.Denot) (g : show.Ghosts S.Denot M.Denot) (s : opened.Ghosts N.Denot) (l : named.Ghosts N.Denot) (e : IsSend D) (t : IsSend S) (n : IsSend N) where
   with_log_send : IsSend (LoggedState.the_row D S N M d g s l)
@@ -153,4 +203,4 @@ board_sync = search (sendable, crosses) depth 80 fits 50000
 
 module _ (D N R : RattleType) (s : opened.Ghosts N.Denot) (l : named.Ghosts N.Denot) (q : queue.Ghosts N.Denot) (d : device.Ghosts D.Denot) (h : hub.Ghosts N.Denot) (w : wait.Ghosts R.Denot) (e : IsSend D) (n : IsSend N) (m : IsSync N) (r : IsSend R) (t : IsSync R) where
   pub hub_sync : IsSync (Hub.the_row D N R s l q d h w)
-  hub_sync = recorded_sync _ _ _ (Hub.the_type D N R s l q d h w).to_one (struct_sync (shape (Hub.the_type D N R s l q d h w)) (t, (search (sendable, crosses), (queue_sync N s l q n, (search (sendable, crosses), (under_way_sync N s l q n, (search (crosses, with_log_send, show_send) depth 12, (search (sendable, crosses) depth 20 fits 5000, (board_sync, (search (sendable, crosses), (readers_sync N R h s l q n m r, tt)))))))))))
+  hub_sync = recorded_sync _ _ _ (Hub.the_type D N R s l q d h w).to_one (struct_sync (shape (Hub.the_type D N R s l q d h w)) (t, (search (sendable, crosses), (queue_sync N s l q n, (search (sendable, crosses), (under_way_sync N s l q n, (search (crosses, with_log_send, show_send) depth 12, (search (sendable, crosses) depth 20 fits 5000, (board_sync, (search (sendable, crosses), (readers_sync N R h s l q n m r, (desk_sync N l m, (acknowledged_sync N l n, tt)))))))))))))

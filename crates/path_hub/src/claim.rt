@@ -11,8 +11,8 @@ use std::marker::Model;
 use std::sync::{Arc, Wait};
 
 /// A claim on the answer to a command that was handed in at the hub of this name. Contracts see a
-/// claim as that command. Only the hub makes one. Where a claim is dropped, its command is committed
-/// or refused as any other, and nobody has the answer.
+/// claim as that command. Only the hub makes one. Where a claim is dropped, its command is
+/// committed or refused as any other, and nobody has the answer.
 #[derive(Drop)]
 pub struct HubClaim<N: HubName> {
     claim: Claim<N>,

@@ -6,7 +6,7 @@ ghost use Rattle.sector_dev.specs.Image.{EveryImage};
 ghost use Rattle.group_core.specs.Starting.{value_of_store};
 ghost use Rattle.path_rows.specs.declared.command.Command.{Command};
 ghost use Rattle.path_hub.specs.declared.error.HubError.TheVariants.{NoMemory, NoReader};
-ghost use Rattle.logged_state.specs.Left.{OpensToLog};
+ghost use Rattle.logged_state.specs.Left.{OpensToLog, OpensWithAll};
 
 use crate::error::HubError;
 use crate::hub::Hub;
@@ -89,7 +89,12 @@ pub fn with_crew<
 ) -> (D, Option<Left>, Result<u64, HubError>)
     // Whatever the threads did and however the call ends, a device that is honest opens to the log
     // that is left. Where none is left, no hub was made, and the device is the store's.
-    ensures left { IfSome result.1 (λ left. IsHonest (D.disk result.0) → EveryImage (D.disk result.0).history.now (OpensToLog (value_of_store store) left.log)) }
+    ensures left { IfSome result.1 (λ left. IsHonest (D.disk result.0)
+        → EveryImage (D.disk result.0).history.now (OpensToLog (value_of_store store) left.log)) }
+
+    // That has each command at its place whose claim was handed in as acknowledged.
+    ensures acknowledged { IfSome result.1 (λ left. IsHonest (D.disk result.0)
+        → EveryImage (D.disk result.0).history.now (OpensWithAll (value_of_store store) left.acknowledged)) }
     ensures unmade { IfNone result.1 (D.disk result.0 ≡ store.disk) }
     ensures made { OnOk result.2 (IsSome result.1) }
     ensures why { IfErr result.2 (λ e. (e ≡ NoMemory) ⊎ (e ≡ NoReader)) }
@@ -119,6 +124,7 @@ fn named_crew<
     requires history { name.history.seen.book ≡ N.history }
     requires refusals { (command : Command) → N.refused command ≡ true }
     ensures left { IfSome result.1 (λ left. IsHonest (D.disk result.0) → EveryImage (D.disk result.0).history.now (OpensToLog N.opening left.log)) }
+    ensures acknowledged { IfSome result.1 (λ left. IsHonest (D.disk result.0) → EveryImage (D.disk result.0).history.now (OpensWithAll N.opening left.acknowledged)) }
     ensures unmade { IfNone result.1 (D.disk result.0 ≡ store.disk) }
     ensures made { OnOk result.2 (IsSome result.1) }
     ensures why { IfErr result.2 (λ e. (e ≡ NoMemory) ⊎ (e ≡ NoReader)) }
@@ -132,8 +138,8 @@ fn named_crew<
     (device, Some(left), attended)
 }
 
-/// Runs the thread that wakes others while the actors run and guests are attended to, and then stops
-/// the state.
+/// Runs the thread that wakes others while the actors run and guests are attended to, and then
+/// stops the state.
 fn act<
     N: HubName + Send + Sync,
     D: Device + Send,
@@ -171,15 +177,36 @@ fn run_actors<
     thread::scope(
         thread::scope_env(),
         rt,
-        |actors| -> Result<u64, HubError>
+        |checkpointer| -> Result<u64, HubError>
             ensures { IfErr result (λ e. e ≡ NoMemory) }
         {
-            if actors.spawn(move || fold(rt, hub, crew)).is_err() {
+            if checkpointer.spawn(move || fold(rt, hub, crew)).is_err() {
                 return Err(HubError::NoMemory);
             }
             hub.expect_threads();
-            if actors.spawn(move || flush(rt, hub, crew)).is_err() {
-                hub.stop();
+            let attended = run_flusher(rt, hub, crew);
+            hub.stop();
+            attended
+        },
+    )
+}
+
+/// Runs the flusher while guests are attended to, and then stops it.
+fn run_flusher<
+    N: HubName + Send + Sync,
+    D: Device + Send,
+    C: Crew<D, R> + Sync,
+    R: Wait + Clock + Threads + Drop + Send + Sync,
+>(rt: &R, hub: &Hub<D, N, R>, crew: &C) -> Result<u64, HubError>
+    ensures { IfErr result (λ e. e ≡ NoMemory) }
+{
+    thread::scope(
+        thread::scope_env(),
+        rt,
+        |flusher| -> Result<u64, HubError>
+            ensures { IfErr result (λ e. e ≡ NoMemory) }
+        {
+            if flusher.spawn(move || flush(rt, hub, crew)).is_err() {
                 return Err(HubError::NoMemory);
             }
             let attended = attend_all(rt, hub, crew);

@@ -11,8 +11,8 @@ use crate::show::{HubNote, HubShow};
 use group_core::{
     AtClosing, AtFollowed, AtFollowing, AtLaid, AtLive, AtOpened, AtPlan, AtStable, AtStaged,
     AtSwitched, AtWritten, BeginError, Closing, Commit, Durable, DurableFollowed, FollowError,
-    Followed, Following, Laid, Live, Opened, Plan, PublishError, PublishFollowedError, Redeemed,
-    Stable, StageError, Staged, StepError, SubmitError, Switched, Ticket, Written,
+    Followed, Following, Laid, Live, Opened, Plan, Prepared, PublishError, PublishFollowedError,
+    Redeemed, Stable, StageError, Staged, StepError, SubmitError, Switched, Ticket, Written,
 };
 use hub_board::Done;
 use logged_state::LoggedState;
@@ -20,8 +20,12 @@ use path_db::Command;
 use sector_dev::Device;
 use std::sync::atomic::Ordering;
 use std::sync::{MutexGuard, Wait};
-use std::time::Clock;
+use std::time::{Clock, Duration};
 use store_loops::{Awaited, DeviceCall, Steps};
+
+/// How long the checkpointer leaves the state's lock to others between two pieces that it prepares,
+/// in milliseconds.
+const BETWEEN_PIECES: u64 = 1;
 
 /// The state of a hub, with its log.
 pub(crate) type HubState<D, N, R> = LoggedState<D, HubShow<N, R>, N>;
@@ -52,6 +56,21 @@ impl<D: Device, N: HubName, R: Wait + Clock> Hub<D, N, R> {
     /// Wakes all that wait, where a step found that the state must stop.
     fn wake_if_stopped<T, P>(&self, next: &Result<T, StepError<P>>) {
         if let Err(StepError::Fault | StepError::Damaged) = next {
+            self.changes.announce_stop();
+        }
+    }
+
+    /// Leaves the state's lock to the threads that wait for it, for 1 millisecond. A thread that takes
+    /// the lock again as soon as it has given it up is mostly faster than those that wait.
+    fn leave_lock(&self) {
+        let seen = self.changes.count(Awaited::Seal);
+        let most = Duration::from_millis(BETWEEN_PIECES);
+        self.changes.rest_for(&self.rt, Awaited::Seal, seen, most);
+    }
+
+    /// Wakes all that wait, where the reading of a sealed half found that the state must stop.
+    fn wake_if_refused<T>(&self, read: &Result<T, BeginError>) {
+        if let Err(BeginError::Fault | BeginError::Damaged) = read {
             self.changes.announce_stop();
         }
     }
@@ -204,13 +223,22 @@ impl<D: Device, N: HubName, R: Wait + Clock> Steps for Hub<D, N, R> {
         published
     }
 
+    fn prepare(&self) -> Result<Prepared, BeginError> {
+        let mut state = self.begin_call(DeviceCall::Begin);
+        let prepared = state.prepare();
+        self.end_call(state, Done::Nothing);
+        self.wake_if_refused(&prepared);
+        if let Ok(Prepared::Part) = prepared {
+            self.leave_lock();
+        }
+        prepared
+    }
+
     fn begin(&self) -> Result<Plan, BeginError> {
         let mut state = self.begin_call(DeviceCall::Begin);
         let begun = state.begin();
         self.end_call(state, Done::Nothing);
-        if let Err(BeginError::Fault | BeginError::Damaged) = begun {
-            self.changes.announce_stop();
-        }
+        self.wake_if_refused(&begun);
         begun
     }
 

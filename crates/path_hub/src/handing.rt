@@ -181,7 +181,7 @@ impl<D: Device, N: HubName, R: Wait + Clock> Hub<D, N, R> {
         self.put(&slot, Answer::refused(claim, NotCommitted::Refused(why)));
     }
 
-    /// Puts an answer where it goes, and notes that its bell is to be rung.
+    /// Puts an answer where it goes, and notes that its bell must be rung.
     fn put(&self, slot: &Slot<N>, answer: Answer<N>) {
         let number = answer.number();
         slot.put(&self.rt, answer);

@@ -15,6 +15,7 @@ use crate::reader::HubReader;
 use command_queue::{CommandQueue, NotQueued};
 use group_core::{Numbers, SubmitError};
 use hub_board::{Board, Changes, Completed, LONGEST_REST};
+use logged_state::{LogDesk, LoggedList};
 use path_db::Command;
 use sector_dev::Device;
 use std::alloc::{AllocError, Global};
@@ -26,12 +27,12 @@ use store_loops::{Awaited, DeviceCall, Steps};
 /// The number of readers of a hub.
 pub const READERS: usize = 64;
 
-/// A store's state under one lock, a queue of commands for it under another, and the readers of what
-/// it shows, under one name.
+/// A store's state under one lock, a queue of commands for it under another, and the readers of
+/// what it shows, under one name.
 ///
-/// The lock's value is a `LoggedState`, so what that type says of a state and its log holds whenever
-/// the lock is free: a stop at that moment leaves an image that opens to what the hub opened with
-/// after a front of the log, which has at least all committed commands.
+/// The lock's value is a `LoggedState`, so what that type says of a state and its log holds
+/// whenever the lock is free: a stop at that moment leaves an image that opens to what the hub
+/// opened with after a front of the log, which has at least all committed commands.
 pub struct Hub<D: Device, N: HubName, R: Wait + Clock> {
     pub(crate) rt: R,
     pub(crate) alloc: Global,
@@ -46,6 +47,9 @@ pub struct Hub<D: Device, N: HubName, R: Wait + Clock> {
     /// Whether an actor has given up a stranger.
     pub(crate) has_stranger: AtomicBool,
     pub(crate) readers: Mutex<Vec<HubReader<N>>>,
+    pub(crate) desk: LogDesk<N>,
+    /// The claims of the commands that sessions which have ended had acknowledged.
+    pub(crate) acknowledged: Mutex<LoggedList<N>>,
 }
 
 impl<D: Device, N: HubName, R: Wait + Clock> Hub<D, N, R> {
@@ -70,6 +74,18 @@ impl<D: Device, N: HubName, R: Wait + Clock> Hub<D, N, R> {
     /// Gives a reader back.
     pub fn give_back(&self, reader: HubReader<N>) {
         let _ = self.readers.lock(&self.rt).push(reader);
+    }
+
+    /// What puts claims of receipts together. Its calls wait for nobody.
+    pub fn desk(&self) -> &LogDesk<N> {
+        &self.desk
+    }
+
+    /// Takes the claims of the commands that a session has acknowledged. The hub's log has each of
+    /// them at its end. A list cannot be dropped, so who has one hands it in.
+    pub fn keep_acknowledged(&self, acknowledged: LoggedList<N>) {
+        let mut all = self.acknowledged.lock(&self.rt);
+        self.desk.append(&mut all, acknowledged);
     }
 
     /// Submits a command, and waits until it is committed. The receipt shows the command, and its
@@ -109,8 +125,8 @@ impl<D: Device, N: HubName, R: Wait + Clock> Hub<D, N, R> {
 
     /// Waits for the answer to a command that was handed in. The receipt shows the command, and its
     /// note a place above the command's own. A command that is not accepted is refused. Where the
-    /// state stops before the command is committed, the error has the command's place, and it is not
-    /// known whether the store keeps the command. The state's lock is not taken.
+    /// state stops before the command is committed, the error has the command's place, and it is
+    /// not known whether the store keeps the command. The state's lock is not taken.
     pub fn settle(&self, claim: HubClaim<N>) -> Result<HubReceipt<N>, HubError>
         ensures committed { IfOk result (ReceiptShows N.opening claim) }
         ensures why { IfErr result RefusesCommand }

@@ -11,8 +11,8 @@
 //!
 //! To the layer above: `Hub::hand_in` returns a claim of the command that was passed, and
 //! `Hub::settle` returns a receipt of the command of a claim, once the command is committed;
-//! `Hub::register` does both. `HubReader::lookup` answers from what is published, which is never older
-//! than what this reader was shown or has learnt.
+//! `Hub::register` does both. `HubReader::lookup` answers from what is published, which is never
+//! older than what this reader was shown or has learnt.
 #![tactic(auto)]
 
 mod answer;
@@ -36,7 +36,9 @@ pub use crew::{Crew, with_crew};
 pub use error::HubError;
 pub use hub::{Hub, READERS};
 pub use hub_board::Completed;
-pub use logged_state::{Left, Logged, LoggedReceipt, UnnamedClaim};
+pub use logged_state::{
+    Left, LogDesk, Logged, LoggedList, LoggedReceipt, UnnamedClaim, UnnamedList,
+};
 pub use making::{HubJob, with_hub};
 pub use name::HubName;
 pub use published::Published;

@@ -8,7 +8,7 @@ ghost use Rattle.group_core.specs.Starting.{value_of_store};
 ghost use Rattle.path_rows.specs.declared.command.Command.{Command};
 ghost use Rattle.path_hub.specs.declared.error.HubError.TheVariants.{NoMemory, NoReader};
 ghost use Rattle.path_hub.specs.Shown.{IsShownAfter};
-ghost use Rattle.logged_state.specs.Left.{OpensToLog};
+ghost use Rattle.logged_state.specs.Left.{OpensToLog, OpensWithAll};
 
 use crate::error::HubError;
 use crate::handing::{AllUnderWay, MOST_UNDER_WAY, give_up_all};
@@ -49,7 +49,7 @@ pub trait HubJob<D: Device, R: Wait + Clock> {
 
 /// Makes a hub over a store, and does the job with it. At the end the state is taken apart, and the
 /// device is returned with the log of all commands that the state accepted. An honest device opens
-/// to that log. The caller gives each state of a process a home number of its own. Where the hub
+/// to that log, with each command at its place whose claim was handed in as acknowledged. The caller gives each state of a process a home number of its own. Where the hub
 /// cannot be made, the store is returned unchanged, with the job.
 pub fn with_hub<D: Device, J: HubJob<D, R>, R: Wait + Clock + Copy>(
     rt: R,
@@ -60,6 +60,7 @@ pub fn with_hub<D: Device, J: HubJob<D, R>, R: Wait + Clock + Copy>(
 ) -> Result<(J::Out, D, Left), (Store<D>, J, HubError)>
     ensures done { IfOk result (λ done. J.does job done.0 done.2.table) }
     ensures left { IfOk result (λ done. IsHonest (D.disk done.1) → EveryImage (D.disk done.1).history.now (OpensToLog (value_of_store store) done.2.log)) }
+    ensures acknowledged { IfOk result (λ done. IsHonest (D.disk done.1) → EveryImage (D.disk done.1).history.now (OpensWithAll (value_of_store store) done.2.acknowledged)) }
     ensures back { IfErr result (λ back. (back.0 ≡ store) × (back.1 ≡ job)) }
     ensures why { IfErr result (λ back. (back.2 ≡ NoMemory) ⊎ (back.2 ≡ NoReader)) }
 {
@@ -84,6 +85,7 @@ fn do_with<N: HubName + Send + Sync, D: Device, J: HubJob<D, R>, R: Wait + Clock
     requires refusals { (command : Command) → N.refused command ≡ true }
     ensures done { IfOk result (λ done. J.does job done.0 done.2.table) }
     ensures left { IfOk result (λ done. IsHonest (D.disk done.1) → EveryImage (D.disk done.1).history.now (OpensToLog N.opening done.2.log)) }
+    ensures acknowledged { IfOk result (λ done. IsHonest (D.disk done.1) → EveryImage (D.disk done.1).history.now (OpensWithAll N.opening done.2.acknowledged)) }
     ensures back { IfErr result (λ back. (back.0 ≡ store) × (back.1 ≡ job)) }
     ensures why { IfErr result (λ back. (back.2 ≡ NoMemory) ⊎ (back.2 ≡ NoReader)) }
 {
@@ -115,6 +117,9 @@ impl<D: Device, N: HubName, R: Wait + Clock> Hub<D, N, R> {
         ensures back { IfErr result (λ back. back.0 ≡ store) }
         ensures why { IfErr result (λ back. (back.1 ≡ NoMemory) ⊎ (back.1 ≡ NoReader)) }
     {
+        let Ok(desk) = name.log.desk::<N>() else {
+            return Err((store, HubError::NoMemory));
+        };
         let Ok(writer) = new_writer::<N>(alloc, store.db(), store.place()) else {
             return Err((store, HubError::NoMemory));
         };
@@ -144,16 +149,20 @@ impl<D: Device, N: HubName, R: Wait + Clock> Hub<D, N, R> {
             board,
             has_stranger: AtomicBool::new(false),
             readers: Mutex::new(readers),
+            acknowledged: Mutex::new(desk.list()),
+            desk,
         })
     }
 
     /// Ends the hub, which no one else has, and returns its device with the log of all commands
-    /// that its state accepted. An honest device opens to that log. The call waits for readers that
+    /// that its state accepted. An honest device opens to that log, with each command at its place
+    /// whose claim was handed in as acknowledged. The call waits for readers that
     /// are within a lookup.
     pub(crate) fn close(self) -> (D, Left)
     where
         R: Drop,
         ensures left { IsHonest (D.disk result.0) → EveryImage (D.disk result.0).history.now (OpensToLog N.opening result.1.log) }
+        ensures acknowledged { IsHonest (D.disk result.0) → EveryImage (D.disk result.0).history.now (OpensWithAll N.opening result.1.acknowledged) }
         ensures table { result.1.table ≡ N.table }
     {
         let Hub {
@@ -167,12 +176,17 @@ impl<D: Device, N: HubName, R: Wait + Clock> Hub<D, N, R> {
             board: _board,
             has_stranger: _has_stranger,
             readers: _readers,
+            desk: _desk,
+            acknowledged,
         } = self;
         let mut state = state.into_inner();
         give_up_all(&mut state, under_way.into_inner());
         let (device, show, log) = state.into_parts();
         show.close();
-        (device, Left::of(log.unnamed()))
+        let (log, acknowledged) = log.unnamed_with(acknowledged.into_inner());
+        let mut left = Left::of(log, acknowledged);
+        left.find_acknowledged();
+        (device, left)
     }
 }
 

@@ -3,9 +3,6 @@ use Rattle.std.proofs.Crossing.{crosses}
 use Rattle.path_hub.proofs.Sent.{hub_sync}
 use Rattle.path_hub.proofs.crew.fn.run_actors.scope.Goals as goal
 
--- each thread has the hub and the crew
+-- the thread has the hub and the crew
 pub spawn-requires-send-F : goal.spawn-requires-send-F
 spawn-requires-send-F g c κs within = search (sendable, crosses, hub_sync) depth 20 fits 5000
-
-pub spawn-requires-2-send-F : goal.spawn-requires-2-send-F
-spawn-requires-2-send-F g c κs within = search (sendable, crosses, hub_sync) depth 20 fits 5000
