@@ -1,16 +1,28 @@
 -- What a session of a hub has read, answered and sent when it ends.
-use Rattle.std.specs.Prelude.{ℕ, List, Result}
+use Rattle.std.specs.Prelude.{ℕ, Bool, List, Result}
+use Rattle.path_rows.specs.declared.command.Command.{Command}
+use Rattle.path_rows.specs.Database.{RowView}
+use Rattle.store_layout.specs.Opening.{StoreValue}
+use Rattle.command_log.specs.declared.rule.Claim.{Claim}
 use Rattle.seg_check.specs.Signatures.{Verdicts}
 use Rattle.seg_lookup.specs.Roster.{RosterView}
 use Rattle.session_core.specs.declared.error.FrameError.{FrameError}
-use Rattle.session_core.specs.Frames.{MessageView}
-use Rattle.session_core.specs.Reply.{ReplyView}
 use Rattle.path_hub.specs.Sight.{Sight}
 use Rattle.path_session.specs.Serving.{Serving, beginning}
+use Rattle.path_session.specs.Answered.{HubAnswers}
+use Rattle.path_session.specs.Acknowledged.{AreClaimed}
 use Rattle.paced_stream.specs.Connection.{IsConnectionServed}
 
--- A service over a hub, which began by some reader, served a session over a connection.
-abbrev pub IsHubServed : {T : Type 0} → (Serving → MessageView → ReplyView → Serving → Type 0) → (T → List ℕ) → (T → List ℕ) → (T → Type 0) → RosterView → Verdicts
-    → T → T → T → T → Result ℕ FrameError → Type 0
-IsHubServed answers given taken is_at_end roster verifies input input_left output output_left result =
-    (reader : Sight) × (last : Serving) × IsConnectionServed answers given taken is_at_end (beginning roster verifies reader) last input input_left output output_left result
+-- A service over a hub served a session over a connection. The hub opened with this value, and of
+-- its commands it is known which ones were refused.
+pub record IsHubServed {T : Type 0} (opening : StoreValue (List RowView)) (refused : Command → Bool) (given taken : T → List ℕ) (is_at_end : T → Type 0) (roster : RosterView) (verifies : Verdicts)
+    (input input_left output output_left : T) (result : Result ℕ FrameError) (claims : List Claim) : Type 0 where
+  -- The reader by which the service began.
+  pub reader : Sight
+  -- The service after the last message.
+  pub last : Serving
+  -- The messages that the connection gave, the replies to them, and the bytes that it took.
+  pub connection : IsConnectionServed (HubAnswers opening refused) given taken is_at_end (beginning roster verifies reader) last input input_left output output_left result
+  -- The claims are those of the acknowledgements among the replies: each is of its message's
+  -- command, at its place.
+  pub acknowledged : AreClaimed opening connection.served.exchanges claims

@@ -1,7 +1,6 @@
 //! The session of one peer of a server.
 
 ghost use Rattle.std.specs.Prelude.{IfSome};
-ghost use Rattle.path_session.specs.Answered.{HubAnswers};
 ghost use Rattle.path_server.specs.Attending.{IsHubServed};
 
 use crate::ends::{Circumstances, cause_of};
@@ -10,7 +9,7 @@ use crate::reports::{Report, Reports};
 use crate::server::Server;
 use crate::turning_away::turn_away;
 use paced_stream::{Ended, StreamCalls, SystemStream, serve_connection};
-use path_hub::{Hub, HubName};
+use path_hub::{Hub, HubName, LoggedList};
 use path_session::{HubService, SystemNow};
 use sector_dev::Device;
 use seg_check::Verifier;
@@ -24,7 +23,8 @@ use std::time::Clock;
 const MOST_DRAINS: u64 = 64;
 
 impl<L: OpenListener<Stream = TcpStream> + Drop, V: Verifier, O: Reports> Server<'_, L, V, O> {
-    /// Serves the peer of a seat, frees the seat, and closes the connection.
+    /// Serves the peer of a seat, hands in the claims of the commands that were acknowledged, frees
+    /// the seat, and closes the connection.
     pub(crate) fn attend_session<D: Device, N: HubName, R: Wait + Clock>(
         &self,
         hub: &Hub<D, N, R>,
@@ -37,23 +37,29 @@ impl<L: OpenListener<Stream = TcpStream> + Drop, V: Verifier, O: Reports> Server
         };
         let input = SystemStream::new(&peer.stream);
         let output = SystemStream::new(&peer.stream);
-        let served = self.serve(hub, input, output);
-        self.seats.leave(rt, number);
-        match served {
-            Some(ended) => self.note_end(rt, &peer.stream, peer.address, &ended),
-            None => turn_away(&peer.stream),
+        match self.serve(hub, input, output) {
+            Some((ended, claims)) => {
+                hub.keep_acknowledged(claims);
+                self.seats.leave(rt, number);
+                self.note_end(rt, &peer.stream, peer.address, &ended);
+            }
+            None => {
+                self.seats.leave(rt, number);
+                turn_away(&peer.stream);
+            }
         }
     }
 
-    /// Serves a peer by a reader of the hub. The result is `None` where there is no reader.
+    /// Serves a peer by a reader of the hub, and returns with the end the claims of all commands
+    /// that were acknowledged. The result is `None` where there is no reader.
     fn serve<D: Device, N: HubName, R: Wait + Clock, T: StreamCalls + Drop>(
         &self,
         hub: &Hub<D, N, R>,
         input: T,
         output: T,
-    ) -> Option<Ended<T>>
-        ensures { IfSome result (λ ended. IsHubServed (HubAnswers N.opening N.refused) T.given T.taken T.is_at_end
-            self.now.options.now.cores (V.verifies self.now.verifier.now) input ended.input output ended.output ended.replies) }
+    ) -> Option<(Ended<T>, LoggedList<N>)>
+        ensures { IfSome result (λ served. IsHubServed N.opening N.refused T.given T.taken T.is_at_end
+            self.now.options.now.cores (V.verifies self.now.verifier.now) input served.0.input output served.0.output served.0.replies served.1) }
     {
         let reader = hub.reader().ok()?;
         let rt = hub.handle();
@@ -62,8 +68,9 @@ impl<L: OpenListener<Stream = TcpStream> + Drop, V: Verifier, O: Reports> Server
         let mut counted = Counted::new(service, &self.replies);
         let idle = self.options.idle;
         let ended = serve_connection(rt, self.alloc, input, output, &mut counted, idle);
-        hub.give_back(counted.into_service().into_reader());
-        Some(ended)
+        let (reader, acknowledged) = counted.into_service().into_parts();
+        hub.give_back(reader);
+        Some((ended, acknowledged))
     }
 
     /// Counts the end of a session, reports it if it ended by a fault and a report is due, and

@@ -4,7 +4,7 @@ ghost use Rattle.std.specs.Prelude.{◌≡◌, IfNone, IfSome, IsSome, OnOk};
 ghost use Rattle.sector_dev.specs.Disk.{IsHonest};
 ghost use Rattle.sector_dev.specs.Image.{EveryImage};
 ghost use Rattle.group_core.specs.Starting.{value_of_store};
-ghost use Rattle.logged_state.specs.Left.{OpensToLog};
+ghost use Rattle.logged_state.specs.Left.{OpensToLog, OpensWithAll};
 
 use crate::error::RunError;
 use crate::listeners::Listeners;
@@ -55,9 +55,10 @@ pub fn run_on<
 }
 
 /// Serves sessions as `run_on` does, and returns the device, with the log of all commands that were
-/// accepted. An honest device opens to the store's rows and place after a front of that log with all
-/// committed commands, whatever the sessions did and however the call ends. Where no log is left,
-/// nothing was served, and the device is the store's.
+/// accepted. An honest device opens to the store's rows and place after a front of that log with
+/// all committed commands, whatever the sessions did and however the call ends. So it has each
+/// command at its place that a session acknowledged: each session hands in the claims of those
+/// commands at its end. Where no log is left, nothing was served, and the device is the store's.
 pub fn serve_store<
     R: System,
     L: OpenListener<Stream = TcpStream> + Drop + Send,
@@ -71,7 +72,10 @@ pub fn serve_store<
     options: &Options,
     reports: &O,
 ) -> (D, Option<Left>, Result<u64, RunError>)
-    ensures left { IfSome result.1 (λ left. IsHonest (D.disk result.0) → EveryImage (D.disk result.0).history.now (OpensToLog (value_of_store store) left.log)) }
+    ensures left { IfSome result.1 (λ left. IsHonest (D.disk result.0)
+        → EveryImage (D.disk result.0).history.now (OpensToLog (value_of_store store) left.log)) }
+    ensures acknowledged { IfSome result.1 (λ left. IsHonest (D.disk result.0)
+        → EveryImage (D.disk result.0).history.now (OpensWithAll (value_of_store store) left.acknowledged)) }
     ensures unmade { IfNone result.1 (D.disk result.0 ≡ store.disk) }
     ensures made { OnOk result.2 (IsSome result.1) }
 {
@@ -97,7 +101,10 @@ fn serve_checked<
     verifier: &V,
     reports: &O,
 ) -> (D, Option<Left>, Result<u64, RunError>)
-    ensures left { IfSome result.1 (λ left. IsHonest (D.disk result.0) → EveryImage (D.disk result.0).history.now (OpensToLog (value_of_store store) left.log)) }
+    ensures left { IfSome result.1 (λ left. IsHonest (D.disk result.0)
+        → EveryImage (D.disk result.0).history.now (OpensToLog (value_of_store store) left.log)) }
+    ensures acknowledged { IfSome result.1 (λ left. IsHonest (D.disk result.0)
+        → EveryImage (D.disk result.0).history.now (OpensWithAll (value_of_store store) left.acknowledged)) }
     ensures unmade { IfNone result.1 (D.disk result.0 ≡ store.disk) }
     ensures made { OnOk result.2 (IsSome result.1) }
 {

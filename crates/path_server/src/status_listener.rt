@@ -23,7 +23,7 @@ impl<L: Drop> StatusListener<L> {
         }
     }
 
-    /// Whether a thread is to be asked for the listener, as it is once where there is one.
+    /// Whether a thread must be asked for the listener, as it is once where there is one.
     pub(crate) fn offer<R: Wait>(&self, rt: &R) -> bool {
         !self.is_offered.swap(true, Ordering::SeqCst) && self.listener.lock(rt).is_some()
     }

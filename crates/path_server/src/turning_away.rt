@@ -15,7 +15,7 @@ use std::net::{Shutdown, TcpStream};
 const READS: u64 = 4;
 
 /// The most bytes that one of these reads drops.
-const PIECE: usize = 4_096;
+const MOST_DRAINED: usize = 4_096;
 
 /// Refuses a peer where no seat is free, and closes its side of the connection. The peer is sent
 /// one reply, with the code of `Refusal::NoReader`. The call does not wait: the buffer of a new
@@ -33,7 +33,7 @@ pub(crate) fn turn_away(stream: &TcpStream) {
 /// Drops the bytes that have arrived, in at most `READS` reads, until a read fails or finds the
 /// end.
 fn drain(mut stream: &TcpStream) {
-    let mut piece = [0u8; PIECE];
+    let mut piece = [0u8; MOST_DRAINED];
     for _ in 0..READS {
         match stream.read(&mut piece) {
             Ok(0) | Err(_) => return,

@@ -1,1 +1,2 @@
 mod ServingLemmas
+pub mod Acknowledging

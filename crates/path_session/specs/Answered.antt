@@ -1,5 +1,5 @@
 -- What a service over a hub answers to a message, and what the service is then.
-use Rattle.std.specs.Prelude.{◌≡◌, ℕ, ◌+◌, ◌<◌, ◌≤◌, ◌⊎◌, Bool, true, List, length, Option, Some, None, Result, Ok, Err, IsOk}
+use Rattle.std.specs.Prelude.{◌≡◌, ℕ, ◌+◌, ◌<◌, ◌≤◌, ◌⊎◌, Bool, true, List, [], ◌∷◌, ◌++◌, length, Option, Some, None, Result, Ok, Err, IsOk}
 use mathlib.Core.List.{IsPrefix}
 use Rattle.seg_slots.specs.declared.error.SegError.{SegError}
 use Rattle.seg_core.specs.declared.seg_type.SegType.{SegType}
@@ -38,8 +38,9 @@ module _ (opening : StoreValue (List RowView)) where
   pub record AcknowledgesCommit (old : Serving) (c : Command) (ack : Ack) (new : Serving) : Type 0 where
     -- The hub's receipt, without its note.
     pub receipt : ReceiptView ℕ
-    -- The service keeps the receipt, and what it has seen may grow.
-    pub kept : new ≡ record old { seen = new.seen; last = Some receipt }
+    -- The service keeps the receipt, and its claim with those of the acknowledgements before, and
+    -- what it has seen may grow.
+    pub kept : new ≡ record old { seen = new.seen; last = Some receipt; acknowledged = old.acknowledged ++ receipt.logged ∷ [] }
     -- The receipt claims that the log of the hub's state has the command at its index.
     pub shows : receipt.logged.command ≡ c
     -- The receipt's place is that of the index: it counts from the hub's opening value.

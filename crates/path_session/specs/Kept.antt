@@ -9,4 +9,12 @@ use Rattle.path_session.specs.Serving.{Serving}
 -- A service as contracts see it, by the verdicts of its verifier.
 abbrev pub serving : {D N R V C : Type 0} → {s : opened.Ghosts N} → {l : named.Ghosts N} → {q : queue.Ghosts N} → (V → Verdicts) → HubService D N R V C s l q → Serving
 serving verifies s =
-    record { roster = s.roster.now; verifies = verifies s.verifier.now; groups = s.reader.groups; seen = s.reader.seen; moment = s.moment; last = s.last }
+    record {
+      roster = s.roster.now;
+      verifies = verifies s.verifier.now;
+      groups = s.reader.groups;
+      seen = s.reader.seen;
+      moment = s.moment;
+      last = s.last;
+      acknowledged = s.acknowledged;
+    }

@@ -5,3 +5,4 @@ pub mod Answered
 pub mod Taking
 pub mod UnderWay
 pub mod Kept
+pub mod Acknowledged

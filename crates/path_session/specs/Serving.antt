@@ -1,8 +1,9 @@
 -- What contracts see of a service over a hub.
-use Rattle.std.specs.Prelude.{ℕ, List, Option, None}
+use Rattle.std.specs.Prelude.{ℕ, List, [], Option, None}
 use Rattle.seg_check.specs.Signatures.{Verdicts}
 use Rattle.path_rows.specs.declared.command.Command.{Command}
 use Rattle.seg_lookup.specs.Roster.{RosterView}
+use Rattle.command_log.specs.declared.rule.Claim.{Claim}
 use Rattle.logged_state.specs.ReceiptView.{ReceiptView}
 use Rattle.path_hub.specs.Sight.{Sight}
 
@@ -21,6 +22,8 @@ pub record Serving : Type 0 where
   pub moment : ℕ
   -- The receipt of the last of its commands that was committed.
   pub last : Option (ReceiptView ℕ)
+  -- The claims of all its commands that were committed, in the order of their acknowledgements.
+  pub acknowledged : List Claim
 
 -- The service where a message is answered at a moment.
 abbrev pub at_moment : Serving → ℕ → Serving
@@ -29,4 +32,4 @@ at_moment serving moment = record serving { moment = moment }
 -- A service that has answered no message, by a reader.
 abbrev pub beginning : RosterView → Verdicts → Sight → Serving
 beginning roster verifies reader =
-    record { roster = roster; verifies = verifies; groups = reader.groups; seen = reader.seen; moment = 0; last = None }
+    record { roster = roster; verifies = verifies; groups = reader.groups; seen = reader.seen; moment = 0; last = None; acknowledged = [] }

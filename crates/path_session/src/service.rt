@@ -18,7 +18,7 @@ use crate::clock::Now;
 use crate::refused::{coded, refusal_of};
 use crate::under_way::HubUnderWay;
 use path_db::{Command, Registration};
-use path_hub::{Hub, HubClaim, HubName, HubReader, HubReceipt};
+use path_hub::{Hub, HubClaim, HubName, HubReader, HubReceipt, LoggedList};
 use reply_codes::{Refusal, check_all};
 use sector_dev::Device;
 use seg_check::Verifier;
@@ -30,7 +30,8 @@ use std::sync::Wait;
 use std::time::Clock;
 
 /// Answers the messages of one session from a hub, by a reader of its own. A service cannot be
-/// dropped. End it by `into_reader`, and give the reader back.
+/// dropped. End it by `into_reader`, and give the reader back; or by `into_parts`, and hand in the
+/// claims of the commands that were acknowledged, too.
 ///
 /// The clock is asked once for each registration that was read, when the service takes it, and once
 /// for each lookup that was classified. Signatures are checked before the hub is called, so under
@@ -46,6 +47,8 @@ pub struct HubService<'a, D: Device, N: HubName, R: Wait + Clock, V: Verifier, C
     moment: u64,
     /// The receipt of the last command that was committed. Its note is taken.
     last: Option<HubReceipt<N>>,
+    /// The claims of all commands that were committed, in the order of their acknowledgements.
+    acknowledged: LoggedList<N>,
 }
 
 impl<'a, D: Device, N: HubName, R: Wait + Clock, V: Verifier, C: Now> HubService<
@@ -74,15 +77,32 @@ impl<'a, D: Device, N: HubName, R: Wait + Clock, V: Verifier, C: Now> HubService
             roster,
             moment: 0,
             last: None,
+            acknowledged: hub.desk().list(),
         }
     }
 
-    /// Ends the service, and returns its reader.
+    /// Ends the service, and returns its reader. The claims of the commands that were acknowledged
+    /// are handed in to the hub.
     pub fn into_reader(self) -> HubReader<N>
     where
         C: Drop,
         ensures groups { result.groups ≡ (serving V.verifies self.entry).groups }
         ensures seen { result.seen ≡ (serving V.verifies self.entry).seen }
+    {
+        let hub = self.hub;
+        let (reader, claims) = self.into_parts();
+        hub.keep_acknowledged(claims);
+        reader
+    }
+
+    /// Ends the service, and returns its reader, and the claims of all commands that were
+    /// acknowledged.
+    pub fn into_parts(self) -> (HubReader<N>, LoggedList<N>)
+    where
+        C: Drop,
+        ensures groups { result.0.groups ≡ (serving V.verifies self.entry).groups }
+        ensures seen { result.0.seen ≡ (serving V.verifies self.entry).seen }
+        ensures acknowledged { result.1 ≡ (serving V.verifies self.entry).acknowledged }
     {
         let HubService {
             hub: _,
@@ -92,8 +112,9 @@ impl<'a, D: Device, N: HubName, R: Wait + Clock, V: Verifier, C: Now> HubService
             roster: _,
             moment: _,
             last: _last,
+            acknowledged,
         } = self;
-        reader
+        (reader, acknowledged)
     }
 
     // ---- taking messages
@@ -189,12 +210,13 @@ impl<'a, D: Device, N: HubName, R: Wait + Clock, V: Verifier, C: Now> HubService
         }
     }
 
-    /// Waits until a command is committed, learns its receipt and keeps it.
+    /// Waits until a command is committed, learns its receipt and keeps it, with its claim.
     fn commit(&mut self, claim: HubClaim<N>) -> Result<Ack, Refusal>
         ensures { IsCommandAnswered N.opening N.refused (serving V.verifies self.old) claim result (serving V.verifies self.new) }
     {
         let mut receipt = self.hub.settle(claim).map_err(refusal_of)?;
         self.reader.learn(&mut receipt);
+        receipt.add_to(self.hub.desk(), &mut self.acknowledged);
         let ack = Ack {
             place: receipt.place(),
             outcome: receipt.outcome(),

@@ -3,7 +3,7 @@
 use path_hub::{HubClaim, HubName};
 use reply_codes::Refusal;
 
-/// A command that a service over a hub has taken and not answered yet, or a message that is to be
+/// A command that a service over a hub has taken and not answered yet, or a message that will be
 /// refused.
 #[derive(Drop)]
 pub struct HubUnderWay<N: HubName> {
