@@ -62,8 +62,7 @@ impl Lines {
         self.desk.lock(rt).waiting.all_dropped()
     }
 
-    /// Waits for the next line, which is to be printed. The result is `None` once all were taken
-    /// and no more come.
+    /// Waits for the next line to print. The result is `None` once all were taken and no more come.
     fn next<R: Wait>(&self, rt: &R) -> Option<Taken> {
         let mut desk = self.came.wait_while(rt, self.desk.lock(rt), |desk| {
             desk.waiting.is_empty() && !desk.is_ended

@@ -26,8 +26,10 @@ pub(crate) fn options_of<'a>(alloc: Global, words: &ArgMatches<'a>) -> Result<Op
     ensures key { IfOk result (λ options. IsKeyOf (first_value (found_of words.now) (codes "key")) options.key) }
     ensures sessions { IfOk result (λ options. IsNumberOf (found_of words.now) (codes "sessions") 64 0 options.sessions) }
     ensures peers { IfOk result (λ options. IsNumberOf (found_of words.now) (codes "peer-sessions") 64 0 options.peer_sessions) }
-    ensures idle { IfOk result (λ options. (count : ℕ) × IsNumberOf (found_of words.now) (codes "idle") 32 300 count × (option_map as_nanos options.idle ≡ limit_of count)) }
-    ensures grace { IfOk result (λ options. (count : ℕ) × IsNumberOf (found_of words.now) (codes "grace") 32 10 count × (as_nanos options.grace ≡ count * 1_000_000_000)) }
+    ensures idle { IfOk result (λ options. (count : ℕ) × IsNumberOf (found_of words.now) (codes "idle") 32 300 count
+        × (option_map as_nanos options.idle ≡ limit_of count)) }
+    ensures grace { IfOk result (λ options. (count : ℕ) × IsNumberOf (found_of words.now) (codes "grace") 32 10 count
+        × (as_nanos options.grace ≡ count * 1_000_000_000)) }
 {
     let cores = Roster::new(cores_in(alloc, words)?);
     let key = key_in(alloc, words)?;

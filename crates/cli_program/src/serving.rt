@@ -11,13 +11,12 @@ use clap::ArgMatches;
 use cli_words::{CORES, QUIET, STOP_ON_END_OF_INPUT};
 use path_server::{Listeners, Options, run_on};
 use sector_dev::{Device, FileDevice, LastFault, SystemFile};
-use std::alloc::Global;
 use std::io::{Read, Write};
 use std::net::TcpListener;
 use std::sync::Arc;
 use std::time::Instant;
 use std::{io, thread};
-use store_open::{Store, open};
+use store_open::{Store, open_in_threads};
 
 /// What a server begins with.
 #[derive(Drop)]
@@ -84,8 +83,8 @@ fn site_of<'a, R: System>(rt: &R, words: &ArgMatches<'a>) -> Result<Site<'a>, Fa
     })
 }
 
-/// Serves the sessions of a store, and meanwhile announces that it does. Returns the number of
-/// sessions.
+/// Serves the sessions of a store in a thread of its own, and meanwhile announces that it does.
+/// Returns the number of sessions. Memory is refused where no thread is given.
 fn serve_beside<'a, R: System, I: Read + Drop + Send + 'static, O: Write>(
     rt: &R,
     site: Site<'a>,
@@ -94,23 +93,22 @@ fn serve_beside<'a, R: System, I: Read + Drop + Send + 'static, O: Write>(
     input: Option<I>,
     output: &mut O,
 ) -> Result<u64, Failure<'a>> {
-    let (served, announced) = thread::join(
-        rt,
-        || {
+    thread::scope(thread::scope_env(), rt, |threads| {
+        let Ok(serving) = threads.spawn(move || {
             let served = serve_site(site, options, notices);
             notices.note_over();
             served
-        },
-        || {
-            let announced = announce(notices, input, output);
-            if announced.is_err() {
-                notices.ask_for_end();
-            }
-            announced
-        },
-    );
-    announced?;
-    served
+        }) else {
+            return Err(Failure::Memory);
+        };
+        let announced = announce(notices, input, output);
+        if announced.is_err() {
+            notices.ask_for_end();
+        }
+        let served = serving.join(rt);
+        announced?;
+        served
+    })
 }
 
 /// Opens the store of a device and serves its sessions. Returns their number.
@@ -127,7 +125,7 @@ fn serve_site<'a, R: Host>(
     } = site;
     let rt = notices.host();
     let begun = Instant::now(rt).ok();
-    let store = store_of(rt.alloc(), path, device)?;
+    let store = store_of(rt, path, device)?;
     say_opened(rt, notices, path, &store, begun);
     say_addresses(rt.alloc(), notices, path, &store, &listeners);
     say_overfull(notices, &store);
@@ -138,13 +136,13 @@ fn serve_site<'a, R: Host>(
     Ok(count)
 }
 
-/// The store of a device.
-fn store_of<D: Device + Drop>(
-    alloc: Global,
-    path: &str,
+/// The store of a device, whose rows are read in threads.
+fn store_of<'a, R: Host, D: Device + Drop>(
+    rt: &R,
+    path: &'a str,
     device: D,
-) -> Result<Store<D>, Failure<'_>> {
-    match open(alloc, device) {
+) -> Result<Store<D>, Failure<'a>> {
+    match open_in_threads(rt, rt.alloc(), device) {
         Ok(store) => Ok(store),
         Err((_device, error)) => Err(Failure::Store(path, error.into())),
     }

@@ -1,4 +1,4 @@
-//! What the threads of the program tell one another of its server.
+//! What the threads of the program signal to one another about its server.
 
 use std::sync::atomic::{AtomicBool, Ordering};
 use std::sync::{Condvar, Mutex, Wait};
@@ -10,7 +10,7 @@ struct Stage {
     is_over: bool,
 }
 
-/// What the threads of the program tell one another of its server.
+/// What the threads of the program signal to one another about its server.
 #[derive(Drop)]
 pub(crate) struct Signals {
     stage: Mutex<Stage>,

@@ -74,7 +74,8 @@ impl Waiting {
         ensures waits { length self.old.lines.items < MOST_LINES → self.new.lines.items ≡ self.old.lines.items ++ line ∷ [] }
         ensures uncounted { length self.old.lines.items < MOST_LINES → (self.new.dropped ≡ self.old.dropped) × (self.new.all_dropped ≡ self.old.all_dropped) }
         ensures stays { MOST_LINES ≤ length self.old.lines.items → self.new.lines.items ≡ self.old.lines.items }
-        ensures counted { MOST_LINES ≤ length self.old.lines.items → (self.new.dropped ≡ min (self.old.dropped + 1) (2 ^ 64 - 1)) × (self.new.all_dropped ≡ min (self.old.all_dropped + 1) (2 ^ 64 - 1)) }
+        ensures counted { MOST_LINES ≤ length self.old.lines.items → (self.new.dropped ≡ min (self.old.dropped + 1) (2 ^ 64 - 1))
+            × (self.new.all_dropped ≡ min (self.old.all_dropped + 1) (2 ^ 64 - 1)) }
     {
         if self.lines.len() < MOST_LINES && self.lines.push_back(line).is_ok() {
             return;
@@ -86,7 +87,8 @@ impl Waiting {
     /// Takes the line that has waited longest, if one waits.
     pub(crate) fn take(&mut self) -> Option<Taken>
         ensures lines { self.old.lines.items ≡ option_to_list (option_map (λ taken. taken.line) result) ++ self.new.lines.items }
-        ensures dropped { MatchOption result ((self.old.lines.items ≡ []) × (self.new.dropped ≡ self.old.dropped)) (λ taken. (taken.dropped ≡ self.old.dropped) × (self.new.dropped ≡ 0)) }
+        ensures dropped { MatchOption result ((self.old.lines.items ≡ []) × (self.new.dropped ≡ self.old.dropped))
+            (λ taken. (taken.dropped ≡ self.old.dropped) × (self.new.dropped ≡ 0)) }
         ensures all { self.new.all_dropped ≡ self.old.all_dropped }
     {
         let line = self.lines.pop_front()?;

@@ -26,7 +26,7 @@ fn row_head(alloc: Global, row: &Row) -> Result<String, AllocError>
     ensures { IfOk result (λ text. string_bytes text ≡ row_head (row_view row.now)) }
 {
     let kind = type_word(row.kind);
-    let id = hex::encode(alloc, row.id.as_slice())?;
+    let id = hex::encode(alloc, row.id().as_slice())?;
     let timestamp = row.segment.timestamp();
     let expires = expiry(&row.segment);
     format!(in alloc; "{kind} {id} {timestamp} {expires}")
