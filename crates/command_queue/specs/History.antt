@@ -1,4 +1,4 @@
--- The rule of the history, and what its step tells.
+-- The rule of the history, and what one step of it makes known.
 use Rattle.std.specs.Prelude.{ℕ, ◌≡◌, ◌==◌, true, List, [], ◌∷◌, ◌++◌, length}
 use Rattle.std.specs.Bool.{OnTrue}
 use Rattle.logbook.specs.Pages.{Cell, Step, View, Book, Named}

@@ -6,8 +6,8 @@ use crate::history::QueueName;
 use path_db::Command;
 use std::marker::{Model, PhantomData};
 
-/// The leave to say of any command that it was refused. Each queue has one, and nothing outside this
-/// crate can use it: contracts see nothing of it. It has no bytes.
+/// The leave to say of any command that it was refused. Each queue has one, and nothing outside
+/// this crate can use it: contracts see nothing of it. It has no bytes.
 #[derive(Drop)]
 pub(crate) struct Leave<J: QueueName> {
     of: PhantomData<J>,

@@ -1,13 +1,13 @@
-//! Commands that wait to be submitted, under numbers of their own, and claims that say which command
-//! has a number.
+//! Commands that wait to be submitted, under numbers of their own, and claims that say which
+//! command has a number.
 //!
 //! Two threads may agree on the command of a number without a lock between them: the history of all
 //! commands that were handed in exists in proofs alone, and each claim knows that its command is in
 //! that history at its number.
 //!
 //! To the layer above: `CommandQueue::hand_in` returns a claim of the command that was passed, with
-//! the next number. `CommandQueue::take` returns the command that waits longest, with a claim of that
-//! command. `Claim::agrees` shows that two claims of one number are of one command.
+//! the next number. `CommandQueue::take` returns the command that waits longest, with a claim of
+//! that command. `Claim::agrees` shows that two claims of one number are of one command.
 #![tactic(auto)]
 
 mod claim;

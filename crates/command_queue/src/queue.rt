@@ -97,8 +97,8 @@ impl<J: QueueName, T: Drop> CommandQueue<J, T> {
         Ok(claim)
     }
 
-    /// Why a command is refused for whose answer there is no memory: it is not handed in. The result
-    /// is that of `hand_in`, or `NoMemory` where that would queue the command.
+    /// Why a command is refused for whose answer there is no memory: it is not handed in. The
+    /// result is that of `hand_in`, or `NoMemory` where that would queue the command.
     pub fn turn_away(&self, command: &Command) -> NotQueued
         ensures why { result ≡ unwrap_or (queue_refusal self.now.is_closed (length self.now.waiting.items) self.now.numbers.next) NoMemory }
         ensures refused { J.refused command.now ≡ true }

@@ -15,7 +15,7 @@ const LONGEST_SLEEP: u64 = 10;
 #[derive(Drop)]
 pub struct Ringer {
     bells: Bells,
-    /// For each bell, whether it is to be rung.
+    /// For each bell, whether it must be rung.
     due: Mutex<[bool; BELLS]>,
     calls: Condvar,
     has_thread: AtomicBool,
@@ -23,7 +23,7 @@ pub struct Ringer {
 }
 
 impl Ringer {
-    /// No bell is to be rung, and there is no thread that rings them.
+    /// No bell must be rung, and there is no thread that rings them.
     pub fn new() -> Ringer {
         Ringer {
             bells: Bells::new(),
@@ -39,7 +39,7 @@ impl Ringer {
         self.bells.of(number)
     }
 
-    /// Notes that the bell of a number is to be rung.
+    /// Notes that the bell of a number must be rung.
     pub fn note<R: Wait>(&self, rt: &R, number: u64) {
         self.due.lock(rt)[(number % BELLS as u64) as usize] = true;
     }

@@ -57,7 +57,8 @@ impl<U: Drop> Ahead<U> {
 
     /// Takes the first command.
     pub(crate) fn pop(&mut self) -> Option<Handed<U>>
-        ensures { MatchOption result ((self.old.queue.items ≡ []) × (self.new.queue.items ≡ [])) (λ first. self.old.queue.items ≡ first ∷ self.new.queue.items) }
+        ensures { MatchOption result ((self.old.queue.items ≡ []) × (self.new.queue.items ≡ []))
+            (λ first. self.old.queue.items ≡ first ∷ self.new.queue.items) }
     {
         self.queue.pop_front()
     }
