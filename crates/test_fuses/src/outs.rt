@@ -79,7 +79,7 @@ impl Out {
     pub fn stopped(self, first: u64, accepted: u64, (act, wanted): Line) -> (Out, Said) {
         match act {
             Act::Stage => (self, Said::Stage(StageError::Stopped)),
-            Act::Begin => (self, Said::Begin(BeginError::Stopped)),
+            Act::Prepare | Act::Begin => (self, Said::Begin(BeginError::Stopped)),
             Act::Redeem(k) => self.stopped_redeeming(first, accepted, k, wanted),
             Act::Lookup => self.stopped_lookup(wanted),
             _ if is_plan_step(act) => (self.without(act), value_answer(self.plan)),

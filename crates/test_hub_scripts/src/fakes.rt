@@ -4,8 +4,9 @@ use crate::stores::opened;
 use group_core::{
     AtClosing, AtFollowed, AtFollowing, AtLaid, AtLive, AtOpened, AtPlan, AtStable, AtStaged,
     AtSwitched, AtWritten, BeginError, Closing, Commit, Durable, DurableFollowed, FollowError,
-    Followed, Following, Laid, Live, Opened, PlainShow, Plan, PublishError, PublishFollowedError,
-    Redeemed, Stable, StageError, Staged, State, StepError, SubmitError, Switched, Ticket, Written,
+    Followed, Following, Laid, Live, Opened, PlainShow, Plan, Prepared, PublishError,
+    PublishFollowedError, Redeemed, Stable, StageError, Staged, State, StepError, SubmitError,
+    Switched, Ticket, Written,
 };
 use path_db::Command;
 use path_hub::{Awaited, Steps};
@@ -263,6 +264,13 @@ impl<R: Wait + TestHost> Steps for Fake<R> {
         let published = state.publish_followed(value);
         MutexGuard::unlock(state);
         published
+    }
+
+    fn prepare(&self) -> Result<Prepared, BeginError> {
+        let mut state = self.turn();
+        let prepared = state.prepare();
+        MutexGuard::unlock(state);
+        prepared
     }
 
     fn begin(&self) -> Result<Plan, BeginError> {

@@ -1,7 +1,7 @@
 //! The loops of both actors over a state that stops before one of their calls.
 
 use crate::host::Host;
-use group_core::{Redeemed, Ticket};
+use group_core::{Prepared, Redeemed, Ticket};
 use path_db::Command;
 use path_hub::{Silent, Steps, checkpointer_loop, flusher_loop};
 use sector_dev::MemDevice;
@@ -140,6 +140,26 @@ fn full_device<R: Wait + Abort + Copy + Drop>(rt: R, alloc: Global) -> MemDevice
     fake.into_device()
 }
 
+/// More calls than prepare a checkpoint here: one for each group of a full journal, and a few more.
+const MOST_PIECES: u64 = 1000;
+
+/// How many calls prepare a checkpoint over a device with a sealed journal.
+pub fn pieces_of<R: Wait + Abort + Copy + Drop>(
+    rt: R,
+    alloc: Global,
+    device: MemDevice,
+) -> (MemDevice, u64) {
+    let fake = Fake::new(Host(rt), alloc, device);
+    for number in 1..=MOST_PIECES {
+        match fake.prepare() {
+            Ok(Prepared::Part) => {}
+            Ok(Prepared::Whole) => return (fake.into_device(), number),
+            Err(refusal) => panic!(&rt; "{refusal:?}"),
+        }
+    }
+    panic!(&rt; "the pieces make no end")
+}
+
 /// What a store is found to be: how many rows it has, its place, the epoch of its half, and whether
 /// that half's journal is sealed.
 type Found = (usize, u64, u64, bool);
@@ -174,31 +194,33 @@ fn folded_at<R: Wait + Abort + Copy + Drop>(
 }
 
 /// What is found of a store of these rows whose journal was sealed at a place. Seven calls make a
-/// checkpoint: after the fourth one, which writes the gate of the new half, the device opens with
-/// that half.
-fn found_at(rows: usize, place: u64, number: u64, is_committed: bool) -> Found {
+/// checkpoint, after this many have prepared it: after the fourth one, which writes the gate of the
+/// new half, the device opens with that half.
+fn found_at((rows, place): (usize, u64), pieces: u64, number: u64, is_committed: bool) -> Found {
     let place = place.wrapping_add(u64::from(is_committed));
-    if number <= 4 {
+    if number <= pieces.wrapping_add(4) {
         (rows, place, 1, true)
     } else {
         (rows, place, 2, false)
     }
 }
 
-/// Has the checkpointer's loop stopped before each of the first calls, over a device with a sealed
-/// journal: before and after a purge is committed, or by turns.
+/// Has the checkpointer's loop stopped before each of the calls that prepare a checkpoint, and before
+/// this number of calls after them, over a device with a sealed journal: before and after a purge is
+/// committed, or by turns before the last of the former calls and those after them.
 fn fold_all<R: Wait + Abort + Copy + Drop>(
     rt: R,
     alloc: Global,
     device: MemDevice,
-    (rows, place): (usize, u64),
+    pair: (usize, u64),
     stops: u64,
     by_turns: bool,
 ) {
     let host = Host(rt);
-    let mut device = device;
+    let (mut device, pieces) = pieces_of(rt, alloc, device);
     let image = bytes_of(&host, alloc, &mut device);
-    for number in 1..=stops {
+    let first = if by_turns { pieces } else { 1 };
+    for number in first..=pieces.wrapping_add(stops) {
         for is_committed in [false, true] {
             if by_turns && is_committed == (number % 2 == 0) {
                 continue;
@@ -206,7 +228,7 @@ fn fold_all<R: Wait + Abort + Copy + Drop>(
             let found;
             device = restored(&host, device, &image);
             (device, found) = folded_at(rt, alloc, device, number, is_committed);
-            let wanted = found_at(rows, place, number, is_committed);
+            let wanted = found_at(pair, pieces, number, is_committed);
             assert_eq!(&rt; found, wanted, "{number} {is_committed}");
         }
     }

@@ -1,7 +1,7 @@
 //! Which notices both loops give, and in which order.
 
 use crate::host::Host;
-use crate::loops::{redeem_all, submit_all};
+use crate::loops::{pieces_of, redeem_all, submit_all};
 use crate::scarce::Scarce;
 use path_hub::{Notice, Watch, checkpointer_loop, flusher_loop};
 use std::alloc::Global;
@@ -74,8 +74,8 @@ const FOLLOWED: [Row; 4] = [
     (4, 4, 14, TWICE),
 ];
 
-/// A sealed journal: before the call of which number the state stops, and what is noted. Seven
-/// calls make a checkpoint.
+/// A sealed journal: before the call of which number the state stops, counted after those that
+/// prepare the checkpoint, and what is noted. Seven calls make a checkpoint.
 const SEALED: [(u64, &[Notice]); 4] = [
     (1, &[]),
     (2, &[Notice::CheckpointBegun]),
@@ -127,9 +127,10 @@ fn assert_sealed<R: Wait + Abort + Copy + Drop>(
     wanted: &[Notice],
 ) {
     let host = Host(rt);
-    let fake = Fake::new(host, alloc, sealed_row(&host, alloc));
+    let (device, pieces) = pieces_of(rt, alloc, sealed_row(&host, alloc));
+    let fake = Fake::new(host, alloc, device);
     let kept = Kept::new(rt, alloc);
-    fake.stop_before(number);
+    fake.stop_before(number.wrapping_add(pieces));
     checkpointer_loop(&rt, &fake, &kept);
     assert_kept(kept, wanted);
     let _device = fake.into_device();

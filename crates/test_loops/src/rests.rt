@@ -119,8 +119,8 @@ fn assert_seal<S: Steps>(rt: &Host<impl Abort>, alloc: Global, steps: &S) {
     spend(rt, steps, &mut Unwatched, ticket);
 }
 
-/// A checkpoint is begun, written, synced, its gate opened and synced, the old half closed and
-/// synced, with a staging that is refused between two of these calls.
+/// A checkpoint is prepared, begun, written, synced, its gate opened and synced, the old half closed
+/// and synced, with a staging that is refused between two of these calls.
 fn assert_fold<S: Steps>(rt: &Host<impl Abort>, alloc: Global, steps: &S) {
     let mut counts = Counts::new(alloc, steps, GROUPS + 1);
     fold(rt, steps, &mut counts);
@@ -130,9 +130,14 @@ fn assert_fold<S: Steps>(rt: &Host<impl Abort>, alloc: Global, steps: &S) {
         outcome,
         next: _next,
     } = counts.end();
-    assert_grown(rt, "work", &work, &[0, 0, 0, 0, 0, 0, 0, 0, 0, 0, 0, 0, 1]);
-    assert_grown(rt, "seal", &seal, &[0; 13]);
-    assert_grown(rt, "outcome", &outcome, &[0; 13]);
+    assert_grown(
+        rt,
+        "work",
+        &work,
+        &[0, 0, 0, 0, 0, 0, 0, 0, 0, 0, 0, 0, 0, 0, 1],
+    );
+    assert_grown(rt, "seal", &seal, &[0; 15]);
+    assert_grown(rt, "outcome", &outcome, &[0; 15]);
 }
 
 /// The state is stopped.

@@ -3,8 +3,8 @@
 use group_core::{
     AtClosing, AtFollowed, AtFollowing, AtLaid, AtLive, AtOpened, AtPlan, AtStable, AtStaged,
     AtSwitched, AtWritten, BeginError, Closing, Commit, Durable, DurableFollowed, FollowError,
-    Followed, Following, Laid, Live, Opened, Plan, PublishError, PublishFollowedError, Redeemed,
-    Stable, StageError, Staged, StepError, SubmitError, Switched, Ticket, Written,
+    Followed, Following, Laid, Live, Opened, Plan, Prepared, PublishError, PublishFollowedError,
+    Redeemed, Stable, StageError, Staged, StepError, SubmitError, Switched, Ticket, Written,
 };
 use path_db::Command;
 use path_hub::{Awaited, Steps};
@@ -106,6 +106,10 @@ impl<S: Steps> Steps for Scarce<'_, S> {
             return Err(PublishFollowedError::NoMemory(value));
         }
         self.steps.publish_followed(value)
+    }
+
+    fn prepare(&self) -> Result<Prepared, BeginError> {
+        self.steps.prepare()
     }
 
     fn begin(&self) -> Result<Plan, BeginError> {

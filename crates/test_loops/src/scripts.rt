@@ -21,7 +21,7 @@ use test_hub_scripts::stores::{LEAST, ended, formatted, opened, opens_to};
 
 /// How many lines the script has: 513 purges that are committed at once, the one that a seal is
 /// staged before, and the one that is left.
-const LINES: usize = 8 * 513 + 15 + 18;
+const LINES: usize = 8 * 513 + 15 + 20;
 
 /// What is seen of an event: the answer, and how many syncs there were by then.
 type Seen = (Answer, u64);
@@ -182,6 +182,7 @@ fn whole_script(rt: &impl Abort, alloc: Global) -> Script {
     script.submit(2 * GROUPS);
     script.refuse_stage();
     script.refuse_stage();
+    script.check(Event::Prepare);
     script.check(Event::Begin);
     script.check(Event::WriteChunk);
     script.check(Event::SyncChunks);
@@ -199,7 +200,7 @@ fn answer_of(reply: &Reply) -> Answer {
     match reply {
         Reply::Accepted(place) => Answer::Accepted(*place),
         Reply::Refused(refusal) => Answer::Refused(*refusal),
-        Reply::Done => Answer::Done,
+        Reply::Done | Reply::Prepared(_) => Answer::Done,
         Reply::StageRefused(refusal) => Answer::NotStaged(*refusal),
         Reply::Committed(place, outcome) => Answer::Committed(*place, *outcome),
         Reply::Waiting(place) => Answer::Waiting(*place),

@@ -1,6 +1,7 @@
 //! What both actors do with a value that a state refuses as a stranger.
 
 use crate::host::Host;
+use crate::loops::pieces_of;
 use path_hub::{Silent, Steps, checkpointer_loop, flusher_loop};
 use std::process::Abort;
 use std::sync::Wait;
@@ -14,8 +15,8 @@ use test_hub_scripts::stores::{LEAST, formatted, sealed_row};
 /// refusal hands the value to the sixth, which is refused as well.
 const FLUSHER_CALLS: [(u64, u64); 6] = [(2, 3), (3, 4), (4, 5), (5, 7), (6, 7), (7, 8)];
 
-/// The calls of the checkpointer that take a value: the write of the only chunk, and all up to the
-/// sync of the closed half.
+/// The calls of the checkpointer that take a value, counted after those that prepare the checkpoint:
+/// the write of the only chunk, and all up to the sync of the closed half.
 const CHECKPOINTER_CALLS: [u64; 6] = [2, 3, 4, 5, 6, 7];
 
 /// Sees that a loop met one stranger, gave it up by the call of this number, and ended by the next
@@ -49,7 +50,9 @@ fn flusher_gives_up_strangers(rt: HostRuntime) -> Result<(), Fail> {
 fn checkpointer_gives_up_strangers(rt: HostRuntime) -> Result<(), Fail> {
     let host = Host(&rt);
     let alloc = rt.alloc();
-    for number in CHECKPOINTER_CALLS {
+    let (_device, pieces) = pieces_of(&rt, alloc, sealed_row(&host, alloc));
+    for call in CHECKPOINTER_CALLS {
+        let number = call.wrapping_add(pieces);
         let device = sealed_row(&host, alloc);
         let fake = Fake::with_other(host, alloc, device, sealed_row(&host, alloc));
         fake.exchange_before(number);

@@ -16,7 +16,7 @@ use test_support::assert_same;
 
 /// The events and answers of a state whose store was sealed at place 1, after the segment left by
 /// interface 1: a group, a round, and a further group that is written.
-const STEPS: [Line; 26] = [
+const STEPS: [Line; 27] = [
     (Act::Lookup, Said::Shows(0b10)),
     (Act::Put(2), Said::Accepted(1)),
     (Act::Put(3), Said::Accepted(2)),
@@ -31,6 +31,7 @@ const STEPS: [Line; 26] = [
     (Act::Redeem(0), Said::Committed(1, INSERTED)),
     (Act::Redeem(1), Said::Committed(2, INSERTED)),
     (Act::Redeem(2), Said::Committed(3, GONE)),
+    (Act::Prepare, Said::Done),
     (Act::Begin, Said::Done),
     (Act::WriteChunk, Said::Done),
     (Act::SyncChunks, Said::Done),

@@ -96,8 +96,11 @@ const TOLD: [&[Line]; 8] = [
         (Act::Redeem(4), Said::Committed(5, EIGHT_OLDER)),
         (Act::Older, Said::Accepted(6)),
         (Act::Stage, Said::Stage(StageError::NoRoom)),
+        (Act::Prepare, Said::Done),
+        (Act::Stage, Said::Stage(StageError::NoRoom)),
         (Act::Begin, Said::Done),
         (Act::Begin, Said::Begin(BeginError::InFlight)),
+        (Act::Prepare, Said::Begin(BeginError::InFlight)),
         (Act::SyncChunks, Said::NoValue),
         (Act::OpenHalf, Said::NoValue),
         (Act::WriteChunk, Said::Done),
@@ -110,6 +113,7 @@ const TOLD: [&[Line]; 8] = [
         (Act::Stage, Said::Stage(StageError::NoRoom)),
         (Act::SyncClose, Said::Done),
         (Act::Begin, Said::Begin(BeginError::NotSealed)),
+        (Act::Prepare, Said::Begin(BeginError::NotSealed)),
         (Act::Lookup, Said::Shows(0b1110)),
     ],
     // That was a round; the other half is ready, and a seal is staged.
@@ -137,6 +141,7 @@ const TOLD: [&[Line]; 8] = [
         (Act::Put(6), Said::Refused(SubmitError::Stopped)),
         (Act::Stage, Said::Stage(StageError::Stopped)),
         (Act::Begin, Said::Begin(BeginError::Stopped)),
+        (Act::Prepare, Said::Begin(BeginError::Stopped)),
         (Act::SyncGroup, Said::Step(StepRefusal::Stopped)),
         (Act::SyncGroup, Said::NoValue),
         (Act::WriteChunk, Said::Step(StepRefusal::Stopped)),
@@ -156,8 +161,8 @@ const PLACES: [(usize, u64, u64); 5] = [
     (28, 1, 0b10),
     (42, 2, 0b110),
     (55, 4, 0b1100),
-    (87, 6, 0b1110),
-    (110, 7, 0b1110),
+    (91, 6, 0b1110),
+    (115, 7, 0b1110),
 ];
 
 /// What the device opens to after this number of events.
@@ -294,7 +299,7 @@ fn runs_end_anywhere(rt: HostRuntime) -> Result<(), Fail> {
     let host = Host(&rt);
     let lines = told_lines(&host, rt.alloc());
     let events = events_of(&host, rt.alloc(), &lines);
-    assert_eq!(rt; events.len(), 110);
+    assert_eq!(rt; events.len(), 115);
     for count in 0..=events.len() {
         let (front, _rest) = events.split_at(count);
         assert_end(&host, rt.alloc(), front)?;

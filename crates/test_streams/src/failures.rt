@@ -3,7 +3,7 @@
 
 use crate::host::Host;
 use crate::large_rows::{LARGE_PAIR, large_half};
-use group_core::BeginError;
+use group_core::{BeginError, Prepared};
 use sector_dev::{FaultDevice, MemDevice};
 use std::alloc::Global;
 use std::process::Abort;
@@ -23,26 +23,52 @@ const CHUNKS: usize = 8;
 #[derive(Clone, Copy)]
 enum Failed {
     Opening,
+    Prepare,
     Begin,
     Chunk,
     None,
 }
 
-/// Begins a checkpoint of a device of which the call of this number fails, and writes it up to its
-/// last sector: where the device failed. A state of which it did has stopped.
+/// Begins a checkpoint of a device of which the call of this number fails, after all pieces of it or
+/// none are prepared, and writes it up to its last sector: where the device failed. A state of which
+/// it did has stopped.
 fn failed_at(
     rt: &Host<impl Abort>,
     alloc: Global,
     device: MemDevice,
     number: u64,
+    is_prepared: bool,
 ) -> (Failed, MemDevice) {
     match open(alloc, FaultDevice::new(device, number)) {
-        Ok(store) => begun(rt, work_of(rt, alloc, store)),
+        Ok(store) => {
+            let work = work_of(rt, alloc, store);
+            if is_prepared {
+                prepared(rt, work)
+            } else {
+                begun(rt, work)
+            }
+        }
         Err((device, e)) => {
             assert_same(rt, &e, &OpenError::Device, &number);
             (Failed::Opening, device.into_mem())
         }
     }
+}
+
+/// Prepares all pieces of a checkpoint, begins it, and writes it up to its last sector.
+fn prepared(rt: &Host<impl Abort>, work: Work<FaultDevice>) -> (Failed, MemDevice) {
+    let mut work = work;
+    for _piece in 0..MANY {
+        match work.state.prepare() {
+            Ok(Prepared::Part) => {}
+            Ok(Prepared::Whole) => return begun(rt, work),
+            Err(refusal) => {
+                assert_same(rt, &refusal, &BeginError::Fault, &"a piece");
+                return (Failed::Prepare, assert_stopped(rt, work).into_mem());
+            }
+        }
+    }
+    rt.fail("the pieces make no end")
 }
 
 /// Begins a checkpoint and writes it up to its last sector.
@@ -80,21 +106,28 @@ fn written(rt: &Host<impl Abort>, work: Work<FaultDevice>) -> (Failed, MemDevice
     (Failed::None, work.ends(rt, LARGE_PAIR).into_mem())
 }
 
-/// How many calls of `begin` and of `write_chunk` fail in turn. Each time the device opens to the
-/// same.
-fn failures(rt: &Host<impl Abort>, alloc: Global, device: MemDevice) -> (u64, u64) {
+/// How many calls of `prepare`, `begin` and `write_chunk` fail in turn. Each time the device opens to
+/// the same.
+fn failures(
+    rt: &Host<impl Abort>,
+    alloc: Global,
+    device: MemDevice,
+    is_prepared: bool,
+) -> (u64, u64, u64) {
     let mut device = device;
+    let mut prepares = 0u64;
     let mut begins = 0u64;
     let mut chunks = 0u64;
     for number in 0..MANY {
         let failed;
-        (failed, device) = failed_at(rt, alloc, device, number);
+        (failed, device) = failed_at(rt, alloc, device, number, is_prepared);
         device = opens_to(rt, alloc, device, LARGE_PAIR);
         match failed {
             Failed::Opening => {}
+            Failed::Prepare => prepares = prepares.saturating_add(1),
             Failed::Begin => begins = begins.saturating_add(1),
             Failed::Chunk => chunks = chunks.saturating_add(1),
-            Failed::None => return (begins, chunks),
+            Failed::None => return (prepares, begins, chunks),
         }
     }
     rt.fail("the calls make no end")
@@ -103,18 +136,18 @@ fn failures(rt: &Host<impl Abort>, alloc: Global, device: MemDevice) -> (u64, u6
 /// Of `begin`: the front, a group's gate, its first sector and its payload, the gate and the sector
 /// of the seal, the old area in three pieces, and then two pieces of it again for the first 256
 /// sectors. Of two chunks: two writes, and one piece of the old area between them.
-const FAILED: (u64, u64) = (11, 3);
+const FAILED: (u64, u64, u64) = (0, 11, 3);
+
+/// Where all pieces are prepared, `begin` makes only the last two of these calls.
+const FAILED_PREPARED: (u64, u64, u64) = (9, 2, 3);
 
 #[test]
 fn each_failed_read_stops(rt: HostRuntime) -> Result<(), Fail> {
     let host = Host(&rt);
-    let device = large_half(&host, rt.alloc());
-    let failed = failures(&host, rt.alloc(), device);
-    assert_same(
-        &host,
-        &failed,
-        &FAILED,
-        &"calls of begin and of write_chunk",
-    );
+    for (is_prepared, wanted) in [(false, FAILED), (true, FAILED_PREPARED)] {
+        let device = large_half(&host, rt.alloc());
+        let failed = failures(&host, rt.alloc(), device, is_prepared);
+        assert_same(&host, &failed, &wanted, &is_prepared);
+    }
     Ok(())
 }

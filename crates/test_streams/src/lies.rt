@@ -1,44 +1,27 @@
-//! A device that lies once a checkpoint is begun: other bytes are written, at the same places.
+//! A device of which one read lies once a checkpoint is begun: the lie is noticed, and no byte of it
+//! is written.
 
 use crate::host::Host;
 use crate::large_rows::{LARGE_PAIR, large_half};
-use crate::rounds::whole_round;
 use crate::sealed::{SECTORS, sectors_from};
 use crate::watched::{Change, Watched};
+use group_core::{BeginError, StepError};
 use sector_dev::MemDevice;
 use std::alloc::Global;
 use std::process::Abort;
 use std::test::Fail;
-use test_group_scripts::stores::opened;
+use test_group_scripts::stores::{opened, told};
 use test_group_scripts::work::{Told, work_of};
-use test_support::assert_same;
+use test_support::{TestHost, assert_same};
 
-/// What changes a device in a round over the half of large rows: 213,089 bytes are written to the
-/// second half's area in two chunks, then that half's gate, and then the first half's gate with the
-/// first one of its journal.
-const CHANGES: [Change; 7] = [
-    Change::Write {
-        at: 1702,
-        sectors: 256,
-    },
-    Change::Write {
-        at: 1958,
-        sectors: 161,
-    },
-    Change::Sync,
-    Change::Write {
-        at: 2702,
-        sectors: 1,
-    },
-    Change::Sync,
-    Change::Write {
-        at: 1001,
-        sectors: 2,
-    },
-    Change::Sync,
-];
+/// What changes a device that lies, of a round over the half of large rows, of which 213,089 bytes
+/// would be written to the second half's area in two chunks.
+const CHANGES: [Change; 1] = [Change::Write {
+    at: 1702,
+    sectors: 256,
+}];
 
-/// A device with the half of large rows that lies after this number of reads.
+/// A device with the half of large rows, of which the read after this number of reads lies.
 fn watched(rt: &Host<impl Abort>, alloc: Global, honest: u64) -> Watched<MemDevice> {
     Watched::over(rt, alloc, large_half(rt, alloc), honest)
 }
@@ -52,12 +35,27 @@ fn reads_of_begin(rt: &Host<impl Abort>, alloc: Global) -> u64 {
     reads
 }
 
-/// Makes a round over a device that lies after this number of reads: the bytes that are there then.
-fn round_of(rt: &Host<impl Abort>, alloc: Global, honest: u64) -> Vec<u8> {
+/// The bytes of a store after a checkpoint was begun over a device whose next read lies: the first
+/// chunk is written, what is read after it is refused, and the state has stopped. The store opens to
+/// the rows of its old half.
+fn bytes_after_a_lie(rt: &Host<impl Abort>, alloc: Global, honest: u64) -> Vec<u8> {
     let store = opened(rt, alloc, watched(rt, alloc, honest));
-    let work = work_of(rt, alloc, store);
-    let (changes, mut memory) = whole_round(rt, work).device(rt).into_parts();
+    let mut work = work_of(rt, alloc, store);
+    let Ok(plan) = work.state.begin() else {
+        rt.fail("no checkpoint was begun");
+    };
+    match work.state.write_chunk(plan) {
+        Err(StepError::Damaged) => {}
+        _ => rt.fail("the lie was not noticed"),
+    }
+    match work.state.begin() {
+        Err(BeginError::Stopped) => {}
+        _ => rt.fail("the state goes on"),
+    }
+    let (changes, memory) = work.device(rt).into_parts();
     assert!(rt.0; changes.ends_with(&CHANGES), "{changes:?}");
+    let (pair, mut memory) = told(rt, alloc, memory);
+    assert_same(rt, &pair, &LARGE_PAIR, &"the old half");
     sectors_from(rt, alloc, &mut memory, 0, SECTORS as usize)
 }
 
@@ -75,22 +73,22 @@ fn assert_differ(
     assert_same(rt, &differ, &wanted, &from);
 }
 
-/// From which sector on, in how many of them, a lie may be seen: in the rows that were read after
-/// `begin`.
+/// Only the first chunk may have changed.
 const SECTORS_THAT_DIFFER: [(usize, usize, bool); 3] = [
-    (0, 1958, false),
-    (1958, 161, true),
-    (2119, 1284, false),
+    (0, 1702, false),
+    (1702, 256, true),
+    (1958, 1445, false),
 ];
 
 #[test]
-fn lies_change_no_place(rt: HostRuntime) -> Result<(), Fail> {
+fn lies_are_noticed(rt: HostRuntime) -> Result<(), Fail> {
     let host = Host(&rt);
     let reads = reads_of_begin(&host, rt.alloc());
-    let honest = round_of(&host, rt.alloc(), u64::MAX);
-    let lied = round_of(&host, rt.alloc(), reads);
+    let lied = bytes_after_a_lie(&host, rt.alloc(), reads);
+    let mut before = large_half(&host, rt.alloc());
+    let before = sectors_from(&host, rt.alloc(), &mut before, 0, SECTORS as usize);
     for sectors in SECTORS_THAT_DIFFER {
-        assert_differ(&host, &honest, &lied, sectors);
+        assert_differ(&host, &before, &lied, sectors);
     }
     Ok(())
 }

@@ -7,7 +7,7 @@ use crate::host::Host;
 use crate::rounds::{assert_area, assert_opens, whole_round};
 use crate::sealed::sealed_half;
 use crate::watched::Watched;
-use group_core::{BeginError, Numbers};
+use group_core::{BeginError, Numbers, Prepared};
 use path_db::{Command, PathDb};
 use sector_dev::MemDevice;
 use std::alloc::Global;
@@ -15,13 +15,28 @@ use std::process::Abort;
 use std::test::Fail;
 use test_group_scripts::stores::opened;
 use test_group_scripts::work::{Told, Work, work_of};
-use test_support::{assert_same, assert_true};
+use test_support::{TestHost, assert_same, assert_true};
 
 /// The numbers of a state, its two buffers, and how many calls have changed its device.
 fn seen(work: &Work<Watched<MemDevice>>) -> (Numbers, (usize, usize), usize) {
     let state = &work.state;
     let changes = state.device().changes().len();
     (state.numbers(), state.buffer_lens(), changes)
+}
+
+/// Prepares a piece, and once more where memory was refused, which changed nothing: whether all
+/// pieces are prepared.
+fn prepare_again(rt: &Host<impl Abort>, work: &mut Work<Watched<MemDevice>>) -> bool {
+    let before = seen(work);
+    let told = match work.state.prepare() {
+        Err(BeginError::NoMemory) => work.state.prepare(),
+        told => told,
+    };
+    assert_same(rt, &seen(work), &before, &"what is seen");
+    match told {
+        Ok(prepared) => prepared == Prepared::Whole,
+        Err(refusal) => rt.fail(format_args!("{refusal:?}")),
+    }
 }
 
 /// Begins a checkpoint, and once more where memory was refused, which changed nothing.
@@ -37,10 +52,27 @@ fn begin_again(rt: &Host<impl Abort>, work: Work<Watched<MemDevice>>) -> Work<Wa
     work.checks(rt, Told::Done)
 }
 
-/// Makes a round over a sealed half, where memory may be refused once: the device.
-fn round_over(rt: &Host<impl Abort>, alloc: Global, device: MemDevice) -> MemDevice {
+/// More pieces than a half here has, and one that is begun anew.
+const PIECES: usize = 20;
+
+/// Makes a round over a sealed half, of which all pieces are prepared or none, where memory may be
+/// refused once: the device.
+fn round_over(
+    rt: &Host<impl Abort>,
+    alloc: Global,
+    device: MemDevice,
+    is_prepared: bool,
+) -> MemDevice {
     let watched = Watched::over(rt, alloc, device, u64::MAX);
-    let work = work_of(rt, alloc, opened(rt, alloc, watched));
+    let mut work = work_of(rt, alloc, opened(rt, alloc, watched));
+    if is_prepared {
+        let mut pieces = 0..PIECES;
+        assert_true(
+            rt,
+            pieces.any(|_| prepare_again(rt, &mut work)),
+            "the pieces end",
+        );
+    }
     let work = whole_round(rt, begin_again(rt, work));
     let (_changes, memory) = work.device(rt).into_parts();
     memory
@@ -64,13 +96,19 @@ const LEFT: usize = 19;
 
 /// Makes the checkpoint of rows with a sealed journal, and sees that it is that of the rows after
 /// the commands.
-fn assert_begun(rt: &Host<impl Abort>, alloc: Global, olds: &[Command], commands: &[Command]) {
+fn assert_begun(
+    rt: &Host<impl Abort>,
+    alloc: Global,
+    olds: &[Command],
+    commands: &[Command],
+    is_prepared: bool,
+) {
     let mut db = PathDb::new(alloc);
     fold(rt, &mut db, olds);
     let device = sealed_half(rt, alloc, &db, commands);
     fold(rt, &mut db, commands);
     assert_same(rt, &db.rows().count(), &LEFT, &"rows");
-    let mut device = round_over(rt, alloc, device);
+    let mut device = round_over(rt, alloc, device, is_prepared);
     let place = commands.len() as u64;
     assert_area(rt, alloc, &mut device, &db, place);
     let _device = assert_opens(rt, alloc, device, &db, place);
@@ -81,6 +119,15 @@ fn refused_begins_may_be_tried_again(rt: HostRuntime) -> Result<(), Fail> {
     let host = Host(&rt);
     let olds = registrations(&host, rt.alloc(), 1000, 20);
     let commands = commands_after(&host, rt.alloc(), &olds);
-    assert_begun(&host, rt.alloc(), &olds, &commands);
+    assert_begun(&host, rt.alloc(), &olds, &commands, false);
+    Ok(())
+}
+
+#[test]
+fn refused_pieces_may_be_prepared_again(rt: HostRuntime) -> Result<(), Fail> {
+    let host = Host(&rt);
+    let olds = registrations(&host, rt.alloc(), 1000, 20);
+    let commands = commands_after(&host, rt.alloc(), &olds);
+    assert_begun(&host, rt.alloc(), &olds, &commands, true);
     Ok(())
 }

@@ -26,7 +26,7 @@ fn sizes(db: &PathDb) -> (usize, u64) {
 }
 
 /// Sees that the checkpoint of rows with a sealed journal of these commands is that of the rows
-/// after the commands, which are so many and have this number of bytes.
+/// after the commands, whose number and whose bytes are given.
 fn assert_streamed(
     rt: &Host<impl Abort>,
     alloc: Global,

@@ -12,8 +12,8 @@ pub enum Change {
     Sync,
 }
 
-/// A device that counts its reads and notes its changes. After this number of reads it lies: all
-/// bits that are read are inverted. So it is not known to be honest.
+/// A device that counts its reads and notes its changes. After this number of reads one read lies:
+/// all bits that it reads are inverted. So the device is not known to be honest.
 #[derive(Drop)]
 pub struct Watched<D> {
     device: D,
@@ -23,8 +23,8 @@ pub struct Watched<D> {
 }
 
 impl<D> Watched<D> {
-    /// The device, which lies after this number of reads. Where memory is refused for its changes,
-    /// it is asked for once more.
+    /// The device, of which the read after this number of reads lies. Where memory is refused for its
+    /// changes, it is asked for once more.
     pub fn over(rt: &impl TestHost, alloc: Global, device: D, honest: u64) -> Watched<D> {
         let room = match Vec::with_capacity(alloc, MOST_CHANGES) {
             Err(_) => Vec::with_capacity(alloc, MOST_CHANGES),
@@ -92,10 +92,10 @@ impl<D: Device> Device for Watched<D> {
 
     fn read(&mut self, at: u64, into: &mut [u8]) -> Result<(), DevError> {
         self.device.read(at, into)?;
-        self.reads = self.reads.saturating_add(1);
-        if self.honest < self.reads {
+        if self.reads == self.honest {
             invert(into);
         }
+        self.reads = self.reads.saturating_add(1);
         Ok(())
     }
 
