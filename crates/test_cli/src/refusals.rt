@@ -5,12 +5,13 @@ use crate::writers::{Room, with_room};
 use cli_store::{Fault, format, upgrade};
 use sector_dev::{Device, FaultDevice, MemDevice};
 use std::alloc::Global;
+use std::fmt::Debug;
 use std::process::Abort;
 use std::test::Fail;
 use store_open::{FormatError, Geometry, OpenError, StoreError};
 
 // Sizes in sectors of a device and of a store's regions, of which no store is made on it, and why.
-#[derive(Clone, Copy)]
+#[derive(Clone, Copy, Debug)]
 struct NoStore {
     checkpoint: u32,
     journal: u32,
@@ -18,14 +19,18 @@ struct NoStore {
     why: FormatError,
 }
 
+const BAD_SIZE: FormatError = FormatError::BadGeometry;
+
+const TOO_SMALL: FormatError = FormatError::TooSmall;
+
 #[rattlefmt::skip]
 const NO_STORES: [NoStore; 6] = [
-    NoStore { checkpoint: 1, journal: 516, sectors: SECTORS, why: FormatError::BadGeometry },
-    NoStore { checkpoint: 2, journal: 515, sectors: SECTORS, why: FormatError::BadGeometry },
-    NoStore { checkpoint: 1_048_577, journal: 516, sectors: SECTORS, why: FormatError::BadGeometry },
-    NoStore { checkpoint: 2, journal: 1_048_577, sectors: SECTORS, why: FormatError::BadGeometry },
-    NoStore { checkpoint: 2, journal: 516, sectors: SECTORS - 1, why: FormatError::TooSmall },
-    NoStore { checkpoint: 3, journal: 516, sectors: SECTORS, why: FormatError::TooSmall },
+    NoStore { checkpoint: 1, journal: 516, sectors: SECTORS, why: BAD_SIZE },
+    NoStore { checkpoint: 2, journal: 515, sectors: SECTORS, why: BAD_SIZE },
+    NoStore { checkpoint: 1_048_577, journal: 516, sectors: SECTORS, why: BAD_SIZE },
+    NoStore { checkpoint: 2, journal: 1_048_577, sectors: SECTORS, why: BAD_SIZE },
+    NoStore { checkpoint: 2, journal: 516, sectors: SECTORS - 1, why: TOO_SMALL },
+    NoStore { checkpoint: 3, journal: 516, sectors: SECTORS, why: TOO_SMALL },
 ];
 
 // What making a store answers and prints.
@@ -39,14 +44,15 @@ fn format_answer<D: Device>(
     (answer, output)
 }
 
-// Sees why no store is made, and that nothing is printed.
-fn assert_not_formatted(
+// Sees in a case why no store is made, and that nothing is printed.
+fn assert_not_formatted<C: Debug>(
     rt: &impl Abort,
     (answer, output): (Result<(), Fault>, Room),
     wanted: FormatError,
+    case: &C,
 ) -> Result<(), Fail> {
-    assert_eq!(rt; answer, Err(Fault::Format(wanted)));
-    assert_eq!(rt; output.text()?, "");
+    assert_eq!(rt; answer, Err(Fault::Format(wanted)), "{case:?}");
+    assert_eq!(rt; output.text()?, "", "{case:?}");
     Ok(())
 }
 
@@ -59,7 +65,7 @@ fn sizes_that_are_not_allowed(rt: HostRuntime) -> Result<(), Fail> {
             journal: case.journal,
         };
         let answer = format_answer(rt.alloc(), &mut device, geometry);
-        assert_not_formatted(&rt, answer, case.why)?;
+        assert_not_formatted(&rt, answer, case.why, &case)?;
     }
     Ok(())
 }
@@ -73,13 +79,17 @@ fn is_formatted(rt: &impl Abort, alloc: Global, number: u64) -> Result<bool, Fai
     let mut device = FaultDevice::new(MemDevice::new(alloc, SECTORS)?, number);
     let answer = format_answer(alloc, &mut device, LEAST);
     if answer.0.is_ok() {
-        assert_eq!(rt; answer.1.text()?, "formatted 1039 sectors\n");
+        assert_eq!(rt;
+            answer.1.text()?,
+            "formatted 1039 sectors\n",
+            "call {number}"
+        );
         return Ok(true);
     }
-    assert_not_formatted(rt, answer, FormatError::Fault)?;
+    assert_not_formatted(rt, answer, FormatError::Fault, &number)?;
     let (again, output) = format_answer(alloc, &mut device, LEAST);
-    assert_eq!(rt; again, Ok(()));
-    assert_eq!(rt; output.text()?, "formatted 1039 sectors\n");
+    assert_eq!(rt; again, Ok(()), "call {number}");
+    assert_eq!(rt; output.text()?, "formatted 1039 sectors\n", "call {number}");
     Ok(false)
 }
 
@@ -105,26 +115,16 @@ fn upgrade_answer<D: Device>(alloc: Global, device: D) -> (Result<(), Fault>, Ro
     }
 }
 
-// Sees what an upgrade answered and printed.
-fn assert_upgrade(
-    rt: &impl Abort,
-    answer: (Result<(), Fault>, &Room),
-    wanted: (Result<(), Fault>, &str),
-) -> Result<(), Fail> {
-    assert_eq!(rt; answer.0, wanted.0);
-    assert_eq!(rt; answer.1.text()?, wanted.1);
-    Ok(())
-}
-
 // Has a store of version 1 upgraded whose device fails at the call of this number: what it
 // answered. It is upgraded again after that.
 fn upgraded(rt: &impl Abort, alloc: Global, number: u64) -> Result<Result<(), Fault>, Fail> {
     let failing = FaultDevice::new(formatted_old(alloc)?, number);
     let (answer, output, device) = upgrade_answer(alloc, failing);
     let printed = if answer.is_ok() { "version 2\n" } else { "" };
-    assert_eq!(rt; output.text()?, printed);
+    assert_eq!(rt; output.text()?, printed, "call {number}");
     let (again, output, _device) = upgrade_answer(alloc, device.into_mem());
-    assert_upgrade(rt, (again, &output), (Ok(()), "version 2\n"))?;
+    assert_eq!(rt; again, Ok(()), "call {number}");
+    assert_eq!(rt; output.text()?, "version 2\n", "call {number}");
     Ok(answer)
 }
 

@@ -53,28 +53,47 @@ pub(crate) fn assert_calls<D: Device, C: Debug>(rt: &impl Abort, device: &mut D,
     }
 }
 
-/// Checks that a sector has these two bytes: the first byte, and the byte that all others are.
-fn assert_filled(rt: &impl Abort, at: u64, bytes: &[u8], (first, rest): (u8, u8)) {
+/// Checks in a case that a sector has these two bytes: the first byte, and the byte that all others
+/// are.
+fn assert_filled<C: Debug>(
+    rt: &impl Abort,
+    at: u64,
+    bytes: &[u8],
+    (first, rest): (u8, u8),
+    case: &C,
+) {
     for (i, byte) in bytes.iter().enumerate() {
         let wanted = if i == 0 { first } else { rest };
-        assert_same(rt, byte, &wanted, &(i, at));
+        assert_eq!(rt; *byte, wanted, "{case:?}: byte {i} of sector {at}");
     }
 }
 
-/// Reads a sector, and checks that it has these two bytes.
-fn assert_sector<D: Device>(rt: &impl Abort, device: &mut D, at: u64, wanted: (u8, u8)) {
+/// Reads a sector, and checks in a case that it has these two bytes.
+fn assert_sector<D: Device, C: Debug>(
+    rt: &impl Abort,
+    device: &mut D,
+    at: u64,
+    wanted: (u8, u8),
+    case: &C,
+) {
     let mut bytes = [0; SECTOR];
     assert!(rt; at < 4);
     assert_eq!(rt; device.sectors(), 4);
     assert!(rt; device.read(at, &mut bytes).is_ok());
-    assert_filled(rt, at, &bytes, wanted);
+    assert_filled(rt, at, &bytes, wanted, case);
 }
 
-/// Checks that each sector has its two bytes: the first byte, and the byte that all others are.
-pub(crate) fn assert_sectors<D: Device>(rt: &impl Abort, device: &mut D, wanted: [(u8, u8); 4]) {
+/// Checks in a case that each sector has its two bytes: the first byte, and the byte that all
+/// others are.
+pub(crate) fn assert_sectors<D: Device, C: Debug>(
+    rt: &impl Abort,
+    device: &mut D,
+    wanted: [(u8, u8); 4],
+    case: &C,
+) {
     let [zero, one, two, three] = wanted;
-    assert_sector(rt, device, 0, zero);
-    assert_sector(rt, device, 1, one);
-    assert_sector(rt, device, 2, two);
-    assert_sector(rt, device, 3, three);
+    assert_sector(rt, device, 0, zero, case);
+    assert_sector(rt, device, 1, one, case);
+    assert_sector(rt, device, 2, two, case);
+    assert_sector(rt, device, 3, three, case);
 }

@@ -24,7 +24,7 @@ fn assert_one_fails(rt: &impl Abort, mut device: FaultDevice, failing: u64, sect
     }
     let [one, two, three] = sectors;
     let wanted = [(0, 0), (one, one), (two, two), (three, three)];
-    assert_sectors(rt, &mut device.into_mem(), wanted);
+    assert_sectors(rt, &mut device.into_mem(), wanted, &failing);
 }
 
 #[test]

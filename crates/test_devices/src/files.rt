@@ -20,7 +20,7 @@ fn device_of(
 fn assert_written<D: Device>(rt: &impl Abort, device: &mut D, at_most: usize) {
     assert_calls(rt, device, &at_most);
     let wanted = [(7, 7), (0x33, 0x33), (0x22, 0x22), (0x22, 0x22)];
-    assert_sectors(rt, device, wanted);
+    assert_sectors(rt, device, wanted, &at_most);
     assert_same(rt, &device.faults(), &0, &at_most);
 }
 

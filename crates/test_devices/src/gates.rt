@@ -38,7 +38,7 @@ fn assert_parts(rt: &impl Abort, device: HeldDevice<FaultDevice, PassCounter>) {
     let (memory, counter) = device.into_parts();
     assert_eq!(rt; counter.passes, 2);
     let wanted = [(0, 0), (0x33, 0x33), (0x22, 0x22), (0x22, 0x22)];
-    assert_sectors(rt, &mut memory.into_mem(), wanted);
+    assert_sectors(rt, &mut memory.into_mem(), wanted, &"the calls");
 }
 
 #[test]
@@ -145,6 +145,7 @@ fn a_device_may_go_to_another_thread(rt: HostRuntime) -> Result<(), Fail> {
     let held = HeldDevice::new(MemDevice::new(rt.alloc(), 4)?, PassCounter { passes: 0 });
     let mut device = sent(held);
     assert_answer(&rt, &mut device, 4, true, &4);
-    assert_sectors(&rt, &mut device, [(0, 0), (0x33, 0x33), (0, 0), (0, 0)]);
+    let wanted = [(0, 0), (0x33, 0x33), (0, 0), (0, 0)];
+    assert_sectors(&rt, &mut device, wanted, &4);
     Ok(())
 }

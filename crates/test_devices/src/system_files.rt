@@ -87,7 +87,7 @@ fn a_file_cut_short_is_a_fault(rt: HostRuntime) -> Result<(), Fail> {
     let path = "device_tests_cut/device";
     make_file(&rt, folder, path, 2048)?;
     let mut device = open_device(&rt, path)?;
-    assert_sectors(&rt, &mut device, [(7, 7); 4]);
+    assert_sectors(&rt, &mut device, [(7, 7); 4], &"before the cut");
     cut(&rt, path)?;
     assert_cut(&rt, device);
     fs::remove_dir_all(&rt, folder)?;
@@ -109,7 +109,7 @@ fn assert_refused(rt: &impl Abort, mut device: FileDevice<SystemFile>) {
     for (number, wanted) in REFUSED.iter().enumerate() {
         assert_call(rt, &mut device, number as u64, *wanted, &number);
     }
-    assert_sectors(rt, &mut device, [(7, 7); 4]);
+    assert_sectors(rt, &mut device, [(7, 7); 4], &"after the calls");
     assert_eq!(rt; device.into_file().failures(), 3);
 }
 

@@ -2,7 +2,7 @@
 //! changed.
 
 use crate::area::{END, FRESH, area, changed};
-use ckpt_pair::{Checkpoint, PairError, encode_checkpoint, read_half};
+use ckpt_pair::{Checkpoint, Head, PairError, encode_checkpoint, read_half};
 use path_db::PathDb;
 use std::alloc::Global;
 use std::test::Fail;
@@ -43,8 +43,12 @@ fn new_store_is_written(rt: HostRuntime) -> Result<(), Fail> {
 fn rows_are_read_and_written(rt: HostRuntime) -> Result<(), Fail> {
     let area = area(rt.alloc())?;
     let checkpoint = read(rt.alloc(), &area)?;
-    let head = checkpoint.head;
-    assert_eq!(rt; (head.version, head.epoch, head.place), (2, 7, 258));
+    let head = Head {
+        version: 2,
+        epoch: 7,
+        place: 258,
+    };
+    assert_eq!(rt; checkpoint.head, head);
     assert_eq!(rt;
         (checkpoint.db.rows().count(), checkpoint.db.encoded_len()),
         (3, 279)
@@ -56,34 +60,47 @@ fn rows_are_read_and_written(rt: HostRuntime) -> Result<(), Fail> {
     Ok(())
 }
 
+/// Which byte of the worked area is changed, what to, and the version and the count of rows that
+/// are read then.
+#[derive(Clone, Copy)]
+struct Change {
+    what: &'static str,
+    at: usize,
+    byte: u8,
+    read: Result<(u32, usize), PairError>,
+}
+
+#[rattlefmt::skip]
+const CHANGES: [Change; 20] = [
+    Change { what: "the magic", at: 3, byte: 0, read: Err(BAD) },
+    Change { what: "version 0", at: 7, byte: 0, read: Err(BAD) },
+    Change { what: "version 1", at: 7, byte: 1, read: Ok((1, 3)) },
+    Change { what: "version 3", at: 7, byte: 3, read: Err(PairError::NewerFormat(3)) },
+    Change { what: "a length of far more bytes than there are", at: 24, byte: 1, read: Err(BAD) },
+    Change { what: "a length of 535, which is past the area", at: 26, byte: 2, read: Err(BAD) },
+    Change { what: "a byte too few", at: 27, byte: 0x16, read: Err(BAD) },
+    Change { what: "a zero too many", at: 27, byte: 0x18, read: Err(BAD) },
+    Change { what: "a length of 23, which is a part of a row", at: 26, byte: 0, read: Err(BAD) },
+    Change { what: "a count of far more rows", at: 28, byte: 1, read: Err(BAD) },
+    Change { what: "a count of one row less", at: 31, byte: 2, read: Err(BAD) },
+    Change { what: "a count of one row more", at: 31, byte: 4, read: Err(BAD) },
+    Change { what: "the first row's type", at: 32, byte: 4, read: Err(BAD) },
+    Change { what: "the same key as the second row's", at: 32, byte: 2, read: Err(BAD) },
+    Change { what: "a segment that is cut", at: 36, byte: 87, read: Err(BAD) },
+    Change { what: "a segment that is none", at: 37, byte: 0x0b, read: Err(BAD) },
+    Change { what: "the second row's type", at: 125, byte: 0, read: Err(BAD) },
+    Change { what: "the same key as the third row's", at: 125, byte: 3, read: Err(BAD) },
+    Change { what: "after the rows", at: END, byte: 1, read: Ok((2, 3)) },
+    Change { what: "the area's last byte", at: 511, byte: 0xff, read: Ok((2, 3)) },
+];
+
 // One byte of the head, the length, the count or the rows is changed. The bytes after the rows
 // are not read.
 #[test]
 fn changed_areas(rt: HostRuntime) -> Result<(), Fail> {
-    for (at, byte, expected) in [
-        (3, 0, Err(BAD)), // the magic
-        (7, 0, Err(BAD)), // the version
-        (7, 1, Ok((1, 3))),
-        (7, 3, Err(PairError::NewerFormat(3))),
-        (24, 1, Err(BAD)), // the length: far more than there are
-        (26, 2, Err(BAD)), // 535, which is past the area
-        (27, 0x16, Err(BAD)), // a byte too few
-        (27, 0x18, Err(BAD)), // a zero too many
-        (26, 0, Err(BAD)), // 23, which is a part of a row
-        (28, 1, Err(BAD)), // the count
-        (31, 2, Err(BAD)),
-        (31, 4, Err(BAD)),
-        (32, 4, Err(BAD)), // the first row's type
-        (32, 2, Err(BAD)), // the same key as the second row's
-        (36, 87, Err(BAD)), // a segment that is cut
-        (37, 0x0b, Err(BAD)), // a segment that is none
-        (125, 0, Err(BAD)), // the second row's type
-        (125, 3, Err(BAD)), // the same key as the third row's
-        (END, 1, Ok((2, 3))), // after the rows
-        (511, 0xff, Ok((2, 3))),
-    ] {
-        let area = changed(rt.alloc(), at, byte)?;
-        assert_eq!(rt; read_of(rt.alloc(), &area), expected, "{at} {byte}");
+    for row in &CHANGES {
+        let area = changed(rt.alloc(), row.at, row.byte)?;
+        assert_eq!(rt; read_of(rt.alloc(), &area), row.read, "{}", row.what);
     }
     Ok(())
 }

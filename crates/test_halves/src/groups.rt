@@ -21,22 +21,38 @@ fn payloads_take_sectors(rt: HostRuntime) {
     }
 }
 
+/// The sector of a gate, how many sectors the payload after it has, how many the journal has, and
+/// whether the payload fits in it.
+#[derive(Clone, Copy, Debug)]
+struct Fit {
+    gate: u64,
+    payload: u64,
+    journal: u64,
+    fits: bool,
+}
+
+/// The largest number of a sector.
+const LAST: u64 = u64::MAX;
+
+#[rattlefmt::skip]
+const FITS: [Fit; 8] = [
+    Fit { gate: 512, payload: 1, journal: 516, fits: true },
+    Fit { gate: 514, payload: 1, journal: 516, fits: false },
+    Fit { gate: 0, payload: 513, journal: 516, fits: true },
+    Fit { gate: 0, payload: 0, journal: 2, fits: false },
+    Fit { gate: LAST, payload: 1, journal: LAST, fits: false },
+    Fit { gate: 1, payload: LAST, journal: LAST, fits: false },
+    Fit { gate: LAST - 4, payload: 1, journal: LAST, fits: true },
+    Fit { gate: LAST - 4, payload: 2, journal: LAST, fits: false },
+];
+
 #[test]
 fn payloads_fit(rt: HostRuntime) {
-    for (gate, payload, journal, fit) in [
-        (512, 1, 516, true),
-        (514, 1, 516, false),
-        (0, 513, 516, true),
-        (0, 0, 2, false),
-        (u64::MAX, 1, u64::MAX, false),
-        (1, u64::MAX, u64::MAX, false),
-        (u64::MAX - 4, 1, u64::MAX, true),
-        (u64::MAX - 4, 2, u64::MAX, false),
-    ] {
+    for row in &FITS {
         assert_eq!(rt;
-            fits(gate, payload, journal),
-            fit,
-            "{gate} {payload} {journal}"
+            fits(row.gate, row.payload, row.journal),
+            row.fits,
+            "{row:?}"
         );
     }
 }
@@ -104,20 +120,31 @@ fn payloads_have_room_for_a_gate(rt: HostRuntime) -> Result<(), Fail> {
     Ok(())
 }
 
+/// How many purges there are, and whether they can be a group at a place.
+#[derive(Clone, Copy, Debug)]
+struct Limit {
+    count: u64,
+    place: u64,
+    can_be: bool,
+}
+
+#[rattlefmt::skip]
+const LIMITS: [Limit; 8] = [
+    Limit { count: 0, place: 0, can_be: false },
+    Limit { count: 1, place: 0, can_be: true },
+    Limit { count: 9, place: 0, can_be: true },
+    Limit { count: 32, place: 0, can_be: true },
+    Limit { count: 33, place: 0, can_be: false },
+    Limit { count: 32, place: u64::MAX - 32, can_be: true },
+    Limit { count: 32, place: u64::MAX - 31, can_be: false },
+    Limit { count: 1, place: u64::MAX, can_be: false },
+];
+
 #[test]
 fn groups_have_limits(rt: HostRuntime) -> Result<(), Fail> {
-    for (count, place, can) in [
-        (0, 0, false),
-        (1, 0, true),
-        (9, 0, true),
-        (32, 0, true),
-        (33, 0, false),
-        (32, u64::MAX - 32, true),
-        (32, u64::MAX - 31, false),
-        (1, u64::MAX, false),
-    ] {
-        let commands = purges(rt.alloc(), count)?;
-        assert_eq!(rt; can_be_group(&commands, place), can, "{count} at {place}");
+    for row in &LIMITS {
+        let commands = purges(rt.alloc(), row.count)?;
+        assert_eq!(rt; can_be_group(&commands, row.place), row.can_be, "{row:?}");
     }
     let mut commands = Vec::new(rt.alloc());
     commands.push(many(rt.alloc(), 16)?)?;

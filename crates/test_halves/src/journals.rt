@@ -1,117 +1,113 @@
 //! What journals read as.
 
 use crate::worked::Part::{Closed, Open, Purges, Removal, Seal};
-use crate::worked::{Part, Seen, bytes_of, drawn, purges, seen};
+use crate::worked::{Outline, Part, Seen, bytes_of, drawn, purges, seen};
 use gate_journal::{JournalError, Progress, Scanner, can_be_group, encode_group};
+use std::alloc::Global;
+use std::process::Abort;
 use std::test::Fail;
 
-/// Parts, the place from which they are read, the version, and what they are read as.
-type Case<'a> = (&'a [Part], u64, u32, Seen);
+/// What a journal of these parts reads as, from a place on and under a version.
+#[derive(Clone, Copy)]
+struct Case {
+    name: &'static str,
+    parts: &'static [Part],
+    from: u64,
+    version: u32,
+    seen: Seen,
+}
+
+const BAD_HEADER: Seen = Err(JournalError::BadHeader);
+
+const GAP: Seen = Err(JournalError::Gap(1));
+
+const PAST_END: Seen = Err(JournalError::PastEnd);
 
 /// What journals read as, closed, sealed, and broken off.
-const READ: [Case<'static>; 13] = [
-    (&[Closed], 7, 1, Ok((0, 0, false, 7))),
-    (&[Closed, Open, Open], 7, 2, Ok((0, 0, false, 7))),
-    (
-        &[Open, Purges(1, 0), Closed, Closed],
-        0,
-        1,
-        Ok((1, 2, false, 1)),
-    ),
-    (
-        &[Open, Purges(1, 0), Closed, Open],
-        0,
-        1,
-        Ok((1, 2, false, 1)),
-    ),
-    (
-        &[Open, Purges(1, 0), Open, Purges(2, 1), Closed, Closed],
-        0,
-        1,
-        Ok((3, 4, false, 3)),
-    ),
-    (
-        &[Open, Purges(1, 0), Open, Seal(1), Open],
-        0,
-        1,
-        Ok((1, 2, true, 1)),
-    ),
-    (&[Open, Seal(257)], 257, 1, Ok((0, 0, true, 257))),
-    (&[Open], 0, 1, Err(JournalError::PastEnd)),
-    (&[Open, Closed], 0, 1, Err(JournalError::BadHeader)),
-    (&[Open, Purges(1, 0)], 1, 1, Err(JournalError::Gap(1))),
-    (
-        &[Open, Purges(1, 0), Open, Seal(2)],
-        0,
-        1,
-        Err(JournalError::Gap(1)),
-    ),
-    (
-        &[Open, Purges(1, 0), Closed],
-        0,
-        1,
-        Err(JournalError::PastEnd),
-    ),
-    (
-        &[Open, Purges(1, 0), Open, Closed],
-        0,
-        1,
-        Err(JournalError::BadHeader),
-    ),
+#[rattlefmt::skip]
+const READ: [Case; 13] = [
+    Case { name: "no group", parts: &[Closed], from: 7, version: 1,
+        seen: Ok(Outline { commands: 0, tail: 0, is_sealed: false, place: 7 }) },
+    Case { name: "open gates after a closed one", parts: &[Closed, Open, Open], from: 7, version: 2,
+        seen: Ok(Outline { commands: 0, tail: 0, is_sealed: false, place: 7 }) },
+    Case { name: "one group", parts: &[Open, Purges(1, 0), Closed, Closed], from: 0, version: 1,
+        seen: Ok(Outline { commands: 1, tail: 2, is_sealed: false, place: 1 }) },
+    Case { name: "one group, and an open gate later",
+        parts: &[Open, Purges(1, 0), Closed, Open], from: 0, version: 1,
+        seen: Ok(Outline { commands: 1, tail: 2, is_sealed: false, place: 1 }) },
+    Case { name: "two groups",
+        parts: &[Open, Purges(1, 0), Open, Purges(2, 1), Closed, Closed], from: 0, version: 1,
+        seen: Ok(Outline { commands: 3, tail: 4, is_sealed: false, place: 3 }) },
+    Case { name: "a group and a seal",
+        parts: &[Open, Purges(1, 0), Open, Seal(1), Open], from: 0, version: 1,
+        seen: Ok(Outline { commands: 1, tail: 2, is_sealed: true, place: 1 }) },
+    Case { name: "a seal", parts: &[Open, Seal(257)], from: 257, version: 1,
+        seen: Ok(Outline { commands: 0, tail: 0, is_sealed: true, place: 257 }) },
+    Case { name: "no payload", parts: &[Open], from: 0, version: 1, seen: PAST_END },
+    Case { name: "an empty payload", parts: &[Open, Closed], from: 0, version: 1,
+        seen: BAD_HEADER },
+    Case { name: "a group at an earlier place", parts: &[Open, Purges(1, 0)], from: 1, version: 1,
+        seen: GAP },
+    Case { name: "a seal at a later place",
+        parts: &[Open, Purges(1, 0), Open, Seal(2)], from: 0, version: 1,
+        seen: GAP },
+    Case { name: "a group without a gate after it",
+        parts: &[Open, Purges(1, 0), Closed], from: 0, version: 1,
+        seen: PAST_END },
+    Case { name: "an empty payload after a group",
+        parts: &[Open, Purges(1, 0), Open, Closed], from: 0, version: 1,
+        seen: BAD_HEADER },
 ];
+
+/// Checks what a journal reads as.
+fn assert_read(rt: &impl Abort, alloc: Global, case: &Case) -> Result<(), Fail> {
+    let bytes = bytes_of(alloc, case.parts)?;
+    let found = seen(rt, alloc, &bytes, case.from, case.version)?;
+    assert_eq!(rt; found, case.seen, "{}, version {}", case.name, case.version);
+    Ok(())
+}
 
 #[test]
 fn journals_are_read(rt: HostRuntime) -> Result<(), Fail> {
-    for (i, (parts, place, version, wanted)) in READ.iter().enumerate() {
-        let bytes = bytes_of(rt.alloc(), parts)?;
-        assert_eq!(rt;
-            seen(&rt, rt.alloc(), &bytes, *place, *version)?,
-            *wanted,
-            "case {i}"
-        );
+    for case in &READ {
+        assert_read(&rt, rt.alloc(), case)?;
     }
     Ok(())
 }
 
-// Groups of eight, nine, thirty-two and thirty-three, and a removal, under each version.
+/// Groups of eight, nine, thirty-two and thirty-three, and a removal, under each version.
+#[rattlefmt::skip]
+const LIMITS: [Case; 10] = [
+    Case { name: "eight purges", parts: &[Open, Purges(8, 0), Closed, Closed], from: 0, version: 1,
+        seen: Ok(Outline { commands: 8, tail: 2, is_sealed: false, place: 8 }) },
+    Case { name: "eight purges", parts: &[Open, Purges(8, 0), Closed, Closed], from: 0, version: 2,
+        seen: Ok(Outline { commands: 8, tail: 2, is_sealed: false, place: 8 }) },
+    Case { name: "nine purges", parts: &[Open, Purges(9, 0), Closed, Closed], from: 0, version: 1,
+        seen: BAD_HEADER },
+    Case { name: "nine purges", parts: &[Open, Purges(9, 0), Closed, Closed], from: 0, version: 2,
+        seen: Ok(Outline { commands: 9, tail: 2, is_sealed: false, place: 9 }) },
+    Case { name: "thirty-two purges",
+        parts: &[Open, Purges(32, 0), Closed, Closed], from: 0, version: 1,
+        seen: BAD_HEADER },
+    Case { name: "thirty-two purges",
+        parts: &[Open, Purges(32, 0), Closed, Closed], from: 0, version: 2,
+        seen: Ok(Outline { commands: 32, tail: 2, is_sealed: false, place: 32 }) },
+    Case { name: "thirty-three purges",
+        parts: &[Open, Purges(33, 0), Closed, Closed], from: 0, version: 1,
+        seen: BAD_HEADER },
+    Case { name: "thirty-three purges",
+        parts: &[Open, Purges(33, 0), Closed, Closed], from: 0, version: 2,
+        seen: BAD_HEADER },
+    Case { name: "a removal", parts: &[Open, Removal, Closed, Closed], from: 0, version: 1,
+        seen: Err(JournalError::BadRecord) },
+    Case { name: "a removal", parts: &[Open, Removal, Closed, Closed], from: 0, version: 2,
+        seen: Ok(Outline { commands: 1, tail: 2, is_sealed: false, place: 1 }) },
+];
+
 #[test]
 fn versions_have_limits(rt: HostRuntime) -> Result<(), Fail> {
-    let eight: Seen = Ok((8, 2, false, 8));
-    let bad_header: Seen = Err(JournalError::BadHeader);
-    let cases: [Case<'static>; 10] = [
-        (&[Open, Purges(8, 0), Closed, Closed], 0, 1, eight),
-        (&[Open, Purges(8, 0), Closed, Closed], 0, 2, eight),
-        (&[Open, Purges(9, 0), Closed, Closed], 0, 1, bad_header),
-        (
-            &[Open, Purges(9, 0), Closed, Closed],
-            0,
-            2,
-            Ok((9, 2, false, 9)),
-        ),
-        (&[Open, Purges(32, 0), Closed, Closed], 0, 1, bad_header),
-        (
-            &[Open, Purges(32, 0), Closed, Closed],
-            0,
-            2,
-            Ok((32, 2, false, 32)),
-        ),
-        (&[Open, Purges(33, 0), Closed, Closed], 0, 1, bad_header),
-        (&[Open, Purges(33, 0), Closed, Closed], 0, 2, bad_header),
-        (
-            &[Open, Removal, Closed, Closed],
-            0,
-            1,
-            Err(JournalError::BadRecord),
-        ),
-        (&[Open, Removal, Closed, Closed], 0, 2, Ok((1, 2, false, 1))),
-    ];
-    for (i, (parts, place, version, wanted)) in cases.iter().enumerate() {
-        let bytes = bytes_of(rt.alloc(), parts)?;
-        assert_eq!(rt;
-            seen(&rt, rt.alloc(), &bytes, *place, *version)?,
-            *wanted,
-            "case {i}"
-        );
+    for case in &LIMITS {
+        assert_read(&rt, rt.alloc(), case)?;
     }
     Ok(())
 }

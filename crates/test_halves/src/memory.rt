@@ -2,7 +2,7 @@
 //! all.
 
 use crate::worked::Part::{Closed, Open, Purges, Seal};
-use crate::worked::{Seen, bytes_of, many, read_as, seen};
+use crate::worked::{Outline, Part, Seen, bytes_of, many, read_as, seen};
 use gate_journal::{JournalError, can_be_group, encode_group};
 use path_db::Command;
 use std::test::Fail;
@@ -26,27 +26,41 @@ fn refused_calls_may_be_tried_again(rt: HostRuntime) -> Result<(), Fail> {
         Err(JournalError::NoMemory) => read_as(&rt, rt.alloc(), &bytes, 0, 2),
         answer => answer,
     };
-    assert_eq!(rt; answer, Ok((2, 4, true, 2)));
+    let whole = Outline {
+        commands: 2,
+        tail: 4,
+        is_sealed: true,
+        place: 2,
+    };
+    assert_eq!(rt; answer, Ok(whole));
     Ok(())
 }
+
+/// The parts of a journal, and what it reads as without memory.
+const CASES: [(&[Part], Seen); 3] = [
+    (
+        &[Open, Seal(0)],
+        Ok(Outline {
+            commands: 0,
+            tail: 0,
+            is_sealed: true,
+            place: 0,
+        }),
+    ),
+    (
+        &[Open, Purges(9, 0), Closed, Closed],
+        Err(JournalError::BadHeader),
+    ),
+    (&[Open, Purges(1, 0), Closed], Err(JournalError::PastEnd)),
+];
 
 // A seal, a closed gate and a header that is none take no memory: they are answered where there is
 // none.
 #[test]
 fn refusals_take_no_memory(rt: HostRuntime) -> Result<(), Fail> {
-    let cases: [(Vec<u8>, Seen); 3] = [
-        (bytes_of(rt.alloc(), &[Open, Seal(0)])?, Ok((0, 0, true, 0))),
-        (
-            bytes_of(rt.alloc(), &[Open, Purges(9, 0), Closed, Closed])?,
-            Err(JournalError::BadHeader),
-        ),
-        (
-            bytes_of(rt.alloc(), &[Open, Purges(1, 0), Closed])?,
-            Err(JournalError::PastEnd),
-        ),
-    ];
-    for (bytes, wanted) in &cases {
-        assert_eq!(rt; seen(&rt, rt.alloc(), bytes, 0, 1)?, *wanted);
+    for (parts, wanted) in &CASES {
+        let bytes = bytes_of(rt.alloc(), parts)?;
+        assert_eq!(rt; seen(&rt, rt.alloc(), &bytes, 0, 1)?, *wanted, "{parts:?}");
     }
     Ok(())
 }

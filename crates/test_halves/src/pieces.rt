@@ -45,30 +45,39 @@ fn pieces_are_read(rt: HostRuntime) -> Result<(), Fail> {
     Ok(())
 }
 
+/// How many bytes of the rows are read, how many rows are wanted in them, and how many are read, in
+/// how many bytes.
+#[derive(Clone, Copy)]
+struct Counted {
+    len: usize,
+    wanted: u32,
+    read: Result<(usize, u64), PairError>,
+}
+
+#[rattlefmt::skip]
+const COUNTS: [Counted; 11] = [
+    Counted { len: 0, wanted: 0, read: Ok((0, 0)) },
+    Counted { len: 0, wanted: 1, read: Err(BAD) },
+    Counted { len: 93, wanted: 1, read: Ok((1, 93)) },
+    Counted { len: 93, wanted: 2, read: Err(BAD) },
+    Counted { len: 93, wanted: 0, read: Err(BAD) },
+    Counted { len: 92, wanted: 1, read: Err(BAD) },
+    Counted { len: 94, wanted: 1, read: Err(BAD) },
+    Counted { len: 186, wanted: 2, read: Ok((2, 186)) },
+    Counted { len: 278, wanted: 3, read: Err(BAD) },
+    Counted { len: 279, wanted: 2, read: Err(BAD) },
+    Counted { len: 279, wanted: 4, read: Err(BAD) },
+];
+
 // Parts of the rows, and other counts, are refused.
 #[test]
 fn pieces_are_counted(rt: HostRuntime) -> Result<(), Fail> {
     let area = area(rt.alloc())?;
     let rows = rows_of(&area);
-    for (len, count, expected) in [
-        (0, 0, Ok((0, 0))),
-        (0, 1, Err(BAD)),
-        (93, 1, Ok((1, 93))),
-        (93, 2, Err(BAD)),
-        (93, 0, Err(BAD)),
-        (92, 1, Err(BAD)),
-        (94, 1, Err(BAD)),
-        (186, 2, Ok((2, 186))),
-        (278, 3, Err(BAD)),
-        (279, 2, Err(BAD)),
-        (279, 4, Err(BAD)),
-    ] {
-        let front = rows.get(..len).unwrap_or(&[]);
-        assert_eq!(rt;
-            read_again(rt.alloc(), front, 50, count),
-            expected,
-            "{len} {count}"
-        );
+    for row in &COUNTS {
+        let front = rows.get(..row.len).unwrap_or(&[]);
+        let found = read_again(rt.alloc(), front, 50, row.wanted);
+        assert_eq!(rt; found, row.read, "{} in {} bytes", row.wanted, row.len);
     }
     Ok(())
 }

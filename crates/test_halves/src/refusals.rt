@@ -1,7 +1,7 @@
 //! A journal of which one byte is changed.
 
 use crate::worked::Part::{Closed, Open};
-use crate::worked::{SEGMENT, Seen, bytes_of, seen};
+use crate::worked::{Outline, SEGMENT, Seen, bytes_of, seen};
 use gate_journal::JournalError::{self, BadHeader, BadRecord, Gap, PastEnd};
 use std::alloc::Global;
 use std::test::Fail;
@@ -22,96 +22,126 @@ pub(crate) fn journal(alloc: Global) -> Result<Vec<u8>, Fail> {
     Ok(bytes)
 }
 
-pub(crate) const WHOLE: Seen = Ok((2, 2, true, 2));
+/// What the whole journal reads as.
+pub(crate) const WHOLE: Seen = Ok(Outline {
+    commands: 2,
+    tail: 2,
+    is_sealed: true,
+    place: 2,
+});
 
-// Which byte is changed, what to, and what the journal then reads as.
-const CHANGES: [(usize, u8, Seen); 46] = [
+/// What it reads as where its first gate is closed, and where its second one is.
+pub(crate) const EMPTY: Seen = Ok(Outline {
+    commands: 0,
+    tail: 0,
+    is_sealed: false,
+    place: 0,
+});
+
+const UNSEALED: Seen = Ok(Outline {
+    commands: 2,
+    tail: 2,
+    is_sealed: false,
+    place: 2,
+});
+
+/// Which byte is changed, what to, and what the journal then reads as.
+#[derive(Clone, Copy)]
+struct Change {
+    at: usize,
+    byte: u8,
+    seen: Seen,
+}
+
+#[rattlefmt::skip]
+const CHANGES: [Change; 46] = [
     // the first gate
-    (0, 0, Ok((0, 0, false, 0))),
-    (1, 1, WHOLE),
+    Change { at: 0, byte: 0, seen: EMPTY },
+    Change { at: 1, byte: 1, seen: WHOLE },
     // the header: kind, count, two zeros
-    (512, 0, Err(BadHeader)),
-    (512, 2, Err(BadHeader)),
-    (512, 3, Err(BadHeader)),
-    (513, 0, Err(BadHeader)),
-    (513, 1, Err(BadRecord)),
-    (513, 3, Err(BadRecord)),
-    (513, 8, Err(BadRecord)),
-    (513, 9, Err(BadHeader)),
-    (514, 1, Err(BadHeader)),
-    (515, 1, Err(BadHeader)),
+    Change { at: 512, byte: 0, seen: Err(BadHeader) },
+    Change { at: 512, byte: 2, seen: Err(BadHeader) },
+    Change { at: 512, byte: 3, seen: Err(BadHeader) },
+    Change { at: 513, byte: 0, seen: Err(BadHeader) },
+    Change { at: 513, byte: 1, seen: Err(BadRecord) },
+    Change { at: 513, byte: 3, seen: Err(BadRecord) },
+    Change { at: 513, byte: 8, seen: Err(BadRecord) },
+    Change { at: 513, byte: 9, seen: Err(BadHeader) },
+    Change { at: 514, byte: 1, seen: Err(BadHeader) },
+    Change { at: 515, byte: 1, seen: Err(BadHeader) },
     // the size
-    (516, 1, Err(BadHeader)),
-    (517, 4, Err(BadHeader)),
-    (517, 3, Err(PastEnd)),
-    (518, 1, Err(BadRecord)),
-    (518, 4, Err(BadRecord)),
-    (518, 8, Err(PastEnd)),
-    (519, 111, Err(BadRecord)),
-    (519, 113, Err(BadRecord)),
-    (519, 0, Err(BadRecord)),
+    Change { at: 516, byte: 1, seen: Err(BadHeader) },
+    Change { at: 517, byte: 4, seen: Err(BadHeader) },
+    Change { at: 517, byte: 3, seen: Err(PastEnd) },
+    Change { at: 518, byte: 1, seen: Err(BadRecord) },
+    Change { at: 518, byte: 4, seen: Err(BadRecord) },
+    Change { at: 518, byte: 8, seen: Err(PastEnd) },
+    Change { at: 519, byte: 111, seen: Err(BadRecord) },
+    Change { at: 519, byte: 113, seen: Err(BadRecord) },
+    Change { at: 519, byte: 0, seen: Err(BadRecord) },
     // the place
-    (520, 1, Err(Gap(0))),
-    (527, 1, Err(Gap(0))),
+    Change { at: 520, byte: 1, seen: Err(Gap(0)) },
+    Change { at: 527, byte: 1, seen: Err(Gap(0)) },
     // the first record
-    (528, 1, Err(BadRecord)),
-    (531, 8, Err(BadRecord)),
-    (531, 10, Err(BadRecord)),
-    (532, 4, Err(BadRecord)),
-    (532, 3, Err(BadRecord)),
-    (540, 6, WHOLE),
+    Change { at: 528, byte: 1, seen: Err(BadRecord) },
+    Change { at: 531, byte: 8, seen: Err(BadRecord) },
+    Change { at: 531, byte: 10, seen: Err(BadRecord) },
+    Change { at: 532, byte: 4, seen: Err(BadRecord) },
+    Change { at: 532, byte: 3, seen: Err(BadRecord) },
+    Change { at: 540, byte: 6, seen: WHOLE },
     // the second record
-    (544, 94, Err(BadRecord)),
-    (544, 96, Err(BadRecord)),
-    (545, 2, Err(BadRecord)),
-    (546, 0, Err(BadRecord)),
-    (546, 2, Err(BadRecord)),
-    (546, 17, Err(BadRecord)),
-    (547, 4, Err(BadRecord)),
-    (547, 3, WHOLE),
-    (552, 0x0b, Err(BadRecord)),
-    (639, 0x0c, WHOLE),
+    Change { at: 544, byte: 94, seen: Err(BadRecord) },
+    Change { at: 544, byte: 96, seen: Err(BadRecord) },
+    Change { at: 545, byte: 2, seen: Err(BadRecord) },
+    Change { at: 546, byte: 0, seen: Err(BadRecord) },
+    Change { at: 546, byte: 2, seen: Err(BadRecord) },
+    Change { at: 546, byte: 17, seen: Err(BadRecord) },
+    Change { at: 547, byte: 4, seen: Err(BadRecord) },
+    Change { at: 547, byte: 3, seen: WHOLE },
+    Change { at: 552, byte: 0x0b, seen: Err(BadRecord) },
+    Change { at: 639, byte: 0x0c, seen: WHOLE },
     // the padding
-    (640, 1, Err(BadRecord)),
-    (1023, 1, Err(BadRecord)),
+    Change { at: 640, byte: 1, seen: Err(BadRecord) },
+    Change { at: 1023, byte: 1, seen: Err(BadRecord) },
     // the second gate, and the seal
-    (1024, 0xa6, Ok((2, 2, false, 2))),
-    (1537, 1, Err(BadHeader)),
-    (1551, 3, Err(Gap(2))),
-    (1552, 1, Err(BadRecord)),
-    (2048, 0xa7, WHOLE),
+    Change { at: 1024, byte: 0xa6, seen: UNSEALED },
+    Change { at: 1537, byte: 1, seen: Err(BadHeader) },
+    Change { at: 1551, byte: 3, seen: Err(Gap(2)) },
+    Change { at: 1552, byte: 1, seen: Err(BadRecord) },
+    Change { at: 2048, byte: 0xa7, seen: WHOLE },
 ];
 
 #[test]
 fn one_byte_is_changed(rt: HostRuntime) -> Result<(), Fail> {
     let mut bytes = journal(rt.alloc())?;
     assert_eq!(rt; seen(&rt, rt.alloc(), &bytes, 0, 1)?, WHOLE);
-    for (at, byte, wanted) in CHANGES {
+    for row in &CHANGES {
+        let at = row.at;
         assert!(rt; at < bytes.len());
         let was = bytes[at];
-        bytes[at] = byte;
-        assert_eq!(rt;
-            seen(&rt, rt.alloc(), &bytes, 0, 1)?,
-            wanted,
-            "{byte} at {at}"
-        );
+        bytes[at] = row.byte;
+        let found = seen(&rt, rt.alloc(), &bytes, 0, 1)?;
+        assert_eq!(rt; found, row.seen, "{} at {at}", row.byte);
         assert!(rt; at < bytes.len());
         bytes[at] = was;
     }
     Ok(())
 }
 
+/// Errors, each with its number and its text.
+const TEXTS: [(JournalError, &str); 5] = [
+    (JournalError::NoMemory, "0 out of memory"),
+    (BadHeader, "1 a payload has no header"),
+    (BadRecord, "2 a group has a bad record"),
+    (Gap(257), "3 place 257 is missing"),
+    (PastEnd, "4 a payload goes past the end"),
+];
+
 #[test]
 fn errors_have_numbers_and_texts(rt: HostRuntime) -> Result<(), Fail> {
-    for (error, number, text) in [
-        (JournalError::NoMemory, 0, "out of memory"),
-        (BadHeader, 1, "a payload has no header"),
-        (BadRecord, 2, "a group has a bad record"),
-        (Gap(257), 3, "place 257 is missing"),
-        (PastEnd, 4, "a payload goes past the end"),
-    ] {
-        assert_eq!(rt; error.number(), number);
-        assert_eq!(rt; format!(in rt.alloc(); "{error}")?.as_str(), text);
+    for (error, wanted) in &TEXTS {
+        let text = format!(in rt.alloc(); "{} {error}", error.number())?;
+        assert_eq!(rt; text.as_str(), *wanted);
     }
     Ok(())
 }

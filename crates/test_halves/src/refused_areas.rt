@@ -4,7 +4,7 @@
 
 use crate::area::{area, changed, rows_of};
 use ckpt_pair::{
-    Checkpoint, PairError, RowsReader, encode_checkpoint, feed_rows, finish_rows, read_half,
+    Checkpoint, Head, PairError, RowsReader, encode_checkpoint, feed_rows, finish_rows, read_half,
 };
 use path_db::{PathDb, write_rows};
 use std::alloc::Global;
@@ -43,35 +43,64 @@ fn refused_memory_of_written_checkpoints(rt: HostRuntime) -> Result<(), Fail> {
     Ok(())
 }
 
-// The unchanged area, and areas with one byte changed: the version and the length, which are
-// checked without memory, and the third row's type and the count, which are checked after rows were
-// read.
+/// The worked head.
+const HEAD: Head = Head {
+    version: 2,
+    epoch: 7,
+    place: 258,
+};
+
+const BAD: Option<PairError> = Some(PairError::BadCheckpoint);
+
+const NEWER: Option<PairError> = Some(PairError::NewerFormat(3));
+
+/// Which byte of the worked area is changed, what to, whether memory may be wanted as it is read
+/// then, and why it is refused.
+#[derive(Clone, Copy)]
+struct ReadChange {
+    what: &'static str,
+    at: usize,
+    byte: u8,
+    takes_memory: bool,
+    refusal: Option<PairError>,
+}
+
+/// The version and the length are checked without memory, and the third row's type and the count
+/// after rows were read.
+#[rattlefmt::skip]
+const READ_CHANGES: [ReadChange; 5] = [
+    ReadChange { what: "nothing", at: 511, byte: 0, takes_memory: true, refusal: None },
+    ReadChange { what: "the version", at: 7, byte: 3, takes_memory: false, refusal: NEWER },
+    ReadChange { what: "the length", at: 26, byte: 2, takes_memory: false, refusal: BAD },
+    ReadChange { what: "the third row's type", at: 218, byte: 2, takes_memory: true, refusal: BAD },
+    ReadChange { what: "the count", at: 31, byte: 2, takes_memory: true, refusal: BAD },
+];
+
+/// Checks what a changed area is read as, which is read again where memory is refused.
+fn assert_read(rt: &impl Abort, alloc: Global, row: &ReadChange) -> Result<(), Fail> {
+    let area = changed(alloc, row.at, row.byte)?;
+    let answer = match read(alloc, &area) {
+        Err(PairError::NoMemory) => {
+            assert!(rt; row.takes_memory, "{}", row.what);
+            read(alloc, &area)
+        }
+        answer => answer,
+    };
+    match answer {
+        Ok(checkpoint) => {
+            assert_eq!(rt; row.refusal, None, "{}", row.what);
+            assert_eq!(rt; checkpoint.head, HEAD, "{}", row.what);
+            assert_rows(rt, alloc, &checkpoint.db, rows_of(&area))?;
+        }
+        Err(error) => assert_eq!(rt; Some(error), row.refusal, "{}", row.what),
+    }
+    Ok(())
+}
+
 #[test]
 fn refused_memory_of_read_checkpoints(rt: HostRuntime) -> Result<(), Fail> {
-    for (at, byte, takes_memory, refusal) in [
-        (511, 0, true, None),
-        (7, 3, false, Some(PairError::NewerFormat(3))),
-        (26, 2, false, Some(PairError::BadCheckpoint)),
-        (218, 2, true, Some(PairError::BadCheckpoint)),
-        (31, 2, true, Some(PairError::BadCheckpoint)),
-    ] {
-        let area = changed(rt.alloc(), at, byte)?;
-        let answer = match read(rt.alloc(), &area) {
-            Err(PairError::NoMemory) => {
-                assert!(rt; takes_memory);
-                read(rt.alloc(), &area)
-            }
-            answer => answer,
-        };
-        match answer {
-            Ok(checkpoint) => {
-                assert_eq!(rt; refusal, None);
-                let head = checkpoint.head;
-                assert_eq!(rt; (head.version, head.epoch, head.place), (2, 7, 258));
-                assert_rows(&rt, rt.alloc(), &checkpoint.db, rows_of(&area))?;
-            }
-            Err(error) => assert_eq!(rt; Some(error), refusal),
-        }
+    for row in &READ_CHANGES {
+        assert_read(&rt, rt.alloc(), row)?;
     }
     Ok(())
 }
@@ -85,26 +114,46 @@ fn read_in_pieces(alloc: Global, bytes: &[u8], count: u32) -> Result<PathDb, Pai
     finish_rows(reader, count)
 }
 
+/// Which byte of the worked area is changed, what to, how many rows are wanted then, and why the
+/// rows are refused.
+#[derive(Clone, Copy)]
+struct FedChange {
+    what: &'static str,
+    at: usize,
+    byte: u8,
+    count: u32,
+    refusal: Option<PairError>,
+}
+
+#[rattlefmt::skip]
+const FED_CHANGES: [FedChange; 4] = [
+    FedChange { what: "nothing", at: 511, byte: 0, count: 3, refusal: None },
+    FedChange { what: "nothing but the count", at: 511, byte: 0, count: 2, refusal: BAD },
+    FedChange { what: "the third row's type", at: 218, byte: 2, count: 3, refusal: BAD },
+    FedChange { what: "the third segment", at: 223, byte: 0x0b, count: 3, refusal: BAD },
+];
+
+/// Checks what changed rows are read as in pieces, which are fed again where memory is refused.
+fn assert_fed(rt: &impl Abort, alloc: Global, row: &FedChange) -> Result<(), Fail> {
+    let area = changed(alloc, row.at, row.byte)?;
+    let answer = match read_in_pieces(alloc, rows_of(&area), row.count) {
+        Err(PairError::NoMemory) => read_in_pieces(alloc, rows_of(&area), row.count),
+        answer => answer,
+    };
+    match answer {
+        Ok(db) => {
+            assert_eq!(rt; row.refusal, None, "{}", row.what);
+            assert_rows(rt, alloc, &db, rows_of(&area))?;
+        }
+        Err(error) => assert_eq!(rt; Some(error), row.refusal, "{}", row.what),
+    }
+    Ok(())
+}
+
 #[test]
 fn refused_memory_of_fed_rows(rt: HostRuntime) -> Result<(), Fail> {
-    for (at, byte, count, refusal) in [
-        (511, 0, 3, None),
-        (511, 0, 2, Some(PairError::BadCheckpoint)),
-        (218, 2, 3, Some(PairError::BadCheckpoint)),
-        (223, 0x0b, 3, Some(PairError::BadCheckpoint)),
-    ] {
-        let area = changed(rt.alloc(), at, byte)?;
-        let answer = match read_in_pieces(rt.alloc(), rows_of(&area), count) {
-            Err(PairError::NoMemory) => read_in_pieces(rt.alloc(), rows_of(&area), count),
-            answer => answer,
-        };
-        match answer {
-            Ok(db) => {
-                assert_eq!(rt; refusal, None);
-                assert_rows(&rt, rt.alloc(), &db, rows_of(&area))?;
-            }
-            Err(error) => assert_eq!(rt; Some(error), refusal),
-        }
+    for row in &FED_CHANGES {
+        assert_fed(&rt, rt.alloc(), row)?;
     }
     Ok(())
 }

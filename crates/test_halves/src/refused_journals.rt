@@ -2,8 +2,8 @@
 //! allocations refused in turn: a refused call succeeds when it is tried again, and no answer is
 //! another for the refusal.
 
-use crate::refusals::{WHOLE, journal};
-use crate::worked::{SEGMENT, Seen, drawn, purges, read_as, register, segment};
+use crate::refusals::{EMPTY, WHOLE, journal};
+use crate::worked::{SEGMENT, Seen, drawn, outline_of, purges, read_as, register, segment};
 use gate_journal::{JournalError, Progress, Scanner, can_be_group, encode_group};
 use path_db::Command;
 use seg_core::SegType;
@@ -42,38 +42,55 @@ fn refused_memory_of_written_groups(rt: HostRuntime) -> Result<(), Fail> {
     assert_written(&rt, rt.alloc(), &[Command::Purge(5), registration], payload)
 }
 
-/// The worked journal as it is, and with a byte changed: of the closed gate, of the header, of the
-/// registration's type and of the seal. Only from the records on memory may be wanted.
-const CHANGES: [(usize, u8, bool, Seen); 6] = [
-    (1, 1, true, WHOLE),
-    (0, 0, false, Ok((0, 0, false, 0))),
-    (513, 9, false, Err(JournalError::BadHeader)),
-    (547, 4, true, Err(JournalError::BadRecord)),
-    (1551, 3, true, Err(JournalError::Gap(2))),
-    (1552, 1, true, Err(JournalError::BadRecord)),
+/// Which byte of the worked journal is changed, what to, whether memory may be wanted as it is read
+/// then, and what it is read as.
+#[derive(Clone, Copy)]
+struct Change {
+    name: &'static str,
+    at: usize,
+    byte: u8,
+    takes_memory: bool,
+    seen: Seen,
+}
+
+const BAD_HEADER: Seen = Err(JournalError::BadHeader);
+
+const BAD_RECORD: Seen = Err(JournalError::BadRecord);
+
+const GAP: Seen = Err(JournalError::Gap(2));
+
+/// Only from the records on memory may be wanted.
+#[rattlefmt::skip]
+const CHANGES: [Change; 6] = [
+    Change { name: "as it is", at: 1, byte: 1, takes_memory: true, seen: WHOLE },
+    Change { name: "a closed gate", at: 0, byte: 0, takes_memory: false, seen: EMPTY },
+    Change { name: "the header", at: 513, byte: 9, takes_memory: false, seen: BAD_HEADER },
+    Change { name: "the row's type", at: 547, byte: 4, takes_memory: true, seen: BAD_RECORD },
+    Change { name: "the seal's place", at: 1551, byte: 3, takes_memory: true, seen: GAP },
+    Change { name: "after the seal", at: 1552, byte: 1, takes_memory: true, seen: BAD_RECORD },
 ];
 
-/// The worked journal with another byte at a place.
-fn changed(alloc: Global, at: usize, byte: u8) -> Result<Vec<u8>, Fail> {
+/// The worked journal with a byte changed.
+fn changed(alloc: Global, change: &Change) -> Result<Vec<u8>, Fail> {
     let mut bytes = journal(alloc)?;
-    if let Some(old) = bytes.get_mut(at) {
-        *old = byte;
+    if let Some(old) = bytes.get_mut(change.at) {
+        *old = change.byte;
     }
     Ok(bytes)
 }
 
 #[test]
 fn refused_memory_of_scans(rt: HostRuntime) -> Result<(), Fail> {
-    for (at, byte, takes_memory, expected) in CHANGES {
-        let bytes = changed(rt.alloc(), at, byte)?;
+    for change in &CHANGES {
+        let bytes = changed(rt.alloc(), change)?;
         let answer = match read_as(&rt, rt.alloc(), &bytes, 0, 1) {
             Err(JournalError::NoMemory) => {
-                assert!(rt; takes_memory);
+                assert!(rt; change.takes_memory, "{}", change.name);
                 read_as(&rt, rt.alloc(), &bytes, 0, 1)
             }
             answer => answer,
         };
-        assert_eq!(rt; answer, expected, "{byte} at {at}");
+        assert_eq!(rt; answer, change.seen, "{}", change.name);
     }
     Ok(())
 }
@@ -97,9 +114,7 @@ fn taken(rt: &impl Abort, alloc: Global, bytes: &[u8]) -> Seen {
             }
         };
         match progress {
-            Progress::Done(scan) => {
-                return Ok((scan.commands.len(), scan.tail, scan.sealed, scan.place));
-            }
+            Progress::Done(scan) => return Ok(outline_of(&scan)),
             Progress::More(next) => scanner = next,
         }
     }
@@ -108,16 +123,16 @@ fn taken(rt: &impl Abort, alloc: Global, bytes: &[u8]) -> Seen {
 
 #[test]
 fn refused_memory_of_pieces(rt: HostRuntime) -> Result<(), Fail> {
-    for (at, byte, takes_memory, expected) in CHANGES {
-        let bytes = changed(rt.alloc(), at, byte)?;
+    for change in &CHANGES {
+        let bytes = changed(rt.alloc(), change)?;
         let answer = match taken(&rt, rt.alloc(), &bytes) {
             Err(JournalError::NoMemory) => {
-                assert!(rt; takes_memory);
+                assert!(rt; change.takes_memory, "{}", change.name);
                 taken(&rt, rt.alloc(), &bytes)
             }
             answer => answer,
         };
-        assert_eq!(rt; answer, expected, "{byte} at {at}");
+        assert_eq!(rt; answer, change.seen, "{}", change.name);
     }
     Ok(())
 }

@@ -1,6 +1,6 @@
 //! A segment that was worked through by hand, and others like it.
 
-use gate_journal::{JournalError, scan};
+use gate_journal::{JournalError, Scan, scan};
 use path_db::{Command, Registration};
 use seg_core::{SegType, Segment, read_segment};
 use std::alloc::Global;
@@ -64,7 +64,7 @@ pub(crate) fn drawn(alloc: Global, count: u8, place: u64) -> Result<Vec<u8>, Fai
 }
 
 /// What is in a journal.
-#[derive(Clone, Copy)]
+#[derive(Clone, Copy, Debug)]
 pub(crate) enum Part {
     /// An open gate.
     Open,
@@ -114,9 +114,30 @@ fn pad(bytes: &mut Vec<u8>) -> Result<(), Fail> {
     Ok(())
 }
 
-/// What a journal reads as: how many commands, its tail, whether it is sealed, and the place
-/// reached.
-pub(crate) type Seen = Result<(usize, u64, bool, u64), JournalError>;
+/// What a journal reads as.
+#[derive(Clone, Copy, Debug, PartialEq, Eq)]
+pub(crate) struct Outline {
+    /// How many commands it has.
+    pub(crate) commands: usize,
+    /// The sector of its first gate that is not open.
+    pub(crate) tail: u64,
+    pub(crate) is_sealed: bool,
+    /// The place reached.
+    pub(crate) place: u64,
+}
+
+/// What a journal reads as, or why it does not.
+pub(crate) type Seen = Result<Outline, JournalError>;
+
+/// The outline of a journal that was read.
+pub(crate) fn outline_of(read: &Scan) -> Outline {
+    Outline {
+        commands: read.commands.len(),
+        tail: read.tail,
+        is_sealed: read.sealed,
+        place: read.place,
+    }
+}
 
 /// What these bytes read as, or want of memory.
 pub(crate) fn read_as(
@@ -128,7 +149,7 @@ pub(crate) fn read_as(
 ) -> Seen {
     assert!(rt; bytes.len() >= 512 && bytes.len() % 512 == 0);
     let read = scan(alloc, bytes, place, version)?;
-    Ok((read.commands.len(), read.tail, read.sealed, read.place))
+    Ok(outline_of(&read))
 }
 
 /// What these bytes read as. Want of memory is no answer.

@@ -27,28 +27,31 @@ fn found(
     Ok(answer(db, &query, now)?)
 }
 
-/// Checks how many segments a lookup shows at a moment.
-fn assert_shown(
-    rt: &impl Abort,
-    db: &PathDb,
-    cores: &Roster,
-    (source, destination, now): (&str, &str, u64),
+/// A lookup at a moment in half seconds, and how many segments it shows.
+#[derive(Clone, Copy, Debug)]
+struct Lookup {
+    source: &'static str,
+    destination: &'static str,
+    now: u64,
     shown: usize,
-) -> Result<(), Fail> {
-    let segments = found(db, cores, source, destination, now)?;
-    assert_same(rt, &segments.len(), &shown, &(source, destination, now));
+}
+
+/// Checks how many segments a lookup shows.
+fn assert_shown(rt: &impl Abort, db: &PathDb, cores: &Roster, lookup: &Lookup) -> Result<(), Fail> {
+    let segments = found(db, cores, lookup.source, lookup.destination, lookup.now)?;
+    assert_same(rt, &segments.len(), &lookup.shown, lookup);
     Ok(())
 }
 
-/// Checks how many segments each of these lookups shows at moment 0.
+/// Checks how many segments each of these lookups shows.
 fn assert_all_shown(
     rt: &impl Abort,
     db: &PathDb,
     cores: &Roster,
-    lookups: &[(&str, &str, usize)],
+    lookups: &[Lookup],
 ) -> Result<(), Fail> {
-    for (source, destination, shown) in lookups {
-        assert_shown(rt, db, cores, (*source, *destination, 0), *shown)?;
+    for lookup in lookups {
+        assert_shown(rt, db, cores, lookup)?;
     }
     Ok(())
 }
@@ -72,8 +75,13 @@ const MOMENTS: [(u64, usize); 5] = [
 /// Checks that a database shows this number of segments at each of those moments.
 fn assert_moments(rt: &impl Abort, db: &PathDb, cores: &Roster) -> Result<(), Fail> {
     for (now, shown) in &MOMENTS {
-        let lookup = ("1-ff00:0:110", "1-ff00:0:111", *now);
-        assert_shown(rt, db, cores, lookup, *shown)?;
+        let lookup = Lookup {
+            source: "1-ff00:0:110",
+            destination: "1-ff00:0:111",
+            now: *now,
+            shown: *shown,
+        };
+        assert_shown(rt, db, cores, &lookup)?;
     }
     Ok(())
 }
@@ -89,17 +97,18 @@ fn expiry_boundary_hidden(rt: HostRuntime) -> Result<(), Fail> {
 }
 
 /// Lookups in a database of one core segment, from 2-64512 to 1-ff00:0:110.
-const CORE_LOOKUPS: [(&str, &str, usize); 10] = [
-    ("1-0", "0-0", 1),
-    ("2-0", "0-0", 0),
-    ("1-0", "2-0", 1),
-    ("1-ff00:0:110", "2-64512", 1),
-    ("2-64512", "1-ff00:0:110", 0),
-    ("1-ff00:0:110", "0-0", 1),
-    ("0-0", "2-64512", 1),
-    ("0-0", "1-0", 0),
-    ("1-ff00:0:111", "0-0", 0),
-    ("0-0", "1-ff00:0:110", 0),
+#[rattlefmt::skip]
+const CORE_LOOKUPS: [Lookup; 10] = [
+    Lookup { source: "1-0", destination: "0-0", now: 0, shown: 1 },
+    Lookup { source: "2-0", destination: "0-0", now: 0, shown: 0 },
+    Lookup { source: "1-0", destination: "2-0", now: 0, shown: 1 },
+    Lookup { source: "1-ff00:0:110", destination: "2-64512", now: 0, shown: 1 },
+    Lookup { source: "2-64512", destination: "1-ff00:0:110", now: 0, shown: 0 },
+    Lookup { source: "1-ff00:0:110", destination: "0-0", now: 0, shown: 1 },
+    Lookup { source: "0-0", destination: "2-64512", now: 0, shown: 1 },
+    Lookup { source: "0-0", destination: "1-0", now: 0, shown: 0 },
+    Lookup { source: "1-ff00:0:111", destination: "0-0", now: 0, shown: 0 },
+    Lookup { source: "0-0", destination: "1-ff00:0:110", now: 0, shown: 0 },
 ];
 
 #[test]
@@ -110,12 +119,13 @@ fn wildcard_core_lookup(rt: HostRuntime) -> Result<(), Fail> {
 }
 
 /// Lookups in a database of the worked segment as a down segment.
-const DOWN_LOOKUPS: [(&str, &str, usize); 5] = [
-    ("1-ff00:0:110", "1-ff00:0:111", 1),
-    ("1-ff00:0:111", "1-ff00:0:110", 0),
-    ("1-0", "1-ff00:0:111", 1),
-    ("0-0", "1-ff00:0:111", 1),
-    ("1-ff00:0:110", "0-0", 0),
+#[rattlefmt::skip]
+const DOWN_LOOKUPS: [Lookup; 5] = [
+    Lookup { source: "1-ff00:0:110", destination: "1-ff00:0:111", now: 0, shown: 1 },
+    Lookup { source: "1-ff00:0:111", destination: "1-ff00:0:110", now: 0, shown: 0 },
+    Lookup { source: "1-0", destination: "1-ff00:0:111", now: 0, shown: 1 },
+    Lookup { source: "0-0", destination: "1-ff00:0:111", now: 0, shown: 1 },
+    Lookup { source: "1-ff00:0:110", destination: "0-0", now: 0, shown: 0 },
 ];
 
 // The worked segment, as up and as down.

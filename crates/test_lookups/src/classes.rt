@@ -49,93 +49,106 @@ fn members_are_counted_once(rt: HostRuntime) -> Result<(), Fail> {
     assert_member(&rt, &nobody, "1-0", false)
 }
 
-/// The source and the destination, the type of the segments, and the ASes from which and to which
-/// the segments lead.
-const SIDES: [(&str, &str, SegType, &str, &str); 10] = [
-    (
-        "1-ff00:0:110",
-        "2-64512",
-        SegType::Core,
-        "2-64512",
-        "1-ff00:0:110",
-    ),
-    ("2-64512", "2-64512", SegType::Core, "2-64512", "2-64512"),
-    (
-        "1-ff00:0:111",
-        "1-ff00:0:110",
-        SegType::Up,
-        "1-ff00:0:110",
-        "1-ff00:0:111",
-    ),
-    (
-        "1-ff00:0:110",
-        "1-ff00:0:111",
-        SegType::Down,
-        "1-ff00:0:110",
-        "1-ff00:0:111",
-    ),
-    ("1-0", "0-0", SegType::Core, "0-0", "1-0"),
-    ("3-0", "2-64512", SegType::Core, "2-64512", "3-0"),
-    ("1-5", "1-0", SegType::Up, "1-0", "1-5"),
-    ("1-5", "0-0", SegType::Up, "0-0", "1-5"),
-    ("0-0", "1-5", SegType::Down, "0-0", "1-5"),
-    ("3-0", "1-5", SegType::Down, "3-0", "1-5"),
+/// A source and a destination, and their query: the type of the segments, and the ASes from which
+/// and to which the segments lead.
+#[derive(Clone, Copy, Debug)]
+struct Side {
+    source: &'static str,
+    destination: &'static str,
+    kind: SegType,
+    start: &'static str,
+    end: &'static str,
+}
+
+const UP: SegType = SegType::Up;
+
+const DOWN: SegType = SegType::Down;
+
+const CORE: SegType = SegType::Core;
+
+/// The core AS of ISD 1, and an AS that is none.
+const AS_110: &str = "1-ff00:0:110";
+
+const AS_111: &str = "1-ff00:0:111";
+
+/// The core AS of ISD 2.
+const AS_64512: &str = "2-64512";
+
+#[rattlefmt::skip]
+const SIDES: [Side; 10] = [
+    Side { source: AS_110, destination: AS_64512, kind: CORE, start: AS_64512, end: AS_110 },
+    Side { source: AS_64512, destination: AS_64512, kind: CORE, start: AS_64512, end: AS_64512 },
+    Side { source: AS_111, destination: AS_110, kind: UP, start: AS_110, end: AS_111 },
+    Side { source: AS_110, destination: AS_111, kind: DOWN, start: AS_110, end: AS_111 },
+    Side { source: "1-0", destination: "0-0", kind: CORE, start: "0-0", end: "1-0" },
+    Side { source: "3-0", destination: AS_64512, kind: CORE, start: AS_64512, end: "3-0" },
+    Side { source: "1-5", destination: "1-0", kind: UP, start: "1-0", end: "1-5" },
+    Side { source: "1-5", destination: "0-0", kind: UP, start: "0-0", end: "1-5" },
+    Side { source: "0-0", destination: "1-5", kind: DOWN, start: "0-0", end: "1-5" },
+    Side { source: "3-0", destination: "1-5", kind: DOWN, start: "3-0", end: "1-5" },
 ];
 
 /// The query of a source and a destination, or why they are refused.
 fn classified(
     cores: &Roster,
-    (source, destination): (&str, &str),
+    source: &str,
+    destination: &str,
 ) -> Result<Result<Query, LookupError>, Fail> {
     Ok(classify(cores, parse(source)?, parse(destination)?))
 }
 
-/// Checks that a query asks for segments of this type, from this AS to that one.
-fn assert_query(rt: &impl Abort, query: &Query, kind: SegType, (start, end): (&str, &str)) {
-    assert_same(rt, &query.kind, &kind, &(start, end));
-    assert_same(rt, &parse(start), &Ok(query.start), &(start, end));
-    assert_same(rt, &parse(end), &Ok(query.end), &(start, end));
+/// Checks what the query of a source and a destination asks for.
+fn assert_query(rt: &impl Abort, cores: &Roster, side: &Side) -> Result<(), Fail> {
+    let query = classified(cores, side.source, side.destination)??;
+    assert_same(rt, &query.kind, &side.kind, side);
+    assert_same(rt, &parse(side.start), &Ok(query.start), side);
+    assert_same(rt, &parse(side.end), &Ok(query.end), side);
+    Ok(())
 }
 
 #[test]
 fn sides_are_classified(rt: HostRuntime) -> Result<(), Fail> {
     let cores = roster(rt.alloc(), &CORES)?;
-    for (source, destination, kind, start, end) in &SIDES {
-        let query = classified(&cores, (*source, *destination))??;
-        assert_query(&rt, &query, *kind, (*start, *end));
+    for side in &SIDES {
+        assert_query(&rt, &cores, side)?;
     }
     Ok(())
 }
 
-/// The source and the destination, and why they are refused. Of several refusals the first is the
-/// result.
-const REFUSED: [(&str, &str, LookupError); 7] = [
-    ("0-0", "0-0", LookupError::NullDestination),
-    ("0-ff00:0:110", "0-0", LookupError::IsdOnlyWildcard),
-    ("0-0", "0-1", LookupError::IsdOnlyWildcard),
-    ("0-5", "1-5", LookupError::IsdOnlyWildcard),
-    ("1-ff00:0:110", "0-ff00:0:110", LookupError::IsdOnlyWildcard),
-    ("1-5", "1-6", LookupError::NoCore),
-    ("1-ff00:0:111", "1-ff00:0:111", LookupError::NoCore),
+/// A source and a destination, and why they are refused.
+#[derive(Clone, Copy, Debug)]
+struct Refusal {
+    source: &'static str,
+    destination: &'static str,
+    why: LookupError,
+}
+
+const ISD_ONLY: LookupError = LookupError::IsdOnlyWildcard;
+
+/// Of several refusals the first is the result.
+#[rattlefmt::skip]
+const REFUSALS: [Refusal; 7] = [
+    Refusal { source: "0-0", destination: "0-0", why: LookupError::NullDestination },
+    Refusal { source: "0-ff00:0:110", destination: "0-0", why: ISD_ONLY },
+    Refusal { source: "0-0", destination: "0-1", why: ISD_ONLY },
+    Refusal { source: "0-5", destination: "1-5", why: ISD_ONLY },
+    Refusal { source: AS_110, destination: "0-ff00:0:110", why: ISD_ONLY },
+    Refusal { source: "1-5", destination: "1-6", why: LookupError::NoCore },
+    Refusal { source: AS_111, destination: AS_111, why: LookupError::NoCore },
 ];
 
 /// Checks why a source and a destination are refused.
-fn assert_refused(
-    rt: &impl Abort,
-    cores: &Roster,
-    sides: (&str, &str),
-    error: LookupError,
-) -> Result<(), Fail> {
-    let found = classified(cores, sides)?;
-    assert_same(rt, &found.err(), &Some(error), &sides);
+fn assert_refused(rt: &impl Abort, cores: &Roster, row: &Refusal) -> Result<(), Fail> {
+    let found = classified(cores, row.source, row.destination)?;
+    assert_same(rt, &found.err(), &Some(row.why), row);
     Ok(())
 }
 
 #[test]
 fn sides_are_refused(rt: HostRuntime) -> Result<(), Fail> {
     let cores = roster(rt.alloc(), &CORES)?;
-    for (source, destination, error) in &REFUSED {
-        assert_refused(&rt, &cores, (*source, *destination), *error)?;
+    for row in &REFUSALS {
+        assert_refused(&rt, &cores, row)?;
     }
     let numbers = [
         LookupError::NullDestination as u8,

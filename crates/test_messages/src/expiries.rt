@@ -15,18 +15,35 @@ fn with_exp_times(first: [u8; 2], second: [u8; 2]) -> [u8; 90] {
     message
 }
 
-// The exp_times, and the expiry in half seconds: 2 * 1,700,000,000 and 675 for each unit.
+/// The exp_times of the two entries, and the expiry in half seconds: 2 * 1,700,000,000 and 675 for
+/// each unit.
+#[derive(Clone, Copy)]
+struct Times {
+    first: [u8; 2],
+    second: [u8; 2],
+    expiry: u64,
+}
+
+#[rattlefmt::skip]
+const TIMES: [Times; 5] = [
+    Times { first: [0x80, 0x00], second: [0xff, 0x01], expiry: 3_400_000_675 },
+    Times { first: [0xbf, 0x00], second: [0x80, 0x00], expiry: 3_400_000_675 },
+    Times { first: [0xbf, 0x00], second: [0xff, 0x01], expiry: EXPIRY },
+    Times { first: [0xff, 0x01], second: [0xbf, 0x00], expiry: EXPIRY },
+    Times { first: [0xff, 0x01], second: [0xff, 0x01], expiry: 3_400_172_800 },
+];
+
 #[test]
 fn expiry_values(rt: HostRuntime) -> Result<(), Fail> {
-    for (first, second, moment) in [
-        ([0x80, 0x00], [0xff, 0x01], 3_400_000_675),
-        ([0xbf, 0x00], [0x80, 0x00], 3_400_000_675),
-        ([0xbf, 0x00], [0xff, 0x01], EXPIRY),
-        ([0xff, 0x01], [0xbf, 0x00], EXPIRY),
-        ([0xff, 0x01], [0xff, 0x01], 3_400_172_800),
-    ] {
-        let segment = read_segment(rt.alloc(), &with_exp_times(first, second))?;
-        assert_eq!(rt; expiry(&segment), moment, "{first:?} {second:?}");
+    for row in &TIMES {
+        let segment = read_segment(rt.alloc(), &with_exp_times(row.first, row.second))?;
+        assert_eq!(rt;
+            expiry(&segment),
+            row.expiry,
+            "{:?} {:?}",
+            row.first,
+            row.second
+        );
     }
     let refused = read_segment(rt.alloc(), &with_exp_times([0x80, 0x02], [0xff, 0x01]));
     assert_eq!(rt; refused.err(), Some(SegError::Range));

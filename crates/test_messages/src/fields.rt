@@ -57,18 +57,27 @@ fn varint_encodings(rt: HostRuntime) -> Result<(), Fail> {
     Ok(())
 }
 
-/// The example fields of protobuf's page on its encoding, each with a byte after it: a message, its
-/// field's number and value, and the bytes of the field.
-const FIELDS: [(&[u8], u32, Value<'static>, usize); 4] = [
-    (&[0x08, 0x96, 1, 9], 1, Value::Varint(150), 3),
-    (b"\x12\x07testing.", 2, Value::Bytes(b"testing"), 9),
-    (
-        &[0x19, 1, 2, 3, 4, 5, 6, 7, 8, 9],
-        3,
-        Value::Fixed64(0x0807060504030201),
-        9,
-    ),
-    (&[0x25, 1, 2, 3, 4, 9], 4, Value::Fixed32(0x04030201), 5),
+/// A message, the number and the value of its first field, and how many bytes that has.
+#[derive(Clone, Copy)]
+struct First {
+    message: &'static [u8],
+    number: u32,
+    value: Value<'static>,
+    len: usize,
+}
+
+/// The example fields of protobuf's page on its encoding, each with a byte after it.
+#[rattlefmt::skip]
+const FIELDS: [First; 4] = [
+    First { message: &[0x08, 0x96, 1, 9], number: 1, value: Value::Varint(150), len: 3 },
+    First { message: b"\x12\x07testing.", number: 2, value: Value::Bytes(b"testing"), len: 9 },
+    First {
+        message: &[0x19, 1, 2, 3, 4, 5, 6, 7, 8, 9],
+        number: 3,
+        value: Value::Fixed64(0x0807060504030201),
+        len: 9,
+    },
+    First { message: &[0x25, 1, 2, 3, 4, 9], number: 4, value: Value::Fixed32(0x04030201), len: 5 },
 ];
 
 /// Checks what a message's next field is.
@@ -82,12 +91,12 @@ fn assert_field(
 
 #[test]
 fn fields_of_each_wire_type(rt: HostRuntime) {
-    for (message, number, value, len) in &FIELDS {
+    for row in &FIELDS {
         let field = Field {
-            number: *number,
-            value: *value,
+            number: row.number,
+            value: row.value,
         };
-        assert_field(&rt, message, Ok(Some((field, *len))));
+        assert_field(&rt, row.message, Ok(Some((field, row.len))));
     }
 }
 

@@ -6,13 +6,21 @@ use std::alloc::Global;
 use std::process::Abort;
 use std::test::Fail;
 
-/// Whether the text denotes this number, which is printed as the other text.
-fn says(alloc: Global, text: &str, number: u64, printed: &str) -> bool {
-    match parse(text) {
+/// A text, the number that it denotes, and the text that is printed for that number.
+#[derive(Clone, Copy)]
+struct Text {
+    text: &'static str,
+    number: u64,
+    printed: &'static str,
+}
+
+/// Whether the text denotes its number, which is printed as its other text.
+fn says(alloc: Global, row: Text) -> bool {
+    match parse(row.text) {
         Ok(ia) => {
-            ia.to_u64() == number
+            ia.to_u64() == row.number
                 && match ia.to_string(alloc) {
-                    Ok(written) => written.as_str() == printed,
+                    Ok(written) => written.as_str() == row.printed,
                     Err(_) => false,
                 }
         }
@@ -21,9 +29,9 @@ fn says(alloc: Global, text: &str, number: u64, printed: &str) -> bool {
 }
 
 /// Checks that each text denotes its number, which is printed as its other text.
-fn assert_texts(rt: &impl Abort, alloc: Global, texts: &[(&str, u64, &str)]) {
-    for (text, number, printed) in texts {
-        assert_same(rt, &says(alloc, text, *number, printed), &true, text);
+fn assert_texts(rt: &impl Abort, alloc: Global, texts: &[Text]) {
+    for row in texts {
+        assert_same(rt, &says(alloc, *row), &true, &row.text);
     }
 }
 
@@ -32,11 +40,11 @@ fn assert_says(rt: &impl Abort, text: &str, ia: IsdAs) {
     assert_same(rt, &parse(text), &Ok(ia), &text);
 }
 
-/// Texts, the number that each denotes, and the text that is printed.
-const TEXTS: [(&str, u64, &str); 3] = [
-    ("1-ff00:0:110", 0x0001_ff00_0000_0110, "1-ff00:0:110"),
-    ("2-64512", 0x0002_0000_0000_fc00, "2-64512"),
-    ("1-FF00:0000:0110", 0x0001_ff00_0000_0110, "1-ff00:0:110"),
+#[rattlefmt::skip]
+const TEXTS: [Text; 3] = [
+    Text { text: "1-ff00:0:110", number: 0x0001_ff00_0000_0110, printed: "1-ff00:0:110" },
+    Text { text: "2-64512", number: 0x0002_0000_0000_fc00, printed: "2-64512" },
+    Text { text: "1-FF00:0000:0110", number: 0x0001_ff00_0000_0110, printed: "1-ff00:0:110" },
 ];
 
 #[test]
@@ -46,18 +54,19 @@ fn isd_as_texts(rt: HostRuntime) {
     assert_says(&rt, "2-64512", IsdAs::new(2, 64_512));
 }
 
-/// The same of texts at their limits.
-const LIMITS: [(&str, u64, &str); 6] = [
-    ("1-4294967295", 0x0001_0000_ffff_ffff, "1-4294967295"),
-    ("1-1:0:0", 0x0001_0001_0000_0000, "1-1:0:0"),
-    ("1-0:0:1", 0x0001_0000_0000_0001, "1-1"),
-    ("65535-ffff:FFFF:ffff", u64::MAX, "65535-ffff:ffff:ffff"),
-    ("0-0", 0, "0-0"),
-    (
-        "000000000000000000000000000001-000000000000000000000000000002",
-        0x0001_0000_0000_0002,
-        "1-2",
-    ),
+/// Texts at their limits.
+#[rattlefmt::skip]
+const LIMITS: [Text; 6] = [
+    Text { text: "1-4294967295", number: 0x0001_0000_ffff_ffff, printed: "1-4294967295" },
+    Text { text: "1-1:0:0", number: 0x0001_0001_0000_0000, printed: "1-1:0:0" },
+    Text { text: "1-0:0:1", number: 0x0001_0000_0000_0001, printed: "1-1" },
+    Text { text: "65535-ffff:FFFF:ffff", number: u64::MAX, printed: "65535-ffff:ffff:ffff" },
+    Text { text: "0-0", number: 0, printed: "0-0" },
+    Text {
+        text: "000000000000000000000000000001-000000000000000000000000000002",
+        number: 0x0001_0000_0000_0002,
+        printed: "1-2",
+    },
 ];
 
 #[test]
@@ -131,16 +140,24 @@ fn texts_outside_the_grammar(rt: HostRuntime) {
     }
 }
 
-/// Patterns of which a part is 0, numbers, and whether the pattern covers the number.
-const COVERED: [(&str, &str, bool); 8] = [
-    ("0-0", "1-ff00:0:110", true),
-    ("1-0", "1-ff00:0:110", true),
-    ("0-ff00:0:110", "1-ff00:0:110", true),
-    ("1-ff00:0:110", "1-ff00:0:110", true),
-    ("2-0", "1-ff00:0:110", false),
-    ("0-ff00:0:111", "1-ff00:0:110", false),
-    ("2-ff00:0:110", "1-ff00:0:110", false),
-    ("1-ff00:0:110", "0-0", false),
+/// A pattern, of which a part that is 0 covers any, a number, and whether the pattern covers it.
+#[derive(Clone, Copy, Debug)]
+struct Cover {
+    pattern: &'static str,
+    ia: &'static str,
+    covers: bool,
+}
+
+#[rattlefmt::skip]
+const COVERS: [Cover; 8] = [
+    Cover { pattern: "0-0", ia: "1-ff00:0:110", covers: true },
+    Cover { pattern: "1-0", ia: "1-ff00:0:110", covers: true },
+    Cover { pattern: "0-ff00:0:110", ia: "1-ff00:0:110", covers: true },
+    Cover { pattern: "1-ff00:0:110", ia: "1-ff00:0:110", covers: true },
+    Cover { pattern: "2-0", ia: "1-ff00:0:110", covers: false },
+    Cover { pattern: "0-ff00:0:111", ia: "1-ff00:0:110", covers: false },
+    Cover { pattern: "2-ff00:0:110", ia: "1-ff00:0:110", covers: false },
+    Cover { pattern: "1-ff00:0:110", ia: "0-0", covers: false },
 ];
 
 /// Whether the pattern of one text covers the number of another.
@@ -150,9 +167,9 @@ fn is_covered(pattern: &str, ia: &str) -> Result<bool, IaError> {
 
 #[test]
 fn wildcards_cover(rt: HostRuntime) -> Result<(), Fail> {
-    for (pattern, ia, covered) in &COVERED {
-        let found = is_covered(pattern, ia)?;
-        assert_same(&rt, &found, covered, &(*pattern, *ia));
+    for row in &COVERS {
+        let found = is_covered(row.pattern, row.ia)?;
+        assert_same(&rt, &found, &row.covers, row);
     }
     Ok(())
 }

@@ -11,22 +11,28 @@ use std::process::Abort;
 use std::test::Fail;
 
 /// An entry's AS and its next one, its interfaces and its expiry.
-fn hop_of(entry: &Entry) -> (IsdAs, IsdAs, (u16, u16, u8)) {
-    (
-        entry.ia,
-        entry.next,
-        (entry.ingress, entry.egress, entry.exp_time),
-    )
+#[derive(Clone, Copy, Debug, PartialEq, Eq)]
+struct Hop {
+    ia: IsdAs,
+    next: IsdAs,
+    ingress: u16,
+    egress: u16,
+    exp_time: u8,
 }
 
-/// Checks that an entry has this AS, next AS, interfaces and expiry, and these signed bytes, and no
-/// other parts.
-fn assert_entry(
-    rt: &impl Abort,
-    entry: &Entry,
-    hop: (IsdAs, IsdAs, (u16, u16, u8)),
-    signed: &[u8],
-) {
+/// The hop of an entry.
+fn hop_of(entry: &Entry) -> Hop {
+    Hop {
+        ia: entry.ia,
+        next: entry.next,
+        ingress: entry.ingress,
+        egress: entry.egress,
+        exp_time: entry.exp_time,
+    }
+}
+
+/// Checks that an entry has this hop and these signed bytes, and no other parts.
+fn assert_entry(rt: &impl Abort, entry: &Entry, hop: Hop, signed: &[u8]) {
     assert_same(rt, &hop_of(entry), &hop, &"the hop");
     assert_bytes(rt, entry.signed(), signed);
     assert!(rt; entry.signature().is_empty() && entry.unsigned().is_none());
@@ -43,9 +49,22 @@ fn assert_information(rt: &impl Abort, segment: &Segment) {
 fn assert_entries(rt: &impl Abort, one: &Entry, two: &Entry) {
     let first = IsdAs::from_u64(0x0001_ff00_0000_0110);
     let second = IsdAs::from_u64(0x0001_ff00_0000_0111);
-    let last = IsdAs::from_u64(0);
-    assert_entry(rt, one, (first, second, (0, 1, 63)), &SEGMENT[16..53]);
-    assert_entry(rt, two, (second, last, (2, 0, 63)), &SEGMENT[59..]);
+    let leaves = Hop {
+        ia: first,
+        next: second,
+        ingress: 0,
+        egress: 1,
+        exp_time: 63,
+    };
+    assert_entry(rt, one, leaves, &SEGMENT[16..53]);
+    let arrives = Hop {
+        ia: second,
+        next: IsdAs::from_u64(0),
+        ingress: 2,
+        egress: 0,
+        exp_time: 63,
+    };
+    assert_entry(rt, two, arrives, &SEGMENT[59..]);
 }
 
 /// Checks that a segment is the worked one.

@@ -4,6 +4,7 @@ use crate::checked::{EXPIRY, KEY, SEGMENT, SIGNED};
 use seg_check::{CheckError, Keyed, check, keyed_signature};
 use seg_core::read_segment;
 use std::alloc::Global;
+use std::process::Abort;
 use std::test::Fail;
 
 /// The verifier with that key.
@@ -73,19 +74,40 @@ fn keyed_signature_refused(rt: HostRuntime) -> Result<(), Fail> {
     Ok(())
 }
 
+/// A key of a verifier, a moment in half seconds, and why the signed segment is refused then.
+#[derive(Clone, Copy)]
+struct Refused<'a> {
+    name: &'static str,
+    key: &'a [u8],
+    now: u64,
+    why: CheckError,
+}
+
+/// Checks why a verifier with a key refuses the signed segment.
+fn assert_refused(rt: &impl Abort, alloc: Global, row: Refused<'_>) -> Result<(), Fail> {
+    let segment = read_segment(alloc, &SIGNED)?;
+    let verifier = keyed(alloc, row.key)?;
+    assert_eq!(rt;
+        check(&segment, &verifier, row.now),
+        Err(row.why),
+        "{}",
+        row.name
+    );
+    Ok(())
+}
+
 // Verifiers with another key, and with an empty one. A bad signature is reported before the expiry.
+#[rattlefmt::skip]
 #[test]
 fn keys_differ(rt: HostRuntime) -> Result<(), Fail> {
-    let segment = read_segment(rt.alloc(), &SIGNED)?;
-    let cases: [(&[u8], u64, Result<(), CheckError>); 4] = [
-        (&KEY, EXPIRY, Err(CheckError::Expired)),
-        (&KEY[1..], 0, Err(CheckError::BadSignature(0))),
-        (&KEY[1..], EXPIRY, Err(CheckError::BadSignature(0))),
-        (b"", 0, Err(CheckError::BadSignature(0))),
-    ];
-    for (key, now, answer) in cases {
-        let verifier = keyed(rt.alloc(), key)?;
-        assert_eq!(rt; check(&segment, &verifier, now), answer);
+    let bad = CheckError::BadSignature(0);
+    for row in [
+        Refused { name: "late", key: &KEY, now: EXPIRY, why: CheckError::Expired },
+        Refused { name: "another key", key: &KEY[1..], now: 0, why: bad },
+        Refused { name: "another key, and late", key: &KEY[1..], now: EXPIRY, why: bad },
+        Refused { name: "an empty key", key: b"", now: 0, why: bad },
+    ] {
+        assert_refused(&rt, rt.alloc(), row)?;
     }
     Ok(())
 }
@@ -94,7 +116,7 @@ fn keys_differ(rt: HostRuntime) -> Result<(), Fail> {
 fn key_lengths(rt: HostRuntime) {
     let bytes = [0; 65];
     for (len, taken) in [(0, true), (64, true), (65, false)] {
-        assert_eq!(rt; Keyed::takes(&bytes[..len]), taken);
+        assert_eq!(rt; Keyed::takes(&bytes[..len]), taken, "{len}");
     }
 }
 

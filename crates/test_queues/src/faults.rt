@@ -42,27 +42,39 @@ const GUESTS: u64 = 4;
 /// and half of them.
 const WAITING: [u64; 2] = [2304, 1152];
 
-/// A call of the device fails: its number from the first one of the flusher on, how many commands
-/// are committed then, how many have a place and are not known to be committed, and to which place
-/// the device opens.
-///
+/// A call of the device fails.
+#[derive(Clone, Copy, Debug)]
+struct Row {
+    /// The call's number from the first one of the flusher on.
+    call: u64,
+    /// How many commands are committed then.
+    committed: u64,
+    /// How many have a place and are not known to be committed.
+    stopped: u64,
+    /// To which place the device opens.
+    opens: u64,
+}
+
 /// The first group is one command, and each further one has 32. A group takes a write and a sync,
 /// and its gate a write; the group that follows it is written then, and synced with that gate. What
 /// is written is there at once, and where a write fails, nothing is.
-type Row = (u64, u64, u64, u64);
-
+#[rattlefmt::skip]
 const ROWS: [Row; 11] = [
-    (1, 0, 1, 0), // the first group's sync
-    (2, 0, 1, 0), // its gate
-    (3, 0, 33, 1), // the second group
-    (4, 0, 33, 1), // the sync of both
-    (5, 1, 32, 1), // the second group's gate
-    (6, 1, 64, 33), // the third group
-    (7, 1, 64, 33),
-    (8, 33, 32, 33),
-    (9, 33, 64, 65), // the fourth group
-    (10, 33, 64, 65),
-    (11, 65, 32, 65),
+    // The first group's sync, and its gate.
+    Row { call: 1, committed: 0, stopped: 1, opens: 0 },
+    Row { call: 2, committed: 0, stopped: 1, opens: 0 },
+    // The second group, the sync of both, and the second group's gate.
+    Row { call: 3, committed: 0, stopped: 33, opens: 1 },
+    Row { call: 4, committed: 0, stopped: 33, opens: 1 },
+    Row { call: 5, committed: 1, stopped: 32, opens: 1 },
+    // The third group.
+    Row { call: 6, committed: 1, stopped: 64, opens: 33 },
+    Row { call: 7, committed: 1, stopped: 64, opens: 33 },
+    Row { call: 8, committed: 33, stopped: 32, opens: 33 },
+    // The fourth group.
+    Row { call: 9, committed: 33, stopped: 64, opens: 65 },
+    Row { call: 10, committed: 33, stopped: 64, opens: 65 },
+    Row { call: 11, committed: 65, stopped: 32, opens: 65 },
 ];
 
 /// What commands were answered: for each place whether its command was committed, how many were
@@ -117,10 +129,10 @@ impl Tally {
     }
 }
 
-/// What is wanted where this many commands wait. Places that are as many as they reach far are each
-/// there once, since no place is given twice.
-fn wanted(row: Row, waiting: u64) -> Tally {
-    let (_number, committed, stopped, _opens) = row;
+/// What is wanted where this many commands are committed, this many are stopped at a place, and
+/// this many wait. Places that are as many as they reach far are each there once, since no place is
+/// given twice.
+fn wanted(committed: u64, stopped: u64, waiting: u64) -> Tally {
     let placed = committed.saturating_add(stopped);
     Tally {
         committed,
@@ -136,8 +148,8 @@ fn wanted(row: Row, waiting: u64) -> Tally {
 /// How long guests wait for each other, in naps.
 const MOST_NAPS: u64 = 4000;
 
-/// The first guest hands a purge in, and waits until its group's sync is held, if one is to be. Then
-/// all guests hand purges in, and the sync goes on once they have.
+/// The first guest hands a purge in, and waits until its group's sync is held, if one must be.
+/// Then all guests hand purges in, and the sync goes on once they have.
 #[derive(Drop)]
 struct Fills<'a> {
     alloc: Global,
@@ -276,10 +288,11 @@ fn assert_answered<R: Wait + Clock + Threads + Abort + Copy + Drop + Send + Sync
     row: Row,
     waiting: u64,
 ) {
-    let (number, _committed, _stopped, opens) = row;
-    let (tally, device) = answered(rt, alloc, first.saturating_add(number), waiting, true);
-    assert_eq!(&rt; tally, wanted(row, waiting), "{row:?}");
-    let _device = opens_to(&Host(rt), alloc, device, (0, 0, opens));
+    let number = first.saturating_add(row.call);
+    let (tally, device) = answered(rt, alloc, number, waiting, true);
+    let wanted = wanted(row.committed, row.stopped, waiting);
+    assert_eq!(&rt; tally, wanted, "{row:?}, {waiting} waiting");
+    let _device = opens_to(&Host(rt), alloc, device, (0, 0, row.opens));
 }
 
 #[test]
@@ -305,8 +318,10 @@ fn failed_first_write(rt: HostRuntime) -> Result<(), Fail> {
     let first = calls_to_open(&rt, alloc, formatted(&Host(&rt), alloc, LEAST));
     for waiting in WAITING {
         let (tally, device) = answered(&rt, alloc, first, waiting, false);
-        assert!(rt; 1 <= tally.stopped && tally.stopped <= MOST_OF_A_GROUP);
-        assert_eq!(rt; tally, wanted((0, 0, tally.stopped, 0), waiting));
+        let is_a_group = 1 <= tally.stopped && tally.stopped <= MOST_OF_A_GROUP;
+        assert!(rt; is_a_group, "{tally:?}, {waiting} waiting");
+        let wanted = wanted(0, tally.stopped, waiting);
+        assert_eq!(rt; tally, wanted, "{waiting} waiting");
         let _device = opens_to(&Host(&rt), alloc, device, (0, 0, 0));
     }
     Ok(())

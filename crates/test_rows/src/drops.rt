@@ -17,45 +17,60 @@ fn purged(purged: u32) -> Outcome {
     }
 }
 
-/// Applies commands in turn, and checks how many rows each drops, and how many are left.
-fn assert_each(
-    rt: &impl Abort,
-    database: &mut PathDb,
-    name: &str,
-    commands: &[(Command, u32, usize)],
-) -> Result<(), Fail> {
-    for (command, rows, left) in commands {
-        assert_eq!(rt; apply(database, command)?, purged(*rows), "{name}");
-        assert_eq!(rt; count_rows(database), *left, "{name}");
+/// What is done to a database.
+#[derive(Clone, Copy, Debug)]
+enum What {
+    /// A purge at a moment.
+    Purge(u64),
+    /// The removal of the worked segment of a type.
+    Remove(SegType),
+}
+
+/// A command, how many rows it drops, and how many are left.
+#[derive(Clone, Copy, Debug)]
+struct Drops {
+    what: What,
+    dropped: u32,
+    left: usize,
+}
+
+/// The worked segment is valid until its expiry.
+#[rattlefmt::skip]
+const PURGES: [Drops; 3] = [
+    Drops { what: What::Purge(EXPIRY - 1), dropped: 0, left: 1 },
+    Drops { what: What::Purge(EXPIRY), dropped: 1, left: 0 },
+    Drops { what: What::Purge(EXPIRY), dropped: 0, left: 0 },
+];
+
+#[rattlefmt::skip]
+const REMOVALS: [Drops; 3] = [
+    Drops { what: What::Remove(SegType::Core), dropped: 0, left: 1 },
+    Drops { what: What::Remove(SegType::Down), dropped: 1, left: 0 },
+    Drops { what: What::Remove(SegType::Down), dropped: 0, left: 0 },
+];
+
+/// Applies a command, and checks how many rows it drops, and how many are left.
+fn assert_drops(rt: &impl Abort, database: &mut PathDb, row: &Drops) -> Result<(), Fail> {
+    let command = match row.what {
+        What::Purge(moment) => Command::Purge(moment),
+        What::Remove(kind) => Command::Remove(kind, ID),
+    };
+    assert_eq!(rt; apply(database, &command)?, purged(row.dropped), "{row:?}");
+    assert_eq!(rt; count_rows(database), row.left, "{row:?}");
+    Ok(())
+}
+
+/// Applies commands in turn to a database of the worked down segment.
+fn assert_all(rt: &impl Abort, alloc: Global, rows: &[Drops]) -> Result<(), Fail> {
+    let mut database = row_of(alloc, SegType::Down)?;
+    for row in rows {
+        assert_drops(rt, &mut database, row)?;
     }
     Ok(())
 }
 
-/// Applies the commands to a database of the worked segment.
-fn assert_drops(
-    rt: &impl Abort,
-    alloc: Global,
-    name: &str,
-    commands: &[(Command, u32, usize)],
-) -> Result<(), Fail> {
-    let mut database = row_of(alloc, SegType::Down)?;
-    assert_each(rt, &mut database, name, commands)
-}
-
-// A database of the worked segment, which is valid until its expiry, and has this type: each
-// command, how many rows it drops, and how many are left.
 #[test]
 fn rows_are_dropped(rt: HostRuntime) -> Result<(), Fail> {
-    let purges = [
-        (Command::Purge(EXPIRY - 1), 0, 1),
-        (Command::Purge(EXPIRY), 1, 0),
-        (Command::Purge(EXPIRY), 0, 0),
-    ];
-    assert_drops(&rt, rt.alloc(), "purge", &purges)?;
-    let removals = [
-        (Command::Remove(SegType::Core, ID), 0, 1),
-        (Command::Remove(SegType::Down, ID), 1, 0),
-        (Command::Remove(SegType::Down, ID), 0, 0),
-    ];
-    assert_drops(&rt, rt.alloc(), "remove", &removals)
+    assert_all(&rt, rt.alloc(), &PURGES)?;
+    assert_all(&rt, rt.alloc(), &REMOVALS)
 }

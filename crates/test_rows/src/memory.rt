@@ -20,13 +20,22 @@ fn sixteen(alloc: Global) -> Result<Command, Fail> {
 
 /// How many rows there are, their bytes, and whether the worked segment is there as a down and as a
 /// core segment.
-fn shown(database: &PathDb) -> (usize, u64, bool, bool) {
-    (
-        count_rows(database),
-        len_of(database),
-        is_there(database, SegType::Down, &ID),
-        is_there(database, SegType::Core, &ID),
-    )
+#[derive(Clone, Copy, Debug, PartialEq, Eq)]
+struct View {
+    rows: usize,
+    bytes: u64,
+    has_down: bool,
+    has_core: bool,
+}
+
+/// What a database shows.
+fn shown(database: &PathDb) -> View {
+    View {
+        rows: count_rows(database),
+        bytes: len_of(database),
+        has_down: is_there(database, SegType::Down, &ID),
+        has_core: is_there(database, SegType::Core, &ID),
+    }
 }
 
 /// Applies a command to a database of which this is shown. Where it is refused, the same is shown,
@@ -35,7 +44,7 @@ fn apply_again(
     rt: &impl Abort,
     database: &mut PathDb,
     command: &Command,
-    before: (usize, u64, bool, bool),
+    before: View,
 ) -> Result<Outcome, AllocError> {
     match apply(database, command) {
         Ok(outcome) => Ok(outcome),
@@ -52,7 +61,12 @@ fn assert_sixteen(
     database: &mut PathDb,
     command: &Command,
 ) -> Result<(), AllocError> {
-    let before = (1, 93, false, true);
+    let before = View {
+        rows: 1,
+        bytes: 93,
+        has_down: false,
+        has_core: true,
+    };
     assert_eq!(rt; shown(database), before);
     let outcome = apply_again(rt, database, command, before)?;
     let inserted = Outcome {
@@ -62,7 +76,13 @@ fn assert_sixteen(
         purged: 0,
     };
     assert_eq!(rt; outcome, inserted);
-    assert_eq!(rt; shown(database), (17, 17 * 93, true, true));
+    let after = View {
+        rows: 17,
+        bytes: 17 * 93,
+        has_down: true,
+        has_core: true,
+    };
+    assert_eq!(rt; shown(database), after);
     Ok(())
 }
 

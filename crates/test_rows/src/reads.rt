@@ -86,19 +86,34 @@ fn rows_have_ids(rt: HostRuntime) -> Result<(), Fail> {
     let row = Row::new(SegType::Down, segment(rt.alloc())?);
     let copy = row.try_clone()?;
     for row in [&row, &copy] {
-        assert_eq!(rt; (row.kind, row.id), (SegType::Down, ID));
+        assert_eq!(rt; (row.kind, *row.id()), (SegType::Down, ID));
     }
     Ok(())
 }
 
+/// A segment's type and id, and whether it is in a database of the worked down segment.
+#[derive(Clone, Copy, Debug)]
+struct Key {
+    kind: SegType,
+    id: [u8; 32],
+    is_there: bool,
+}
+
+#[rattlefmt::skip]
+const KEYS: [Key; 3] = [
+    Key { kind: SegType::Down, id: ID, is_there: true },
+    Key { kind: SegType::Core, id: ID, is_there: false },
+    Key { kind: SegType::Down, id: [0; 32], is_there: false },
+];
+
 /// Checks that the worked segment is found, and no other.
 fn assert_found(rt: &impl Abort, database: &PathDb) {
-    for (kind, id, found) in [
-        (SegType::Down, ID, true),
-        (SegType::Core, ID, false),
-        (SegType::Down, [0; 32], false),
-    ] {
-        assert_eq!(rt; is_there(database, kind, &id), found);
+    for key in &KEYS {
+        assert_eq!(rt;
+            is_there(database, key.kind, &key.id),
+            key.is_there,
+            "{key:?}"
+        );
     }
     assert_eq!(rt; len_of(database), 93);
 }
@@ -128,16 +143,47 @@ fn copies_are_apart(rt: HostRuntime) -> Result<(), Fail> {
     assert_apart(&rt, &mut database, &copy)
 }
 
-/// The segments that a database shows.
-fn matching(
-    database: &PathDb,
+/// A look into a database: the type of the segments, the numbers of the ASes from and to which
+/// they lead, a moment in half seconds, and how many are wanted at the most; how many are shown.
+#[derive(Clone, Copy, Debug)]
+struct Look {
+    name: &'static str,
     kind: SegType,
-    start: IsdAs,
-    end: IsdAs,
+    start: u64,
+    end: u64,
     moment: u64,
     limit: usize,
-) -> Result<Vec<Segment>, AllocError> {
-    database.matching(kind, start, end, moment, limit)
+    shown: usize,
+}
+
+/// The ASes at the ends of the worked segment.
+const START: u64 = 0x0001_ff00_0000_0110;
+
+const END: u64 = 0x0001_ff00_0000_0111;
+
+/// The last moment at which it is shown.
+const LAST: u64 = EXPIRY - 1;
+
+const DOWN: SegType = SegType::Down;
+
+const CORE: SegType = SegType::Core;
+
+/// Looks into a database of the worked segment, which is shown until it expires.
+#[rattlefmt::skip]
+const LOOKS: [Look; 6] = [
+    Look { name: "its ends", kind: DOWN, start: START, end: END, moment: LAST, limit: 1, shown: 1 },
+    Look { name: "any ends", kind: DOWN, start: 0, end: 0, moment: LAST, limit: 64, shown: 1 },
+    Look { name: "late", kind: DOWN, start: START, end: END, moment: EXPIRY, limit: 64, shown: 0 },
+    Look { name: "back", kind: DOWN, start: END, end: START, moment: LAST, limit: 64, shown: 0 },
+    Look { name: "as core", kind: CORE, start: START, end: END, moment: LAST, limit: 64, shown: 0 },
+    Look { name: "none", kind: DOWN, start: START, end: END, moment: LAST, limit: 0, shown: 0 },
+];
+
+/// The segments that a database shows.
+fn matching(database: &PathDb, look: &Look) -> Result<Vec<Segment>, AllocError> {
+    let start = IsdAs::from_u64(look.start);
+    let end = IsdAs::from_u64(look.end);
+    database.matching(look.kind, start, end, look.moment, look.limit)
 }
 
 /// Checks that a segment is the worked one.
@@ -147,31 +193,44 @@ fn assert_worked(rt: &impl Abort, alloc: Global, segment: &Segment) -> Result<()
     Ok(())
 }
 
-/// Checks what a database of the worked segment shows from one end to another.
-fn assert_shown(rt: &impl Abort, alloc: Global, database: &PathDb) -> Result<(), Fail> {
-    let start = IsdAs::from_u64(0x0001_ff00_0000_0110);
-    let end = IsdAs::from_u64(0x0001_ff00_0000_0111);
-    let any = IsdAs::from_u64(0);
-    for (kind, start, end, moment, limit, count) in [
-        (SegType::Down, start, end, EXPIRY - 1, 1, 1),
-        (SegType::Down, any, any, EXPIRY - 1, 64, 1),
-        (SegType::Down, start, end, EXPIRY, 64, 0),
-        (SegType::Down, end, start, EXPIRY - 1, 64, 0),
-        (SegType::Core, start, end, EXPIRY - 1, 64, 0),
-        (SegType::Down, start, end, EXPIRY - 1, 0, 0),
-    ] {
-        let shown = matching(database, kind, start, end, moment, limit)?;
-        assert_eq!(rt; shown.len(), count);
-        for segment in &shown {
-            assert_worked(rt, alloc, segment)?;
-        }
+/// Checks what a look into a database of the worked segment shows.
+fn assert_shown(
+    rt: &impl Abort,
+    alloc: Global,
+    database: &PathDb,
+    look: &Look,
+) -> Result<(), Fail> {
+    let shown = matching(database, look)?;
+    assert_eq!(rt; shown.len(), look.shown, "{}", look.name);
+    for segment in &shown {
+        assert_worked(rt, alloc, segment)?;
     }
     Ok(())
 }
 
-// The ends of the worked segment, a moment and a limit: it is shown until it expires.
 #[test]
 fn segments_are_shown(rt: HostRuntime) -> Result<(), Fail> {
     let database = row_of(rt.alloc(), SegType::Down)?;
-    assert_shown(&rt, rt.alloc(), &database)
+    for look in &LOOKS {
+        assert_shown(&rt, rt.alloc(), &database, look)?;
+    }
+    Ok(())
+}
+
+// The same segments are shown by a database without its indexes, which takes further commands.
+#[test]
+fn segments_are_shown_without_indexes(rt: HostRuntime) -> Result<(), Fail> {
+    let mut database = no_rows(rt.alloc()).without_indexes();
+    put(
+        rt.alloc(),
+        &mut database,
+        SegType::Down,
+        segment(rt.alloc())?,
+    )?;
+    for look in &LOOKS {
+        assert_shown(&rt, rt.alloc(), &database, look)?;
+    }
+    apply(&mut database, &Command::Purge(EXPIRY))?;
+    assert_eq!(rt; count_rows(&database), 0);
+    Ok(())
 }

@@ -2,7 +2,8 @@
 //! refused in turn: the bytes from before the refused call stay, the call succeeds when it is tried
 //! again, and no other result depends on the refusal.
 
-use crate::records::{assert_written_as, changed, read_again, registration, rows_of};
+use crate::commands::registration;
+use crate::records::{assert_written_as, changed, read_again, rows_of};
 use path_db::{
     Command, DbError, PathDb, RowsReader, read_command, read_rows, write_command, write_rows,
 };

@@ -1,6 +1,6 @@
 //! Listeners that fail.
 
-use crate::stores::{LEAST, formatted, opened, opens_to};
+use crate::stores::{LEAST, assert_opens_to, formatted, opened};
 use crate::worlds::{Counts, options};
 use path_server::{Failure, Listeners, RunError, after_failure, serve_store};
 use std::io;
@@ -72,6 +72,6 @@ fn a_broken_listener_ends_the_server(rt: HostRuntime) -> Result<(), Fail> {
     );
     assert_eq!(rt; served, Err(RunError::Net));
     assert_eq!(rt; counts.stopped(), 0);
-    let _device = opens_to(&rt, alloc, device, (0, 0, 0));
+    let _device = assert_opens_to(&rt, alloc, device, 0, 0);
     Ok(())
 }

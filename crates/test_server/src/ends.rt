@@ -2,7 +2,7 @@
 
 use crate::peers::{EMPTY_LOOKUP, NO_DESTINATION, Peer, replies};
 use crate::rows::{FOUND, LOOKUP, NOTHING, REGISTERED, REGISTRATION};
-use crate::stores::{LEAST, formatted, opens_to};
+use crate::stores::{LEAST, assert_opens_to, formatted};
 use crate::worlds::{Clients, Counts, Outside, options, serve_clients};
 use std::alloc::Global;
 use std::io;
@@ -49,10 +49,10 @@ fn frame_faults_end_their_session_alone(rt: HostRuntime) -> Result<(), Fail> {
     assert_eq!(rt; served, Ok(4));
     let wanted = [PLACE_0, NO_DESTINATION, NO_DESTINATION, NOTHING];
     let seen = seen?;
-    for (replies, wanted) in seen.iter().zip(&wanted) {
-        assert_eq!(rt; replies.as_str(), *wanted);
+    for (number, (replies, wanted)) in seen.iter().zip(&wanted).enumerate() {
+        assert_eq!(rt; replies.as_str(), *wanted, "session {number}");
     }
-    let _device = opens_to(&rt, alloc, device, (0, 0, 1));
+    let _device = assert_opens_to(&rt, alloc, device, 0, 1);
     Ok(())
 }
 
@@ -79,7 +79,7 @@ fn bytes_may_come_one_by_one(rt: HostRuntime) -> Result<(), Fail> {
     assert_eq!(rt; served, Ok(1));
     let seen = seen?;
     assert_eq!(rt; seen.as_str().strip_prefix(REGISTERED), Some(FOUND));
-    let _device = opens_to(&rt, alloc, device, (1, 93, 1));
+    let _device = assert_opens_to(&rt, alloc, device, 1, 1);
     Ok(())
 }
 
@@ -118,6 +118,6 @@ fn silent_peers_are_given_up(rt: HostRuntime) -> Result<(), Fail> {
     let (is_served, received) = seen?;
     assert!(rt; is_served);
     assert_eq!(rt; received.as_str(), "");
-    let _device = opens_to(&rt, alloc, device, (0, 0, 0));
+    let _device = assert_opens_to(&rt, alloc, device, 0, 0);
     Ok(())
 }

@@ -6,6 +6,8 @@
 #[cfg(test)]
 mod accepts;
 #[cfg(test)]
+mod asking;
+#[cfg(test)]
 mod doors;
 #[cfg(test)]
 mod ends;
@@ -13,6 +15,8 @@ mod ends;
 mod leaving;
 #[cfg(test)]
 mod pacing;
+#[cfg(test)]
+mod page;
 #[cfg(test)]
 mod peers;
 #[cfg(test)]

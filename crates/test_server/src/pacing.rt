@@ -3,7 +3,7 @@
 use crate::doors::nap;
 use crate::peers::{EMPTY_LOOKUP, NO_DESTINATION, Peer};
 use crate::seats::NO_SEAT;
-use crate::stores::{LEAST, formatted, opens_to};
+use crate::stores::{LEAST, assert_opens_to, formatted};
 use crate::worlds::{Clients, Counts, Outside, options, serve_clients};
 use std::alloc::Global;
 use std::io;
@@ -48,14 +48,14 @@ fn a_frame_has_to_be_whole_within_the_idle_time(rt: HostRuntime) -> Result<(), F
     let (received, is_served) = seen?;
     assert_eq!(rt; received.as_str(), "");
     assert!(rt; is_served);
-    let _device = opens_to(&rt, alloc, device, (0, 0, 0));
+    let _device = assert_opens_to(&rt, alloc, device, 0, 0);
     Ok(())
 }
 
 /// How many requests a peer sends at one time.
 const FLOOD: usize = 4_096;
 
-/// How often a peer sends so many requests, if they are taken.
+/// How often a peer sends that number of requests, if they are taken.
 const MOST_FLOODS: u64 = 10_000;
 
 /// How often a peer asks for a seat, a millisecond or more apart: for far longer than the idle
@@ -133,6 +133,6 @@ fn a_peer_that_reads_nothing_leaves_its_seat(rt: HostRuntime) -> Result<(), Fail
     assert!(rt; counts.address_full() >= 1);
     assert_eq!(rt; counts.turned_away(), 0);
     assert!(rt; waited < LONGEST);
-    let _device = opens_to(&rt, alloc, device, (0, 0, 0));
+    let _device = assert_opens_to(&rt, alloc, device, 0, 0);
     Ok(())
 }

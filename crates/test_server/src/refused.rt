@@ -2,7 +2,7 @@
 //! refused in turn: a server whose actors are not given, or the thread of its second listener, ends
 //! by that, and reports no fault of its device.
 
-use crate::stores::{LEAST, formatted, opened, opens_to};
+use crate::stores::{LEAST, assert_opens_to, formatted, opened};
 use crate::worlds::{Counts, World};
 use path_server::{Listeners, Options, RunError, serve_store};
 use seg_lookup::Roster;
@@ -49,7 +49,7 @@ fn has_threads<R: World>(rt: R, alloc: Global, status: Option<Broken>) -> bool {
         &counts,
     );
     assert_eq!(&rt; counts.stopped(), 0);
-    let _device = opens_to(&rt, alloc, device, (0, 0, 0));
+    let _device = assert_opens_to(&rt, alloc, device, 0, 0);
     if served == Err(RunError::NoMemory) {
         assert_eq!(&rt; counts.ready(), 0);
         return false;

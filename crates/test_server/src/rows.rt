@@ -1,7 +1,7 @@
 //! Sessions as they should be.
 
 use crate::peers::{Peer, replies};
-use crate::stores::{LEAST, formatted, opens_to};
+use crate::stores::{LEAST, assert_opens_to, formatted};
 use crate::worlds::{Clients, Counts, Outside, options, serve_clients};
 use seg_check::Keyed;
 use std::alloc::Global;
@@ -71,7 +71,7 @@ fn register_then_lookup(rt: HostRuntime) -> Result<(), Fail> {
     for (replies, wanted) in seen.iter().zip(&TALKED) {
         assert_eq!(rt; replies.as_str(), *wanted);
     }
-    let _device = opens_to(&rt, alloc, device, (1, 93, 5));
+    let _device = assert_opens_to(&rt, alloc, device, 1, 5);
     Ok(())
 }
 
@@ -106,6 +106,6 @@ fn signatures_are_checked_by_the_key(rt: HostRuntime) -> Result<(), Fail> {
     assert_eq!(rt; served, Ok(1));
     let seen = seen?;
     assert_eq!(rt; seen.as_str().strip_prefix(NO_SIGNATURE), Some(NOTHING));
-    let _device = opens_to(&rt, alloc, device, (0, 0, 0));
+    let _device = assert_opens_to(&rt, alloc, device, 0, 0);
     Ok(())
 }

@@ -2,7 +2,7 @@
 
 use crate::doors::nap;
 use crate::peers::{Peer, seated};
-use crate::stores::{LEAST, formatted, opened, opens_to};
+use crate::stores::{LEAST, assert_opens_to, formatted, opened};
 use crate::worlds::{Clients, Counts, Outside, listen, options, serve_clients};
 use path_server::{Listeners, serve_store};
 use std::alloc::Global;
@@ -48,7 +48,7 @@ fn the_65th_is_turned_away(rt: HostRuntime) -> Result<(), Fail> {
     }
     assert!(rt; counts.turned_away() >= 1);
     assert_eq!(rt; counts.stopped(), 0);
-    let _device = opens_to(&rt, alloc, device, (0, 0, 0));
+    let _device = assert_opens_to(&rt, alloc, device, 0, 0);
     Ok(())
 }
 
@@ -92,6 +92,6 @@ fn the_listener_is_closed_after_the_last(rt: HostRuntime) -> Result<(), Fail> {
     );
     assert_eq!(rt; served, Ok(1));
     assert!(rt; is_closed?);
-    let _device = opens_to(&rt, alloc, device, (0, 0, 0));
+    let _device = assert_opens_to(&rt, alloc, device, 0, 0);
     Ok(())
 }

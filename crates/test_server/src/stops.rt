@@ -3,7 +3,7 @@
 use crate::doors::{Door, Holds, Latch};
 use crate::peers::{EMPTY_LOOKUP, NO_DESTINATION, Peer};
 use crate::rows::{FOUND, LOOKUP, NOTHING, PURGE, REGISTERED, REGISTRATION};
-use crate::stores::{LEAST, failing, formatted, opens_to};
+use crate::stores::{LEAST, assert_opens_to, failing, formatted};
 use crate::worlds::{Clients, Counts, Outside, options, serve_clients};
 use sector_dev::HeldDevice;
 use std::alloc::Global;
@@ -69,7 +69,7 @@ fn held_sync_lookup(rt: HostRuntime) -> Result<(), Fail> {
     assert_eq!(rt; seen?, [true; 6]);
     assert_eq!(rt; door.latch(&rt), Latch::Open);
     let (device, _gate) = device.into_parts();
-    let _device = opens_to(&rt, alloc, device, (1, 93, 1));
+    let _device = assert_opens_to(&rt, alloc, device, 1, 1);
     Ok(())
 }
 

@@ -43,15 +43,23 @@ pub(crate) fn opened<D: Device>(rt: &impl Abort, alloc: Global, device: D) -> St
     }
 }
 
-/// What a store has: how many rows, their bytes, and the place.
-pub(crate) type Pair = (usize, u64, u64);
+/// How many bytes a row has.
+const ROW: u64 = 93;
 
-/// Sees what a device opens to.
-pub(crate) fn opens_to<D: Device>(rt: &impl Abort, alloc: Global, device: D, wanted: Pair) -> D {
+/// Sees that a device opens to this number of rows, at this place.
+pub(crate) fn assert_opens_to<D: Device>(
+    rt: &impl Abort,
+    alloc: Global,
+    device: D,
+    rows: usize,
+    place: u64,
+) -> D {
     let store = opened(rt, alloc, device);
-    let rows = store.db();
-    let pair = (rows.rows().count(), rows.encoded_len(), store.place());
-    assert_eq!(rt; pair, wanted);
+    let database = store.db();
+    assert_eq!(rt; database.rows().count(), rows, "rows");
+    let bytes = ROW.saturating_mul(rows as u64);
+    assert_eq!(rt; database.encoded_len(), bytes, "bytes");
+    assert_eq!(rt; store.place(), place, "place");
     store.into_device()
 }
 

@@ -104,9 +104,18 @@ fn command_of(rt: &Host<impl Abort>, alloc: Global, kind: Kind) -> Command {
     }
 }
 
-/// A store's version and place, how many purges are pending, whether the state has stopped, the
-/// command, and the answer.
-type Case = (u8, u64, usize, bool, Kind, Result<u64, SubmitError>);
+/// A command that is submitted to a store, and its answer.
+#[derive(Clone, Copy, Debug)]
+struct Case {
+    version: u8,
+    place: u64,
+    /// How many purges are pending.
+    pending: usize,
+    /// Whether the state has stopped.
+    halted: bool,
+    kind: Kind,
+    answer: Result<u64, SubmitError>,
+}
 
 /// The last place.
 const LAST: u64 = u64::MAX;
@@ -116,82 +125,59 @@ const NEAR: u64 = LAST - 256;
 
 const NEARER: u64 = LAST - 257;
 
+const PURGE: Kind = Kind::Purge;
+
+const REMOVAL: Kind = Kind::Removal;
+
+const SEGMENT: Kind = Kind::Segment;
+
+const LARGE: Kind = Kind::TooLarge;
+
+const STOPPED: Result<u64, SubmitError> = Err(SubmitError::Stopped);
+
+const TOO_LARGE: Result<u64, SubmitError> = Err(SubmitError::TooLarge);
+
+const OLD_STORE: Result<u64, SubmitError> = Err(SubmitError::OldStore);
+
+const EXHAUSTED: Result<u64, SubmitError> = Err(SubmitError::Exhausted);
+
+const BUSY: Result<u64, SubmitError> = Err(SubmitError::Busy);
+
+#[rattlefmt::skip]
 const CASES: [Case; 20] = [
-    (1, LAST, 0, true, Kind::TooLarge, Err(SubmitError::Stopped)),
-    (1, LAST, 0, true, Kind::Removal, Err(SubmitError::Stopped)),
-    (2, NEAR, 256, true, Kind::Purge, Err(SubmitError::Stopped)),
-    (2, 0, 256, true, Kind::Segment, Err(SubmitError::Stopped)),
-    (2, 0, 0, true, Kind::Segment, Err(SubmitError::Stopped)),
-    (
-        1,
-        LAST,
-        0,
-        false,
-        Kind::TooLarge,
-        Err(SubmitError::TooLarge),
-    ),
-    (
-        2,
-        NEAR,
-        256,
-        false,
-        Kind::TooLarge,
-        Err(SubmitError::TooLarge),
-    ),
-    (2, 0, 0, false, Kind::TooLarge, Err(SubmitError::TooLarge)),
-    (1, LAST, 0, false, Kind::Removal, Err(SubmitError::OldStore)),
-    (
-        1,
-        NEAR,
-        256,
-        false,
-        Kind::Removal,
-        Err(SubmitError::OldStore),
-    ),
-    (1, 0, 256, false, Kind::Removal, Err(SubmitError::OldStore)),
-    (1, LAST, 0, false, Kind::Purge, Err(SubmitError::Exhausted)),
-    (
-        2,
-        LAST,
-        0,
-        false,
-        Kind::Removal,
-        Err(SubmitError::Exhausted),
-    ),
-    (
-        2,
-        LAST,
-        0,
-        false,
-        Kind::Segment,
-        Err(SubmitError::Exhausted),
-    ),
-    (
-        2,
-        NEAR,
-        256,
-        false,
-        Kind::Purge,
-        Err(SubmitError::Exhausted),
-    ),
-    (2, NEARER, 256, false, Kind::Purge, Err(SubmitError::Busy)),
-    (2, NEAR, 255, false, Kind::Purge, Ok(LAST - 1)),
-    (2, 0, 256, false, Kind::Removal, Err(SubmitError::Busy)),
-    (2, 7, 0, false, Kind::Removal, Ok(7)),
-    (1, 7, 3, false, Kind::Segment, Ok(10)),
+    Case { version: 1, place: LAST, pending: 0, halted: true, kind: LARGE, answer: STOPPED },
+    Case { version: 1, place: LAST, pending: 0, halted: true, kind: REMOVAL, answer: STOPPED },
+    Case { version: 2, place: NEAR, pending: 256, halted: true, kind: PURGE, answer: STOPPED },
+    Case { version: 2, place: 0, pending: 256, halted: true, kind: SEGMENT, answer: STOPPED },
+    Case { version: 2, place: 0, pending: 0, halted: true, kind: SEGMENT, answer: STOPPED },
+    Case { version: 1, place: LAST, pending: 0, halted: false, kind: LARGE, answer: TOO_LARGE },
+    Case { version: 2, place: NEAR, pending: 256, halted: false, kind: LARGE, answer: TOO_LARGE },
+    Case { version: 2, place: 0, pending: 0, halted: false, kind: LARGE, answer: TOO_LARGE },
+    Case { version: 1, place: LAST, pending: 0, halted: false, kind: REMOVAL, answer: OLD_STORE },
+    Case { version: 1, place: NEAR, pending: 256, halted: false, kind: REMOVAL, answer: OLD_STORE },
+    Case { version: 1, place: 0, pending: 256, halted: false, kind: REMOVAL, answer: OLD_STORE },
+    Case { version: 1, place: LAST, pending: 0, halted: false, kind: PURGE, answer: EXHAUSTED },
+    Case { version: 2, place: LAST, pending: 0, halted: false, kind: REMOVAL, answer: EXHAUSTED },
+    Case { version: 2, place: LAST, pending: 0, halted: false, kind: SEGMENT, answer: EXHAUSTED },
+    Case { version: 2, place: NEAR, pending: 256, halted: false, kind: PURGE, answer: EXHAUSTED },
+    Case { version: 2, place: NEARER, pending: 256, halted: false, kind: PURGE, answer: BUSY },
+    Case { version: 2, place: NEAR, pending: 255, halted: false, kind: PURGE,
+        answer: Ok(LAST - 1) },
+    Case { version: 2, place: 0, pending: 256, halted: false, kind: REMOVAL, answer: BUSY },
+    Case { version: 2, place: 7, pending: 0, halted: false, kind: REMOVAL, answer: Ok(7) },
+    Case { version: 1, place: 7, pending: 3, halted: false, kind: SEGMENT, answer: Ok(10) },
 ];
 
 /// Sees how a case is answered, and that nothing is shown of it.
 fn assert_answer(rt: &Host<impl Abort>, alloc: Global, case: &Case) {
-    let (version, place, pending, halted, kind, wanted) = *case;
-    let mut work = worked(rt, alloc, version, place);
-    work.purge(rt, pending);
-    if halted {
+    let mut work = worked(rt, alloc, case.version, case.place);
+    work.purge(rt, case.pending);
+    if case.halted {
         work.state.halt();
     }
-    let answer = work.submit(rt, command_of(rt, alloc, kind));
-    assert_same(rt, &answer, &wanted, case);
-    let _device = work.ends(rt, (0, 0, place));
+    let answer = work.submit(rt, command_of(rt, alloc, case.kind));
+    assert_same(rt, &answer, &case.answer, case);
+    let _device = work.ends(rt, (0, 0, case.place));
 }
 
 #[test]

@@ -1,0 +1,152 @@
+//! The page of a server's numbers after one session.
+
+/// The page before the number of commits that took half a millisecond.
+const BEFORE_TIMES: &str = "\
+# HELP pathd_rows Segments in the store.
+# TYPE pathd_rows gauge
+pathd_rows 1
+# HELP pathd_rows_bytes Bytes of the records of these segments.
+# TYPE pathd_rows_bytes gauge
+pathd_rows_bytes 93
+# HELP pathd_rows_limit_bytes Bytes of records that have room.
+# TYPE pathd_rows_limit_bytes gauge
+pathd_rows_limit_bytes 992
+# HELP pathd_commands_total Commands that were committed since the store was made.
+# TYPE pathd_commands_total counter
+pathd_commands_total 4
+# HELP pathd_commands_pending Commands that are accepted and not committed yet.
+# TYPE pathd_commands_pending gauge
+pathd_commands_pending 0
+# HELP pathd_stopped 1 where the store takes no more commands.
+# TYPE pathd_stopped gauge
+pathd_stopped 0
+# HELP pathd_epoch Number of the checkpoint that counts.
+# TYPE pathd_epoch gauge
+pathd_epoch 1
+# HELP pathd_format_version Version of the format of the half that counts.
+# TYPE pathd_format_version gauge
+pathd_format_version 2
+# HELP pathd_journal_sealed 1 where a full journal awaits its checkpoint.
+# TYPE pathd_journal_sealed gauge
+pathd_journal_sealed 0
+# HELP pathd_flusher_phase 1 for the step that the flusher is in.
+# TYPE pathd_flusher_phase gauge
+pathd_flusher_phase{phase=\"resting\"} 1
+pathd_flusher_phase{phase=\"staged\"} 0
+pathd_flusher_phase{phase=\"written\"} 0
+pathd_flusher_phase{phase=\"stable\"} 0
+pathd_flusher_phase{phase=\"opened\"} 0
+pathd_flusher_phase{phase=\"doubtful\"} 0
+pathd_flusher_phase{phase=\"durable\"} 0
+pathd_flusher_phase{phase=\"following\"} 0
+pathd_flusher_phase{phase=\"followed\"} 0
+pathd_flusher_phase{phase=\"durable_followed\"} 0
+# HELP pathd_checkpointer_phase 1 for the step that the checkpointer is in.
+# TYPE pathd_checkpointer_phase gauge
+pathd_checkpointer_phase{phase=\"ready\"} 1
+pathd_checkpointer_phase{phase=\"sealed\"} 0
+pathd_checkpointer_phase{phase=\"planned\"} 0
+pathd_checkpointer_phase{phase=\"laid\"} 0
+pathd_checkpointer_phase{phase=\"switched\"} 0
+pathd_checkpointer_phase{phase=\"switch_failed\"} 0
+pathd_checkpointer_phase{phase=\"live\"} 0
+pathd_checkpointer_phase{phase=\"closing\"} 0
+pathd_checkpointer_phase{phase=\"close_failed\"} 0
+# HELP pathd_call_seconds Time that the call of the device has taken so far, where it is under way.
+# TYPE pathd_call_seconds gauge
+pathd_call_seconds{call=\"write_group\"} 0.000000
+pathd_call_seconds{call=\"sync_group\"} 0.000000
+pathd_call_seconds{call=\"open_gate\"} 0.000000
+pathd_call_seconds{call=\"sync_gate\"} 0.000000
+pathd_call_seconds{call=\"begin\"} 0.000000
+pathd_call_seconds{call=\"write_chunk\"} 0.000000
+pathd_call_seconds{call=\"sync_chunks\"} 0.000000
+pathd_call_seconds{call=\"open_half\"} 0.000000
+pathd_call_seconds{call=\"sync_half\"} 0.000000
+pathd_call_seconds{call=\"close_half\"} 0.000000
+pathd_call_seconds{call=\"sync_close\"} 0.000000
+pathd_call_seconds{call=\"write_following\"} 0.000000
+pathd_call_seconds{call=\"sync_followed\"} 0.000000
+# HELP pathd_groups_total Groups of commands that were committed.
+# TYPE pathd_groups_total counter
+pathd_groups_total 4
+# HELP pathd_seals_total Journals that were sealed.
+# TYPE pathd_seals_total counter
+pathd_seals_total 0
+# HELP pathd_checkpoints_total Checkpoints that were completed.
+# TYPE pathd_checkpoints_total counter
+pathd_checkpoints_total 0
+# HELP pathd_commit_seconds Time from the first step of a group to its commit.
+# TYPE pathd_commit_seconds histogram
+pathd_commit_seconds_bucket{le=\"0.000500\"} ";
+
+/// The page between the last two times of commits.
+const ALL_TIMED: &str = "\npathd_commit_seconds_bucket{le=\"+Inf\"} 4\npathd_commit_seconds_sum ";
+
+/// The page between the times of commits and the number of seconds.
+const BEFORE_SECONDS: &str = "
+pathd_commit_seconds_count 4
+# HELP pathd_sessions Sessions that are open.
+# TYPE pathd_sessions gauge
+pathd_sessions 1
+# HELP pathd_sessions_started_total Sessions that were started.
+# TYPE pathd_sessions_started_total counter
+pathd_sessions_started_total 1
+# HELP pathd_sessions_refused_total Connections that were refused a session, by the reason.
+# TYPE pathd_sessions_refused_total counter
+pathd_sessions_refused_total{reason=\"seats\"} 0
+pathd_sessions_refused_total{reason=\"address\"} 0
+pathd_sessions_refused_total{reason=\"thread\"} 0
+# HELP pathd_session_ends_total Sessions that have ended, by the cause.
+# TYPE pathd_session_ends_total counter
+pathd_session_ends_total{cause=\"closed\"} 0
+pathd_session_ends_total{cause=\"idle\"} 0
+pathd_session_ends_total{cause=\"frame\"} 0
+pathd_session_ends_total{cause=\"connection\"} 0
+pathd_session_ends_total{cause=\"memory\"} 0
+pathd_session_ends_total{cause=\"server\"} 0
+# HELP pathd_replies_total Replies to messages that were not refused, by kind.
+# TYPE pathd_replies_total counter
+pathd_replies_total{kind=\"found\"} 1
+pathd_replies_total{kind=\"registered\"} 2
+pathd_replies_total{kind=\"purged\"} 1
+pathd_replies_total{kind=\"removed\"} 1
+# HELP pathd_notices_dropped_total Notices that were dropped, since the log took none.
+# TYPE pathd_notices_dropped_total counter
+pathd_notices_dropped_total 0
+# HELP pathd_uptime_seconds Time that the server has run.
+# TYPE pathd_uptime_seconds gauge
+pathd_uptime_seconds ";
+
+/// The page after the number of seconds.
+const AFTER_SECONDS: &str = "
+# HELP pathd_build_info 1 for the version of the program, and the format that its checkpoints have.
+# TYPE pathd_build_info gauge
+pathd_build_info{version=\"0.9.0\",format=\"2\"} 1
+# HELP pathd_refusals_total Messages that were refused, by code.
+# TYPE pathd_refusals_total counter
+pathd_refusals_total{code=\"29\"} 1
+pathd_refusals_total{code=\"41\"} 2
+";
+
+/// A text without the number at its front.
+fn after_number(text: &str) -> &str {
+    text.trim_start_matches(|letter: char| letter.is_ascii_digit() || letter == '.')
+}
+
+/// The page in an answer, whatever the times of commits and the number of seconds are.
+pub(crate) fn is_page(answer: &str) -> bool {
+    let Some((head, page)) = answer.split_once("\r\n\r\n") else {
+        return false;
+    };
+    let Some(rest) = page.strip_prefix(BEFORE_TIMES) else {
+        return false;
+    };
+    let Some((_times, rest)) = rest.split_once(ALL_TIMED) else {
+        return false;
+    };
+    let Some(rest) = after_number(rest).strip_prefix(BEFORE_SECONDS) else {
+        return false;
+    };
+    head.starts_with("HTTP/1.1 200 OK\r\n") && after_number(rest) == AFTER_SECONDS
+}
