@@ -2,6 +2,12 @@
 from pathd_tools import TOP
 from pathd_tools.toolbox import Tool, Toolbox
 
+TABLES = [
+    Tool("build", "build", "builds `pathd` and programs of bench/ without their proofs"),
+    Tool("table", "table", "all figures of the program beside its rivals, in rounds, as CSV"),
+    Tool("plots", "plots", "draws the figures of `table`, and prints the table of their medians"),
+]
+
 SERVING = [
     Tool("server", "server.sh", "sessions over the loopback, beside an echo server, LevelDB and SQLite"),
     Tool("hub", "hub.sh", "lookups and registrations by several threads; `stress` checks each lookup"),
@@ -27,7 +33,7 @@ PARTS = [
     Tool("server-rows", "server_rows", "fills a server with rows"),
     Tool("store-image", "store_image", "writes a store with rows and a journal"),
     Tool("session", "session", "runs a session of `pathd once` in stages, and takes the processor's seconds of each"),
-    Tool("crates", "crates", "copies the crates that a program of a benchmark uses"),
+    Tool("crates", "crates", "lays a program of bench/ out as a crate, with the crates that it uses"),
     Tool("median", "median", "the median, the least and the greatest of columns of numbers"),
     Tool("instructions", "instructions", "the shares of functions in listings of callgrind"),
 ]
@@ -37,5 +43,5 @@ BENCHES = Toolbox(
     about="Measures the built program and its libraries (docs/BENCHMARKS.md); none of it is part of the gate.",
     package="pathd_bench",
     scripts=TOP / "bench" / "shell",
-    groups={"the built program, and the hub": SERVING, "libraries, by programs of their own": LIBRARIES, "parts of these": PARTS},
+    groups={"all figures": TABLES, "the built program, and the hub": SERVING, "libraries, by programs of their own": LIBRARIES, "parts of these": PARTS},
 )

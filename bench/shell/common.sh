@@ -17,11 +17,8 @@ built() { # the path of the program at a path, or of the one that `rt run` build
   realpath "${1:-$root/crates/pathd/out/pathd}"
 }
 
-crate() { # lays a program of this folder, whose name this is, into `work` as a crate, with the crates that it uses
-  mkdir -p "$work/crates/$1/src"
-  "$bench" crates "$work" "$1: $2"
-  cp "$root/bench/$1.rattle" "$work/crates/$1/src/main.rt"
-  git init -q "$work"
+crate() { # lays a program of bench/, whose name this is, into `work` as a crate, with the crates that it uses
+  "$bench" crates "$work" "$1"
 }
 
 quietly() { # runs a command, and prints what it says only where it fails

@@ -5,6 +5,6 @@
 source "$(dirname "${BASH_SOURCE[0]}")/common.sh"
 need rt
 scratch
-crate device_memory 'sector_dev'
+crate device_memory
 cd "$work/crates/device_memory"
 rt run

@@ -19,7 +19,7 @@ many=${2:-100000}
 scratch
 shm=$(mktemp -d -p /dev/shm)
 trap 'rm -rf "$work" "$shm"' EXIT
-crate groups 'group_core store_open sector_dev path_db seg_core'
+crate groups
 gcc -O2 "$root/bench/group_writes.c" -o "$work/group_writes"
 gcc -O2 -shared -fPIC "$root/bench/slow_sync.c" -o "$work/slow_sync.so"
 g++ -O2 "$root/bench/leveldb_groups.cc" -o "$work/leveldb_groups" -lleveldb

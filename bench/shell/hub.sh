@@ -30,9 +30,6 @@ source "$(dirname "${BASH_SOURCE[0]}")/common.sh"
 need rt python3 gcc
 scratch
 
-# The crates that the two programs are built on.
-uses='path_hub store_open sector_dev seg_lookup path_db seg_core isd_as'
-
 if [ "${1:-}" = stress ]; then
   shift
   lookups=1000000
@@ -48,7 +45,7 @@ if [ "${1:-}" = stress ]; then
   "$bench" walks-rows "$work/segments" 64 0 8
   program=${folder:-$work}/hub_stress
   if [ ! -x "$program" ]; then
-    crate hub_stress "$uses"
+    crate hub_stress
     (cd "$work/crates/hub_stress" && quietly rt run -- "$work/segments" 8)
     cp "$work/crates/hub_stress/out/hub_stress" "$program"
   fi
@@ -61,7 +58,7 @@ program=${3:+$(realpath "$3")}
 gcc -O2 "$root/bench/group_writes.c" -o "$work/group_writes"
 gcc -O2 -shared -fPIC "$root/bench/slow_sync.c" -o "$work/slow_sync.so"
 if [ -z "$program" ]; then
-  crate hub_figures "$uses"
+  crate hub_figures
   cp "$work/segments" "$work/crates/hub_figures"
   (cd "$work/crates/hub_figures" && quietly rt run -- alone)
   program=$work/crates/hub_figures/out/hub_figures

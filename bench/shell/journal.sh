@@ -8,7 +8,7 @@
 source "$(dirname "${BASH_SOURCE[0]}")/common.sh"
 need rt python3 g++ libleveldb-dev
 scratch
-crate journals 'gate_journal path_db seg_core'
+crate journals
 "$bench" frames segment 4 > "$work/segment"
 g++ -O2 "$root/bench/leveldb_log.cc" -o "$work/leveldb_log" -lleveldb
 cd "$work/crates/journals"

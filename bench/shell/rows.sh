@@ -28,7 +28,7 @@ if [ $# -ge 2 ]; then
   program=$(realpath "$2")
 else
   need rt
-  crate rows 'path_db seg_core'
+  crate rows
   program=$work/crates/rows/out/rows
   cd "$work/crates/rows"
   cp "$work/1000"/* .

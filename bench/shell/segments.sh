@@ -5,7 +5,7 @@
 source "$(dirname "${BASH_SOURCE[0]}")/common.sh"
 need rt python3
 scratch
-crate segments 'seg_core'
+crate segments
 for entries in 1 8 64; do
   "$bench" frames segment "$entries" > "$work/segment$entries"
 done

@@ -12,15 +12,15 @@
 #   while none does;
 # - resident memory with 0, 1 and 64 sessions, and with 100,000 rows.
 #
-# It needs Python 3, gcc, g++, and Debian's libleveldb-dev and libsqlite3-dev. It proves and builds
-# the two programs where they aren't given: PATHD is crates/pathd/out/pathd of `rt run`, ECHO that
+# It needs Python 3, gcc, g++, and Debian's libleveldb-dev, librocksdb-dev, libsqlite3-dev and
+# liblmdb-dev. It proves and builds the two programs where they aren't given: PATHD is crates/pathd/out/pathd of `rt run`, ECHO that
 # of bench/echo_server.rattle.
 #
 # Each figure is taken over SECONDS_EACH seconds, 2 where that variable is not set.
 #
 #     bench/pathd-bench server [ROUNDS [PATHD ECHO]]
 source "$(dirname "${BASH_SOURCE[0]}")/common.sh"
-need python3 gcc g++ libleveldb-dev libsqlite3-dev
+need python3 gcc g++ libleveldb-dev librocksdb-dev libsqlite3-dev liblmdb-dev
 rounds=${1:-5}
 work=$(mktemp -d)
 store=$(mktemp -d -p /dev/shm)
@@ -32,17 +32,14 @@ if [ -n "${3:-}" ]; then
 else
   (cd "$root/crates/pathd" && rt run -- --help >/dev/null)
   pathd=$root/crates/pathd/out/pathd
-  mkdir -p "$work/echo/crates/echo_server/src"
-  git init -q "$work/echo"
-  cp "$root/bench/echo_server.rattle" "$work/echo/crates/echo_server/src/main.rt"
-  echo 'echo_server:' > "$work/echo/crates.txt"
+  "$bench" crates "$work/echo" echo_server
   # It serves until it is stopped: building it is all that is wanted.
   (cd "$work/echo/crates/echo_server" && RT_SECONDS=1 rt run >/dev/null 2>&1) || true
   echo=$work/echo/crates/echo_server/out/echo_server
 fi
 gcc -O2 -o "$work/load" "$root/tools/native/load.c" -lpthread
 gcc -O2 -shared -fPIC -o "$work/slow_sync.so" "$root/bench/slow_sync.c"
-g++ -O2 -o "$work/rivals" "$root/bench/server_rivals.cc" -lleveldb -lsqlite3 -lpthread
+g++ -O2 -std=c++17 -o "$work/rivals" "$root/bench/server_rivals.cc" -lleveldb -lrocksdb -lsqlite3 -llmdb -lpthread
 seconds=${SECONDS_EACH:-2}
 
 # Sessions over the loopback: how many, for how long, a kind of requests, and other options; prints replies a second and the percentiles.

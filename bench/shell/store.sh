@@ -8,13 +8,13 @@
 #
 #     bench/pathd-bench store [ROWS MORE]
 source "$(dirname "${BASH_SOURCE[0]}")/common.sh"
-need rt python3 gcc g++ bc libleveldb-dev libsqlite3-dev
+need rt python3 gcc g++ bc libleveldb-dev librocksdb-dev libsqlite3-dev liblmdb-dev
 rows=${1:-20000}
 more=${2:-2000}
 scratch
-crate stores 'store_open sector_dev path_db'
+crate stores
 "$bench" store-image "$work/image" "$rows" "$more"
-g++ -O2 "$root/bench/store_rivals.cc" -o "$work/rivals" -lleveldb -lsqlite3
+g++ -O2 -std=c++17 "$root/bench/store_rivals.cc" -o "$work/rivals" -lleveldb -lrocksdb -lsqlite3 -llmdb
 gcc -O2 "$root/bench/write_same.c" -o "$work/write_same"
 "$work/rivals" fill leveldb "$work/image.values" "$work/leveldb"
 "$work/rivals" fill sqlite "$work/image.values" "$work/sqlite"

@@ -12,7 +12,7 @@ source "$(dirname "${BASH_SOURCE[0]}")/common.sh"
 need rt python3 gcc bc liblmdb-dev
 entries=${1:-4}
 scratch
-crate walks 'seg_lookup path_db seg_core isd_as'
+crate walks
 gcc -O2 "$root/bench/lmdb_walks.c" -o "$work/lmdb_walks" -llmdb
 sizes="1000 20000 200000"
 for rows in $sizes; do

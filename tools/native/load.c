@@ -4,7 +4,7 @@
 // microseconds. Its status is 1 where a reply was not the one that its request asks for, was a
 // refusal, or where a session ended early; 2 for words that can't be read.
 //
-//     load ADDRESS PORT [--sessions N] [--seconds S] [--mix KIND=WEIGHT,..] [--rate R] [--window W] [--rows N] [--seed N] [--series FILE] [--every S]
+//     load ADDRESS PORT [--sessions N] [--seconds S] [--mix KIND=WEIGHT,..] [--rate R] [--window W] [--rows N] [--made N] [--seed N] [--series FILE] [--every S]
 //
 // `tools/pathd-tools load` compiles and runs it, and says what each option is. Two kinds are for
 // measurements of the server itself: `echo` is the smallest request, which an echo server gives
@@ -24,7 +24,7 @@
 #include <time.h>
 #include <unistd.h>
 
-enum { MOST_SESSIONS = 256, MOST_WINDOW = 128, MOST_ROWS = 1 << 24, SEGMENT = 88, IN_A_REGISTRATION = 16, ONE = 13 + SEGMENT, MOST_FRAME = 2048 };
+enum { MOST_SESSIONS = 256, MOST_WINDOW = 128, MOST_ROWS = 1 << 24, MOST_MADE = 250000000, SEGMENT = 88, IN_A_REGISTRATION = 16, ONE = 13 + SEGMENT, MOST_FRAME = 2048 };
 enum { LOOKUP, REGISTER, FRESH, PURGE, REMOVE, ECHO, CONNECT, KINDS };
 static const char *const names[KINDS] = {"lookup", "register", "fresh", "purge", "remove", "echo", "connect"};
 
@@ -42,7 +42,7 @@ static struct sockaddr_storage server;
 static socklen_t server_len;
 static int sessions = 8, window = 1, weights[KINDS], all_weights;
 static double seconds = 10, rate, every = 0.25;
-static uint64_t rows = 1000, seed = 1;
+static uint64_t rows = 1000, seed = 1, first_of_own;
 static const char *series;
 static pthread_barrier_t filled, start;
 static double begun;
@@ -244,7 +244,7 @@ static int fill(struct session *s) {
   for (;;) {
     uint64_t count = end - first < IN_A_REGISTRATION ? end - first : IN_A_REGISTRATION;
     int is_last = count == 0;
-    size_t len = is_last ? put_rows(frame, 0x01, own_row(s), 1, s->made = FIRST_MADE) : put_rows(frame, 0x01, first, count, FIRST_MADE);
+    size_t len = is_last ? put_rows(frame, 0x01, own_row(s), 1, s->made = FIRST_MADE + first_of_own) : put_rows(frame, 0x01, first, count, FIRST_MADE);
     if (!send_all(s->fd, frame, len)) return 0;
     const unsigned char *reply = received(s, 6);
     if (!reply) return 0;
@@ -284,7 +284,9 @@ static int ask_anew(struct session *s) {
   s->from = s->to = 0;
   size_t len = put_bytes(frame, 0x02, 0, 0);
   const unsigned char *reply = send_all(s->fd, frame, len) ? received(s, 6) : NULL;
-  if (reply) s->wrong[CONNECT] += reply[4] != 0xff || reply[5] != 0x41;
+  if (reply && (reply[4] != 0xff || reply[5] != 0x41)) {
+    if (s->wrong[CONNECT]++ == 0) fprintf(stderr, "session %lu: the reply 0x%02x 0x%02x to the smallest request\n", s->number, reply[4], reply[5]);
+  }
   s->count[CONNECT]++;
   close(s->fd);
   return reply != NULL;
@@ -429,12 +431,13 @@ int main(int argc, char **argv) {
     else if (!strcmp(argv[i], "--rate")) rate = atof(value);
     else if (!strcmp(argv[i], "--window")) window = atoi(value);
     else if (!strcmp(argv[i], "--rows")) rows = atoll(value);
+    else if (!strcmp(argv[i], "--made")) first_of_own = atoll(value);
     else if (!strcmp(argv[i], "--seed")) seed = atoll(value);
     else if (!strcmp(argv[i], "--series")) series = value;
     else if (!strcmp(argv[i], "--every")) every = atof(value);
     else if (strcmp(argv[i], "--mix") || !read_mix(value)) return bad("an option can't be read");
   }
-  if (sessions < 1 || sessions > MOST_SESSIONS || window < 1 || window > MOST_WINDOW || rows < 1 || rows > MOST_ROWS || seconds <= 0 || every <= 0)
+  if (sessions < 1 || sessions > MOST_SESSIONS || window < 1 || window > MOST_WINDOW || rows < 1 || rows > MOST_ROWS || first_of_own > MOST_MADE || seconds <= 0 || every <= 0)
     return bad("a number is out of its range");
   signal(SIGPIPE, SIG_IGN);
   struct session *all = calloc(sessions, sizeof *all);

@@ -43,8 +43,7 @@ PROGRAMS = [
     ("gcc python3", "power-cuts --program PROGRAM"),
     ("python3", "histories --program PROGRAM"),
     ("python3-protobuf", "servers --program PROGRAM"),
-    ("gcc python3", "short-load --no-plot PROGRAM"),
-    ("gcc python3 python3-matplotlib", "short-load PROGRAM"),
+    ("gcc python3", "short-load PROGRAM"),
 ]
 FAILED, LEFT_OUT = 1, 2
 

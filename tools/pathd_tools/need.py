@@ -49,7 +49,7 @@ def modules(name: str, imported: str, packages: str) -> Thing:
 
 def header(name: str, file: str) -> Thing:
     """A package whose header the C++ compiler finds."""
-    words = ("g++", "-fsyntax-only", "-x", "c++", "-")
+    words = ("g++", "-std=c++17", "-fsyntax-only", "-x", "c++", "-")
     return Thing(name, lambda: runs(*words, given=f"#include <{file}>\n"), f"apt-get install {name}")
 
 
@@ -69,7 +69,6 @@ THINGS = [
     Thing("root", lambda: os.geteuid() == 0, "run it as root"),
     Thing("python3", is_new_python, "apt-get install python3 (3.11 or later)"),
     modules("python3-protobuf", "google.protobuf", "python3-protobuf"),
-    modules("python3-matplotlib", "matplotlib", "python3-matplotlib"),
     modules("python3-grpcio", "grpc", "python3-grpcio"),
     program("protoc", "protobuf-compiler"),
     program("grpc_python_plugin", "protobuf-compiler-grpc"),
@@ -102,6 +101,7 @@ THINGS = [
     program("g++", "g++"),
     header("libprotobuf-dev", "google/protobuf/message.h"),
     header("libleveldb-dev", "leveldb/db.h"),
+    header("librocksdb-dev", "rocksdb/db.h"),
     header("libsqlite3-dev", "sqlite3.h"),
     header("liblmdb-dev", "lmdb.h"),
 ]

@@ -67,15 +67,15 @@ class Recorded:
 # Recording
 
 
-def hold_session(server: runs.Server, seed: str, requests: int, faults: list) -> None:
-    """Sends random requests, a few at once, and reads their replies."""
+def hold_session(server: runs.Server, seed: str, requests: int, most: int, faults: list) -> None:
+    """Sends random requests, some at once, `most` of them at the most, and reads their replies."""
     commands = runs.Commands(seed, KEYS, SHARE)
     connection = server.connect()
     replies = runs.Replies(connection)
     left = requests
     try:
         while left:
-            window = min(left, commands.random.choice((1, 1, 2, 4, 8)))
+            window = min(left, runs.next_window(commands.random, most))
             sent = [next_request(commands) for _ in range(window)]
             connection.sendall(b"".join(sent))
             for _ in sent:
@@ -104,8 +104,9 @@ def record(
     version: int = 2,
     first: bytes | None = None,
     swallowed: str = "",
+    ahead: int = 128,
 ) -> Recorded:
-    """Records a server's run over an image, or over a new store."""
+    """Records a server's run over an image, or over a new store; no session sends more than `ahead` requests at one time."""
     store, log = folder / "store", folder / "log"
     log.unlink(missing_ok=True)
     if first is None:
@@ -117,7 +118,8 @@ def record(
     faults: list = []
     with runs.Server(program, store, env=env) as server:
         each = requests // SESSIONS
-        threads = [threading.Thread(target=hold_session, args=(server, f"{seed}/{number}", each, faults)) for number in range(SESSIONS)]
+        given = [(server, f"{seed}/{number}", each, runs.greatest_window(number, ahead), faults) for number in range(SESSIONS)]
+        threads = [threading.Thread(target=hold_session, args=it) for it in given]
         for thread in threads:
             thread.start()
         for thread in threads:

@@ -30,6 +30,8 @@ LEAVES = [0x0001_FF00_0000_0111 + n for n in range(4)]
 CORES = {CORE_A, CORE_B}
 LARGE = 3_000
 CORE_WORDS = ["--cores", "1-ff00:0:110,2-64512"]
+# How many requests sessions send before they read replies, at the most: one after the other.
+AHEAD = (1, 8, 32, 128, 2, 64)
 # Lookups of each kind, with wildcards among them.
 QUERIES = [(CORE_A, leaf) for leaf in LEAVES] + [(leaf, CORE_A) for leaf in LEAVES] + [
     (CORE_A, CORE_B), (CORE_B, CORE_A), (1 << 48, LEAVES[0]), (LEAVES[1], 2 << 48), (0, LEAVES[2]), (LEAVES[3], 0), (CORE_A, 0),
@@ -246,6 +248,16 @@ class Commands:
         count = self.random.choice((1, 1, 1, 1, 2, 3, 5))
         segments = [self.segment(self.random.randrange(len(self.rows))) for _ in range(count)]
         return ("register", tuple(sorted(segments, key=lambda row: row[0])))
+
+
+def greatest_window(number: int, ahead: int) -> int:
+    """How many requests the session of a number sends at one time at the most, where none sends more than `ahead`."""
+    return min(ahead, AHEAD[number % len(AHEAD)])
+
+
+def next_window(chance: random.Random, most: int) -> int:
+    """How many requests a session sends at one time: often one, and as often as many as it may."""
+    return chance.choice((1, most, chance.randint(1, most)))
 
 
 def digest(body: bytes) -> bytes:

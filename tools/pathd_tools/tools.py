@@ -41,7 +41,7 @@ ATTACKS = [
     Tool("power-cuts", "attacks.power_cuts", "cuts the power at each write and sync of a recorded server, and opens what is left"),
     Tool("histories", "attacks.histories", "one order of the commands explains all replies of 32 sessions, over kills"),
     Tool("hostile", "attacks.hostile", "mutated frames and images, each answer compared with the model's"),
-    Tool("refused-calls", "attacks.refused_calls", "refuses each allocation, read, write and sync of four commands and a server"),
+    Tool("refused-calls", "attacks.refused_calls", "refuses each allocation and call of the system of four commands and a server"),
     Tool("refused-memory", "attacks.refused_memory", "refuses each allocation of `once`"),
     Tool("refused-tests", "attacks.refused_tests", "refuses each allocation of each test"),
     Tool("refused", "attacks.refused", "refused-memory, refused-calls and refused-tests"),
@@ -50,7 +50,8 @@ ATTACKS = [
     Tool("soak", "attacks.soak", "a mixed load for an hour, with many checkpoints"),
     Tool("full-disk", "attacks.full_disk", "a file system that runs out of room; as root"),
     Tool("snapshots", "attacks.snapshots", "snapshots of a store beside its running server; as root"),
-    Tool("attacks", "attacks.together", "power-cuts, histories, refused, peers, hostile and soak"),
+    Tool("planted", "attacks.planted", "faults in the program's sources, each of which power-cuts or histories has to see"),
+    Tool("attacks", "attacks.together", "power-cuts, histories, refused, peers, hostile, soak and planted, with a summary"),
 ]
 
 LOAD = [

@@ -1,21 +1,15 @@
 #!/usr/bin/env bash
 # Has tools/pathd-tools load make a load on a server of the built program for two seconds, each
 # reply checked, over a store so small that checkpoints count meanwhile; tools/pathd-tools plot
-# draws the series, and tools/pathd-tools layout the store that is left. It needs gcc, Python 3 and,
-# unless --no-plot is given, Debian's python3-matplotlib; it uses the loopback alone, and is no part
-# of the gate.
+# draws the series, and tools/pathd-tools layout the store that is left. It needs gcc and Python 3,
+# uses the loopback alone, and is no part of the gate.
 #
-#     tools/pathd-tools short-load [--no-plot] [PROGRAM]
+#     tools/pathd-tools short-load [PROGRAM]
 #
 # PROGRAM is crates/pathd/out/pathd if left out, which `rt run` builds.
 set -euo pipefail
 top=$(cd "$(dirname "${BASH_SOURCE[0]}")/../.." && pwd)
-plot=yes
-if [ "${1:-}" = --no-plot ]; then
-  plot=
-  shift
-fi
-"$top/tools/pathd-tools" need gcc python3 ${plot:+python3-matplotlib} || exit
+"$top/tools/pathd-tools" need gcc python3 || exit
 program=$(realpath "${1:-$top/crates/pathd/out/pathd}") || exit 2
 [ -x "$program" ] || { echo "no program: $program" >&2; exit 2; }
 work=$(mktemp -d) || exit 2
@@ -23,7 +17,7 @@ server=
 trap '[ -z "$server" ] || kill -9 "$server" 2>/dev/null; rm -rf "$work"' EXIT
 
 is_picture() { # whether a file is a picture with a figure in it
-  [ -s "$1" ] && grep -q "<svg" "$1" && grep -qE "<(rect|path)" "$1" || { echo "no picture: $1" >&2; exit 1; }
+  [ -s "$1" ] && grep -q "<svg" "$1" && grep -qE "<(rect|polyline)" "$1" || { echo "no picture: $1" >&2; exit 1; }
 }
 
 "$program" format "$work/store" --checkpoint 512 --journal 516 >"$work/formatted"
@@ -43,9 +37,7 @@ fi
 kill -9 "$server"
 wait "$server" 2>/dev/null || true
 server=
-if [ -n "$plot" ]; then
-  "$top/tools/pathd-tools" plot "$work/series" "$work/load.svg"
-  is_picture "$work/load.svg"
-fi
+"$top/tools/pathd-tools" plot "$work/series" "$work/load.svg"
+is_picture "$work/load.svg"
 "$top/tools/pathd-tools" layout "$work/store" "$work/layout.svg" --program "$program"
 is_picture "$work/layout.svg"

@@ -1,10 +1,10 @@
 """Records what 32 sessions of a server ask and are answered, with times, and shows that one order
 of the commands explains all of it.
 
-    tools/pathd-tools histories [--program PROGRAM] [--seed N] [--replies N] [--kills N] [--sessions N]
+    tools/pathd-tools histories [--program PROGRAM] [--seed N] [--replies N] [--for MINUTES] [--kills N] [--sessions N] [--ahead N]
 
 Sessions over TCP, a process each, send random registrations, removals, purges and lookups, some of
-them several at once. The server is killed (-9) while they do, and started again on the same file, N
+them several at once: 1 to 128, or as many as --ahead says at the most. The server is killed (-9) while they do, and started again on the same file, N
 times. The order is that of the places. It is shown that
 
 - each place up to the one at which the store opens again is that of one command; the commands
@@ -21,6 +21,8 @@ times. The order is that of the places. It is shown that
 That the checker sees faults is tried on the first round, by altering a reply. Beyond what is
 promised the script counts the lookups that no front explains that holds all commands acknowledged
 to anybody before the lookup was sent.
+
+With --for all of it is repeated with the next seed until so many minutes have passed.
 
 It needs Python 3, and the loopback. It ends with the status 1 where something doesn't hold, and
 prints the first ones.
@@ -77,17 +79,18 @@ def make_pool(seed: int) -> list[tuple]:
 
 
 def hold_session(
-    connection: socket.socket, seed: str, frames: list[bytes], asking: list[bytes], counts: object, number: int, path: Path
+    connection: socket.socket, seed: str, frames: list[bytes], asking: list[bytes], counts: object, number: int, ahead: int, path: Path
 ) -> None:
     """Sends requests until the server is gone, and writes what was asked and answered to a file."""
     chance = random.Random(seed)
     records = bytearray()
     replies = runs.Replies(connection)
+    most = runs.greatest_window(number, ahead)
     window: list[tuple[int, int]] = []
     try:
         while True:
             window = []
-            for _ in range(chance.choice((1, 1, 1, 2, 4, 8))):
+            for _ in range(runs.next_window(chance, most)):
                 if chance.random() < 0.5:
                     window.append((LOOKUPS + chance.randrange(len(asking)), 0))
                 else:
@@ -315,15 +318,21 @@ def test_checker(pool: list[tuple], sessions: list[list[Asked]], image: bytes, p
     """What the checker doesn't see of replies that were altered in a first round."""
     missed = []
     for how in ALTERED:
-        # An answer of before may be one of later too, so three sessions are tried.
-        faults = []
-        for number in range(3):
-            checker = Checker(pool)
-            checker.check(altered(sessions, how, number), image, printed)
-            faults += checker.faults
-            if faults:
+        # An answer of before may be one of later too, so three sessions are tried; one that was
+        # asked too little has nothing to alter.
+        faults, tried = [], 0
+        for number in range(len(sessions)):
+            if faults or tried == 3:
                 break
-        if not faults:
+            try:
+                changed = altered(sessions, how, number)
+            except (IndexError, StopIteration):
+                continue
+            tried += 1
+            checker = Checker(pool)
+            checker.check(changed, image, printed)
+            faults = checker.faults
+        if tried > 0 and not faults:
             missed.append(f"the checker doesn't see that {how} was altered")
     return missed
 
@@ -346,7 +355,7 @@ def hold_round(program: str, store: Path, folder: Path, options: argparse.Namesp
         processes = []
         connections = [server.connect() for _ in paths]
         for session, path in enumerate(paths):
-            given = (connections[session], f"{options.seed}/{number}/{session}", frames, asking, counts, session, path)
+            given = (connections[session], f"{options.seed}/{number}/{session}", frames, asking, counts, session, options.ahead, path)
             processes.append(multiprocessing.Process(target=hold_session, args=given))
             processes[-1].start()
         until = time.monotonic() + options.seconds
@@ -359,19 +368,8 @@ def hold_round(program: str, store: Path, folder: Path, options: argparse.Namesp
     return [read_session(path) for path in paths]
 
 
-def main(words: list[str]) -> int:
-    """Records, checks, and prints what was found."""
-    parser = toolbox.parser(__doc__)
-    parser.add_argument("--program", help="the built program; crates/pathd/out/pathd if left out")
-    parser.add_argument("--seed", type=int, default=1)
-    parser.add_argument("--replies", type=int, default=1_000_000)
-    parser.add_argument("--kills", type=int, default=10, help="how often the server is killed, at the end too")
-    parser.add_argument("--sessions", type=int, default=32)
-    parser.add_argument("--seconds", type=int, default=600, help="how long it may take from one kill to the next")
-    options = parser.parse_args(words)
-    program = runs.program_of(options.program)
-    begun = time.monotonic()
-    print(f"{runs.commit_name(program)}, seed {options.seed}", flush=True)
+def hold_seed(program: str, options: argparse.Namespace) -> Checker:
+    """Records and checks the rounds of a seed."""
     pool = make_pool(options.seed)
     frames = [messages.command_frame(command) for command in pool]
     checker = Checker(pool)
@@ -392,9 +390,34 @@ def main(words: list[str]) -> int:
             print(f"  kill {number + 1}: place {checker.place}, {checker.counts['replies']} replies so far", flush=True)
             if checker.faults:
                 break
-    for name, count in sorted(checker.counts.items()):
+    return checker
+
+
+def main(words: list[str]) -> int:
+    """Records, checks, and prints what was found."""
+    parser = toolbox.parser(__doc__)
+    parser.add_argument("--program", help="the built program; crates/pathd/out/pathd if left out")
+    parser.add_argument("--seed", type=int, default=1)
+    parser.add_argument("--replies", type=int, default=1_000_000, help="how many replies there are of a seed")
+    parser.add_argument("--for", type=float, dest="minutes", default=0, metavar="MINUTES", help="take further seeds until then")
+    parser.add_argument("--kills", type=int, default=10, help="how often the server is killed, at the end too")
+    parser.add_argument("--sessions", type=int, default=32)
+    parser.add_argument("--ahead", type=int, default=128, help="how many requests a session sends at one time at the most")
+    parser.add_argument("--seconds", type=int, default=600, help="how long it may take from one kill to the next")
+    options = parser.parse_args(words)
+    program = runs.program_of(options.program)
+    begun = time.monotonic()
+    print(f"{runs.commit_name(program)}, seed {options.seed}", flush=True)
+    counts: Counter = Counter()
+    faults: list[str] = []
+    while not faults and (not counts or time.monotonic() < begun + 60 * options.minutes):
+        checker = hold_seed(program, options)
+        counts += checker.counts + Counter({"seeds": 1})
+        faults = checker.faults
+        options.seed += 1
+    for name, count in sorted(counts.items()):
         print(f"  {name}: {count}")
-    for fault in checker.faults[:5]:
+    for fault in faults[:5]:
         print(f"  {fault}")
-    print(f"{checker.counts['replies']} replies, {len(checker.faults)} unexplained, {time.monotonic() - begun:.0f} seconds")
-    return 1 if checker.faults else 0
+    print(f"{counts['replies']} replies, {len(faults)} unexplained, {time.monotonic() - begun:.0f} seconds")
+    return 1 if faults else 0

@@ -1,10 +1,12 @@
 """Cuts the power of a server at every moment of a recorded run, and opens what is left.
 
-    tools/pathd-tools power-cuts [--program PROGRAM] [--seed N] [--images N] [--commands N] [--restarts N] [--jobs N] [--swallowed KIND]
+    tools/pathd-tools power-cuts [--program PROGRAM] [--seed N] [--images N] [--for MINUTES] [--commands N] [--restarts N]
+                                 [--ahead N] [--jobs N] [--swallowed KIND]
 
 A server on a real file is recorded by a preloaded library (tools/native/recorded_calls.c) while 6
 sessions register, remove, purge and look up: each write with its bytes, each sync, each request and
-each reply, in order. A run over a store of version 2 and one over a store of version 1 are
+each reply, in order. The sessions send 1 to 128 requests before they read replies, or as many as
+--ahead says at the most. A run over a store of version 2 and one over a store of version 1 are
 recorded, and after each of them N shorter ones, each over an image that a power cut at a random
 moment of the one before it leaves.
 
@@ -26,6 +28,8 @@ With --swallowed every second sync of a kind isn't made (`group`, `gate`, `chunk
 a group that follows another one is of the kind `group`, and also serves the other one's gate. A
 lost sync of the kind `close` is covered by the next sync of any kind before the half is used, so
 that none is found.
+
+With --for all of it is repeated with the next seed until so many minutes have passed.
 
 It needs Python 3 and gcc, and the loopback. It ends with the status 1 where an image opens to
 anything else, and prints the first ones.
@@ -257,7 +261,7 @@ def cut_run(given: tuple) -> tuple[Counter, list[str]]:
         if has_upgrades and counts["upgrades"] < openings and number % 37 == worker and held:
             counts["upgrades"] += 1
             cut_upgrade(cutter, kept, chance, counts)
-        if len(cutter.losses) > (ENOUGH if options.swallowed else 200):
+        if len(cutter.losses) >= (ENOUGH if options.swallowed else options.enough):
             break
     cutter.forked.close()
     return counts, cutter.losses
@@ -323,7 +327,7 @@ def cut_lives(program: str, libraries: tuple[str, str], folder: Path, version: i
     for restart in range(1 + restarts):
         seed = f"{options.seed}/{version}/{restart}"
         commands = options.commands if restart == 0 else options.commands // 4
-        run = record(program, libraries[0], folder, seed, commands, LAYOUT, version, first, options.swallowed)
+        run = record(program, libraries[0], folder, seed, commands, LAYOUT, version, first, options.swallowed, options.ahead)
         letters = Counter(call.letter for call in run.calls)
         words = ", ".join(f"{count} {name}" for name, count in sorted(run.replies.items()))
         from_ = f"version {version}" if restart == 0 else f"what a power cut left, {run.start} commands"
@@ -339,16 +343,29 @@ def cut_lives(program: str, libraries: tuple[str, str], folder: Path, version: i
     return total, losses
 
 
+def cut_seed(program: str, libraries: tuple[str, str], folder: Path, options: argparse.Namespace) -> tuple[Counter, list[str]]:
+    """Records and cuts the runs of a seed, over stores of both versions."""
+    total, losses = Counter(), []
+    for version in (2, 1):
+        counts, found = cut_lives(program, libraries, folder, version, options)
+        total += counts
+        losses += found
+    return total, losses
+
+
 def main(words: list[str]) -> int:
     """Records, cuts, and prints what was found."""
     parser = toolbox.parser(__doc__)
     parser.add_argument("--program", help="the built program; crates/pathd/out/pathd if left out")
     parser.add_argument("--seed", type=int, default=1)
-    parser.add_argument("--images", type=int, default=100_000, help="about how many images are made")
+    parser.add_argument("--images", type=int, default=100_000, help="about how many images are made of a seed")
+    parser.add_argument("--for", type=float, dest="minutes", default=0, metavar="MINUTES", help="take further seeds until then")
     parser.add_argument("--commands", type=int, default=6_000, help="how many requests each recorded run has")
     parser.add_argument("--restarts", type=int, default=3, help="how many runs there are after power cuts of each of the two")
+    parser.add_argument("--ahead", type=int, default=128, help="how many requests a session sends at one time at the most")
     parser.add_argument("--jobs", type=int, default=2)
     parser.add_argument("--openings", type=int, default=40, help="how many openings and upgrades each process cuts")
+    parser.add_argument("--enough", type=int, default=200, help="how many losses end a process")
     parser.add_argument("--swallowed", choices=SWALLOWED, default="", help="leave out every second sync of a kind")
     options = parser.parse_args(words)
     program = runs.program_of(options.program)
@@ -357,10 +374,10 @@ def main(words: list[str]) -> int:
     print(f"{runs.commit_name(program)}, seed {options.seed}")
     with runs.scratch() as folder:
         libraries = runs.compiled("recorded_calls.c", folder), runs.compiled("fork_server.c", folder)
-        for version in (2, 1):
-            counts, found = cut_lives(program, libraries, folder, version, options)
-            total += counts
-            losses += found
+        while not losses and (not total or time.monotonic() < begun + 60 * options.minutes):
+            counts, losses = cut_seed(program, libraries, folder, options)
+            total += counts + Counter({"seeds": 1})
+            options.seed += 1
     for name, count in sorted(total.items()):
         print(f"  {name}: {count}")
     for loss in losses[:5]:

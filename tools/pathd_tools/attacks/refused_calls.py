@@ -1,7 +1,7 @@
 """Runs `format`, `show`, `status`, `upgrade` and a served session, once for each allocation and for
-each call on the store's file, which is refused in that run.
+each call of the system, which is refused in that run.
 
-    tools/pathd-tools refused-calls [--program PROGRAM] [--every N] [--jobs N] [--only COMMAND] [--kind KIND]
+    tools/pathd-tools refused-calls [--program PROGRAM] [--every N] [--jobs N] [--only COMMAND] [--kind KIND] [--for MINUTES]
 
 A preloaded library (tools/native/refused_calls.c) refuses: an allocation; a read, a write or a sync
 with EIO or ENOSPC, once or from then on; it interrupts one (EINTR), moves a part of its bytes, or
@@ -16,7 +16,14 @@ none, or a part with EIO. What has to come of it:
 - an allocation ends a command with `error: memory`, a server too if it has answered nobody yet, or
   the reply to a request is 0x01, or its session ends; the next requests are answered as before.
 
-No run may take longer than 60 seconds. --every N tries each N-th allocation and read alone. It
+- an fstat is a call on the store's file, before it is known to be one too;
+- an accept, a copy of a descriptor, a new thread, a byte from or to a peer, or what is set up once
+  (opening, locking, listening): a command ends with the status 1 and an `error:` line, a server too
+  where it has answered nobody yet; or nothing is seen of it; or a session ends, and the next one is
+  answered as before. The store never stops by it.
+
+No run may take longer than 60 seconds. --every N tries each N-th allocation and read alone. With
+--for it begins no further way to fail after so many minutes, and says which were left out. It
 needs Python 3 and gcc, and the loopback. It prints a table of what was tried, and ends with the
 status 1 where something else came of one.
 """
@@ -24,6 +31,7 @@ from __future__ import annotations
 
 import multiprocessing
 import os
+import re
 import shutil
 import struct
 import subprocess
@@ -42,7 +50,20 @@ HOWS = {
     "write": ["EIO", "ENOSPC", "torn", "none", "EIO+", "ENOSPC+", *PASSING],
     "sync": ["EIO", "ENOSPC", "EIO+", "EINTR"],
     "length": ["EIO", "ENOSPC"],
+    "accept": ["EMFILE", "ECONNABORTED", "EINTR"],
+    "clone": ["EMFILE"],
+    "fstat": ["EIO", "ENOMEM"],
+    "thread": ["EAGAIN"],
+    "receive": ["ECONNRESET", "EINTR", "part", "one"],
+    "send": ["EPIPE", "EINTR", "part", "one"],
+    "setting": ["EIO", "ENOMEM"],
 }
+# The kinds of calls that aren't about the store's device.
+BESIDE = {"accept", "clone", "thread", "receive", "send", "setting"}
+# What a session is answered for which there is no thread, before its requests are read.
+NO_THREAD = b"\xff\x61"
+# What a command says where one of these ends it.
+BESIDE_LINES = re.compile(r"error: (memory|net|device 1|format \d|open \d|output)")
 COMMANDS = ["format", "show", "status", "upgrade", "run"]
 STOPPED = "the store has stopped"
 SECONDS = 60
@@ -91,9 +112,11 @@ def try_command(program: str, store: Path, command: str, env: dict, kind: str, h
     if status == 0:
         if (status, out, err) != wanted or (command != "format" or how in PASSING) and store.read_bytes() != held:
             raise Wrong(f"status 0, {out!r}, {err!r}")
-        if how not in PASSING and kind != "memory":
+        if how not in PASSING and kind != "memory" and kind not in BESIDE:
             raise Wrong("ends as if nothing had failed")
         return "passed"
+    if kind in BESIDE:
+        return ended_beside(program, store, before, (status, out, err), wanted)
     lines = {"error: open 2", "error: device 1", "error: format 3"}
     if kind == "memory":
         # The system's own allocations for a path are those of making the file.
@@ -103,6 +126,17 @@ def try_command(program: str, store: Path, command: str, env: dict, kind: str, h
         raise Wrong(f"status {status}, {out!r}, {err!r}")
     if how in PASSING:
         raise Wrong(f"ends at an interrupted or shorter transfer: {err!r}")
+    if before and called([program, "show", str(store)], {}) != before:
+        raise Wrong("what was there isn't shown any more")
+    return line
+
+
+def ended_beside(program: str, store: Path, before: tuple | None, ended: tuple[int, bytes, bytes], wanted: tuple[int, bytes, bytes]) -> str:
+    """What came of a refused call that isn't one of the store's file, where it ended a command."""
+    status, out, err = ended
+    line = runs.last_line(err)
+    if status != 1 or not wanted[1].startswith(out) or not BESIDE_LINES.fullmatch(line):
+        raise Wrong(f"status {status}, {out!r}, {err!r}")
     if before and called([program, "show", str(store)], {}) != before:
         raise Wrong("what was there isn't shown any more")
     return line
@@ -190,6 +224,13 @@ class Worlds:
         return any(out == model.show_text(self.fold(commands), self.place + len(commands)) for commands in self.lists)
 
 
+def first_lines(kind: str) -> set[str]:
+    """What a server says that ends before it serves."""
+    if kind == "memory":
+        return {"error: memory"}
+    return {"error: open 2", "error: device 1"} if kind == "fstat" else {"error: open 2"}
+
+
 def try_session(program: str, store: Path, env: dict, kind: str, how: str, first: bytes) -> str:
     """Serves a session over a store, and answers what came of it."""
     store.write_bytes(first)
@@ -198,14 +239,16 @@ def try_session(program: str, store: Path, env: dict, kind: str, how: str, first
     try:
         server = runs.Server(program, store, env=env)
     except RuntimeError as ended:
-        line = runs.last_line(str(ended).split("ended: ")[-1].encode())
-        if line not in ({"error: memory"} if kind == "memory" else {"error: open 2"}) or how in PASSING:
+        line = result = runs.last_line(str(ended).split("ended: ")[-1].encode())
+        if kind == "setting" and " serves " in Path(f"{store}.notices").read_text():
+            result = "served, and said no address"
+        elif not (BESIDE_LINES.fullmatch(line) if kind in BESIDE else line in first_lines(kind)) or how in PASSING:
             raise Wrong(str(ended)) from ended
-        result = line
     else:
         with server:
             is_early = mark.exists()
-            hold_session(server, worlds, how)
+            # A session may end by such a call, as it may by a refused allocation.
+            hold_session(server, worlds, "refused" if kind in BESIDE else how)
             result = result_of(server, worlds, mark, kind, how, is_early)
     if result == "none":
         return result
@@ -227,6 +270,10 @@ def hold_session(server: runs.Server, worlds: Worlds, how: str, count: int = 14)
                     replies = runs.Replies(connection)
                 connection.sendall(frame_of(request))
                 content = replies.next()
+                if content == NO_THREAD and how == "refused":
+                    connection.close()
+                    connection = None
+                    continue
             except TimeoutError as hung:
                 raise Wrong("no reply came") from hung
             except OSError:
@@ -243,6 +290,8 @@ def result_of(server: runs.Server, worlds: Worlds, mark: Path, kind: str, how: s
     if not mark.exists():
         return "none"
     notices = server.notices.read_text()
+    if kind in BESIDE:
+        return result_beside(server, worlds, notices)
     if server.process.poll() is not None:
         # The readers and the threads of the actors are made once the server listens, before any
         # session.
@@ -260,6 +309,18 @@ def result_of(server: runs.Server, worlds: Worlds, mark: Path, kind: str, how: s
         if STOPPED not in server.notices.read_text():
             raise Wrong(f"the server doesn't say that the store has stopped: {notices}")
     return "stopped" if worlds.has_stopped else "stopped after the last command"
+
+
+def result_beside(server: runs.Server, worlds: Worlds, notices: str) -> str:
+    """What came of a refused call that isn't one of the store's file, while a server served."""
+    if server.process.poll() is not None:
+        if BESIDE_LINES.fullmatch(runs.last_line(notices.encode())) and not worlds.has_answered:
+            return runs.last_line(notices.encode())
+        raise Wrong(f"the server ended: {notices}")
+    if STOPPED in notices:
+        raise Wrong("the store has stopped")
+    said = re.search(r"^pathd: (an accept failed|sessions ended by a fault|sessions refused)", notices, re.M)
+    return f"{said[1]}, then served" if said else "passed"
 
 
 # The script
@@ -285,7 +346,9 @@ def make_store(program: str, folder: Path) -> bytes:
 
 def sweep(given: tuple) -> tuple[str, str, str, Counter, list[str]]:
     """Refuses each call of a kind in one way."""
-    program, library, top, command, kind, how, first, every = given
+    program, library, top, command, kind, how, first, every, until = given
+    if until and time.monotonic() > until:
+        return command, kind, how, Counter(), []
     folder = Path(top) / f"{command}_{kind}_{how}"
     folder.mkdir()
     store = folder / "store"
@@ -337,7 +400,8 @@ def main(words: list[str]) -> int:
     parser.add_argument("--every", type=int, default=1)
     parser.add_argument("--jobs", type=int, default=2)
     parser.add_argument("--only", choices=COMMANDS)
-    parser.add_argument("--kind", choices=list(HOWS))
+    parser.add_argument("--kind", choices=list(HOWS), nargs="+", default=list(HOWS))
+    parser.add_argument("--for", type=float, dest="minutes", default=0, metavar="MINUTES", help="begin nothing after so many minutes")
     options = parser.parse_args(words)
     program = runs.program_of(options.program)
     begun = time.monotonic()
@@ -347,10 +411,10 @@ def main(words: list[str]) -> int:
         library = runs.compiled("refused_calls.c", folder)
         first = make_store(program, folder)
         given = [
-            (program, library, str(folder), command, kind, how, first, options.every)
+            (program, library, str(folder), command, kind, how, first, options.every, begun + 60 * options.minutes if options.minutes else 0.0)
             for command in ([options.only] if options.only else COMMANDS)
             for kind, hows in HOWS.items()
-            if options.kind in (None, kind)
+            if kind in options.kind
             for how in hows
         ]
         swept = []

@@ -10,6 +10,8 @@ that checkpoints come all the time. KIND is
     xfs        the same on XFS
     lvm        `lvcreate --snapshot` of the volume that is the store
     lvm-ext4   the same of the volume on whose file system, ext4, the store is
+    loop       the file of a loop device that is the store, copied while the server is stopped: it has what the kernel gave
+               to that device, and not what the kernel still keeps of its writes, so it is what a power cut leaves
     plain      `cp --reflink=never`, which is no snapshot: what comes of it is counted, and nothing is wanted of it
 
 `pathd status` of each snapshot has to print the place and the number of rows, and `pathd show` the
@@ -17,7 +19,7 @@ rows, after a front of the commands that has all that were acknowledged before t
 asked for, and none that was sent after it was made. The commands' order is that of their places.
 
 It needs Python 3, the loopback, a free loop device, and to be run as root, since it mounts a file
-system in a file in memory. btrfs needs btrfs-progs, xfs xfsprogs, and lvm lvm2 and a kernel with
+system in a file in memory. btrfs needs btrfs-progs, xfs xfsprogs, loop mount, and lvm lvm2 and a kernel with
 the device mapper. It ends with the status 1 where a snapshot opens to anything else.
 """
 from __future__ import annotations
@@ -26,6 +28,7 @@ import os
 import random
 import re
 import shutil
+import signal
 import struct
 import subprocess
 import threading
@@ -41,8 +44,17 @@ from pathd_tools import messages, runs, toolbox
 
 LAYOUT = model.Layout(64, 516)
 KEYS = 60
-DISK_BYTES = 512 << 20
-NEEDED = {"btrfs": "mkfs.btrfs", "reflink": "mkfs.btrfs", "plain": "mkfs.btrfs", "xfs": "mkfs.xfs", "lvm": "lvcreate", "lvm-ext4": "lvcreate"}
+# The bytes of a file system, and of a loop device that is the store.
+DISK_BYTES, LOOP_BYTES = 512 << 20, 1 << 20
+NEEDED = {
+    "loop": "losetup",
+    "btrfs": "mkfs.btrfs",
+    "reflink": "mkfs.btrfs",
+    "plain": "mkfs.btrfs",
+    "xfs": "mkfs.xfs",
+    "lvm": "lvcreate",
+    "lvm-ext4": "lvcreate",
+}
 # The refusal of a command after which the rows would have no room: it takes no place.
 FULL = b"\xff\x52"
 # A command of a session comes after a reply, and after at most this number of seconds.
@@ -117,10 +129,12 @@ class Place:
         self.kind = kind
         self.folder = folder
         self.mounted: list[Path] = []
-        disk = folder / "disk"
-        with disk.open("wb") as file:
-            file.truncate(DISK_BYTES)
-        self.device = must("losetup", "-f", "--show", disk).strip()
+        # The server, once it runs.
+        self.server: subprocess.Popen | None = None
+        self.disk = folder / "disk"
+        with self.disk.open("wb") as file:
+            file.truncate(LOOP_BYTES if kind == "loop" else DISK_BYTES)
+        self.device = must("losetup", "-f", "--show", self.disk).strip()
         self.group = f"pathd-snapshot-{os.getpid()}"
         self.live = folder / "live"
         self.live.mkdir()
@@ -128,7 +142,9 @@ class Place:
 
     def make(self) -> None:
         """Makes the file system or the volume."""
-        if self.kind.startswith("lvm"):
+        if self.kind == "loop":
+            self.store = Path(self.device)
+        elif self.kind.startswith("lvm"):
             must("vgcreate", "-q", self.group, self.device)
             must("lvcreate", "-q", "-n", "live", "-L", "48M", self.group)
             volume = Path(f"/dev/{self.group}/live")
@@ -153,8 +169,20 @@ class Place:
         must("mount", device, folder)
         self.mounted.append(folder)
 
+    def _cut(self, taken: Path) -> None:
+        """Copies what the loop device has while the server is stopped."""
+        self.server.send_signal(signal.SIGSTOP)
+        try:
+            shutil.copyfile(self.disk, taken)
+        finally:
+            self.server.send_signal(signal.SIGCONT)
+
     def take(self, number: int) -> Path:
         """Takes a snapshot, and answers where its store is."""
+        if self.kind == "loop":
+            taken = self.folder / f"taken{number}"
+            self._cut(taken)
+            return taken
         if self.kind == "btrfs":
             taken = self.live.parent / f"taken{number}"
             must("btrfs", "subvolume", "snapshot", "-r", self.live, taken)
@@ -269,12 +297,13 @@ def main(words: list[str]) -> int:
     if os.geteuid() != 0:
         raise SystemExit("not root: a file system can't be mounted")
     if shutil.which(NEEDED[options.kind]) is None:
-        raise SystemExit(f"no {NEEDED[options.kind]}: apt-get install btrfs-progs xfsprogs lvm2")
+        raise SystemExit(f"no {NEEDED[options.kind]}: apt-get install btrfs-progs xfsprogs lvm2 mount")
     print(f"{runs.commit_name(program)}, seed {options.seed}", flush=True)
     faults = []
     with place_of(options.kind) as place:
         runs.format_store(program, place.store, LAYOUT)
         with runs.Server(program, place.store, notices=place.folder / "notices") as server:
+            place.server = server.process
             load = Load(server, options.sessions, options.seed)
             try:
                 taken = snapshots_beside(place, load, options.snapshots, random.Random(options.seed))

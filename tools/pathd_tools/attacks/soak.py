@@ -1,27 +1,34 @@
-"""Serves a mixed load for long, with many checkpoints, and watches the server's memory.
+"""Serves a mixed load for long, with many checkpoints, and watches the server's memory, threads and
+descriptors.
 
-    tools/pathd-tools soak [--program PROGRAM] [--seed N] [--minutes N] [--sessions N] [--rate N]
+    tools/pathd-tools soak [--program PROGRAM] [--seed N] [--minutes N] [--sessions N] [--rate N] [--ahead N] [--coming N] [--series FILE]
 
-Sessions, a process each, register, remove, purge and look up, at --rate requests a second each (0:
-as many as they can), for an hour if nothing else is said. At the end
+Sessions, a process each, register, remove, purge and look up, 1 to --ahead requests at one time, at
+--rate requests a second each (0: as many as they can), for an hour if nothing else is said. Beside
+them --coming further sessions a second come, each for one lookup. At the end
 
 - each request has its reply, and the places of the acknowledgements are those from 0 on, without a
   gap;
 - each acknowledgement has the counts that the fold of the commands before it gives;
 - the server is killed (-9), and what `show` prints is the fold of all commands;
 - resident memory hasn't grown: its greatest in the last third is at most a tenth and 1 MiB above
-  its greatest in the second third.
+  its greatest in the second third; nor have threads and descriptors, whose greatest numbers are at
+  most two above those of the second third.
 
-It needs Python 3, and the loopback. It ends with the status 1 where something doesn't hold.
+FILE gets the resident KiB, the threads and the descriptors of each second, as CSV. It needs Python
+3, and the loopback. It ends with the status 1 where something doesn't hold.
 """
 from __future__ import annotations
 
 import multiprocessing
+import os
 import random
 import socket
 import struct
+import threading
 import time
 from pathlib import Path
+from typing import NamedTuple
 
 from pathd_model import model
 from pathd_tools import messages, runs, toolbox
@@ -33,7 +40,19 @@ LAYOUT = model.Layout(64, 516)
 RECORD = struct.Struct("<QIIIII")
 
 
-def hold_session(connection: socket.socket, seed: str, frames: list[bytes], until: float, rate: float, path: Path) -> None:
+class Sample(NamedTuple):
+    """What a server takes at a moment: resident KiB, threads, descriptors."""
+
+    resident: int
+    threads: int
+    descriptors: int
+
+
+# How much each may be above its greatest in the third of the time before: a share, and a number.
+ABOVE = {"resident": (0.1, 1024), "threads": (0.0, 2), "descriptors": (0.0, 2)}
+
+
+def hold_session(connection: socket.socket, seed: str, frames: list[bytes], until: float, rate: float, most: int, path: Path) -> None:
     """Sends requests until a moment, and writes the acknowledgements to a file; the last record has the numbers of requests and replies."""
     chance = random.Random(seed)
     replies = runs.Replies(connection)
@@ -43,7 +62,7 @@ def hold_session(connection: socket.socket, seed: str, frames: list[bytes], unti
     with open(path, "wb") as file:
         try:
             while time.monotonic() < until:
-                window = [chance.randrange(2 * POOL) for _ in range(chance.choice((1, 2, 4)))]
+                window = [chance.randrange(2 * POOL) for _ in range(runs.next_window(chance, most))]
                 connection.sendall(b"".join(frames[it] if it < POOL else asking[it % len(asking)] for it in window))
                 asked += len(window)
                 for number in window:
@@ -61,6 +80,27 @@ def hold_session(connection: socket.socket, seed: str, frames: list[bytes], unti
         file.write(RECORD.pack((1 << 64) - 1, asked, answered, found, 0, 0))
 
 
+def come_and_go(server: runs.Server, until: float, coming: float, faults: list[str]) -> None:
+    """Opens sessions of one lookup each, so many a second."""
+    asked = messages.lookup_frame(*runs.QUERIES[0])
+    next_at = time.monotonic()
+    try:
+        while coming > 0 and time.monotonic() < until:
+            with server.connect() as connection:
+                connection.sendall(asked)
+                if runs.Replies(connection).next()[0] != 0x82:
+                    faults.append("a session of one lookup got another reply")
+            next_at += 1 / coming
+            time.sleep(max(0.0, next_at - time.monotonic()))
+    except OSError as fault:
+        faults.append(f"a session of one lookup: {fault}")
+
+
+def sample_of(server: runs.Server) -> Sample:
+    """What a server takes now."""
+    return Sample(server.status("VmRSS"), server.status("Threads"), len(os.listdir(f"/proc/{server.process.pid}/fd")))
+
+
 def main(words: list[str]) -> int:
     """Serves, watches, and prints what was found."""
     parser = toolbox.parser(__doc__)
@@ -69,6 +109,9 @@ def main(words: list[str]) -> int:
     parser.add_argument("--minutes", type=float, default=60)
     parser.add_argument("--sessions", type=int, default=8)
     parser.add_argument("--rate", type=float, default=250)
+    parser.add_argument("--ahead", type=int, default=128, help="how many requests a session sends at one time at the most")
+    parser.add_argument("--coming", type=float, default=20, help="how many sessions of one lookup come in a second")
+    parser.add_argument("--series", type=Path, metavar="FILE", help="what the server takes in each second goes here")
     options = parser.parse_args(words)
     program = runs.program_of(options.program)
     print(f"{runs.commit_name(program)}, seed {options.seed}", flush=True)
@@ -76,7 +119,7 @@ def main(words: list[str]) -> int:
     pool = [source.next(0.2, 0.02) for _ in range(POOL)]
     frames = [messages.command_frame(command) for command in pool]
     faults: list[str] = []
-    resident: list[int] = []
+    samples: list[Sample] = []
     with runs.scratch() as folder:
         store = folder / "store"
         runs.format_store(program, store, LAYOUT)
@@ -85,21 +128,26 @@ def main(words: list[str]) -> int:
             until = time.monotonic() + 60 * options.minutes
             processes = []
             for number, path in enumerate(paths):
-                given = (server.connect(), f"{options.seed}/{number}", frames, until, options.rate, path)
+                given = (server.connect(), f"{options.seed}/{number}", frames, until, options.rate, runs.greatest_window(number, options.ahead), path)
                 processes.append(multiprocessing.Process(target=hold_session, args=given))
                 processes[-1].start()
+            coming = threading.Thread(target=come_and_go, args=(server, until, options.coming, faults))
+            coming.start()
             while any(process.is_alive() for process in processes):
                 if server.process.poll() is None:
-                    resident.append(server.status("VmRSS"))
+                    samples.append(sample_of(server))
                 time.sleep(min(1.0, 60 * options.minutes / 60))
+            coming.join()
             for process in processes:
                 process.join()
             if server.process.poll() is not None:
                 faults.append("the server ended")
             notices = server.notices.read_text()
         counts = check(paths, pool, program, store, faults)
-    print_memory(resident, faults)
-    print(f"  {notices.strip()}")
+    watch(samples, faults)
+    if options.series:
+        write_series(options.series, samples)
+    print(*(f"  {line}" for line in notices.splitlines() if "checkpoint" not in line), sep="\n")
     print(f"  {counts}")
     for fault in faults[:5]:
         print(f"  {fault}")
@@ -138,10 +186,17 @@ def check(paths: list[Path], pool: list[tuple], program: str, store: Path, fault
     return f"{answered} replies: {len(acknowledged)} acknowledgements, {found} lookups; {max(head[1] for head in heads) - 1} checkpoints"
 
 
-def print_memory(resident: list[int], faults: list[str]) -> None:
-    """Prints how memory went, and notes whether it grew."""
-    third = max(1, len(resident) // 3)
-    parts = [max(resident[at : at + third]) for at in range(0, 3 * third, third) if resident[at : at + third]]
-    print(f"  greatest resident memory of each third: {', '.join(f'{it} KiB' for it in parts)}")
-    if len(parts) == 3 and parts[2] > parts[1] * 1.1 + 1024:
-        faults.append("resident memory grows")
+def watch(samples: list[Sample], faults: list[str]) -> None:
+    """Prints how what the server takes went, and notes what grew."""
+    third = max(1, len(samples) // 3)
+    parts = [samples[at : at + third] for at in range(0, 3 * third, third) if samples[at : at + third]]
+    for name, (share, number) in ABOVE.items():
+        greatest = [max(getattr(sample, name) for sample in part) for part in parts]
+        print(f"  {name}, the greatest of each third: {', '.join(map(str, greatest))}")
+        if len(greatest) == 3 and greatest[2] > greatest[1] * (1 + share) + number:
+            faults.append(f"{name} grows")
+
+
+def write_series(path: Path, samples: list[Sample]) -> None:
+    """Writes what the server took in each second."""
+    path.write_text("\n".join([",".join(Sample._fields), *(",".join(map(str, sample)) for sample in samples)]) + "\n")

@@ -1,7 +1,7 @@
 """Puts a load on a server, checks each reply, and prints how many replies a second came and how
 long they took.
 
-    tools/pathd-tools load [ADDR] [--sessions N] [--seconds S] [--mix KIND=WEIGHT,..] [--rate R] [--window W] [--rows N] [--series FILE [--store FILE]]
+    tools/pathd-tools load [ADDR] [--sessions N] [--seconds S] [--mix KIND=WEIGHT,..] [--rate R] [--window W] [--rows N] [--made N] [--series FILE [--store FILE]]
 
 Each session registers its part of the rows first, which takes no part in the figures, and a row of
 its own. Then it sends requests one after the other, of kinds that are drawn by their weights, and
@@ -11,6 +11,9 @@ compares each reply with the one that the request has to get:
     register  the session's own row, each time with a later timestamp; one row is updated, and the place is above that of the command before
     fresh     a lookup of the session's own row; the answer is what it registered last
     purge     at the moment 0, so that nothing is dropped; remove: of an id that no row has; both are checked by counts and place
+
+A load that registers at a server for the second time needs a greater --made, since a timestamp that
+isn't later updates nothing.
 
 For each kind the program prints the replies, how many came a second, the 50th, 99th and 99.9th
 percentile of their times and the longest one in microseconds, and how many were refusals or other
@@ -42,7 +45,7 @@ from pathd_tools import TOP, toolbox
 SOURCE = TOP / "tools" / "native" / "load.c"
 SECTOR = 512
 OPEN = 0xA7
-PASSED_ON = ["sessions", "seconds", "mix", "rate", "window", "rows", "seed", "series", "every"]
+PASSED_ON = ["sessions", "seconds", "mix", "rate", "window", "rows", "made", "seed", "series", "every"]
 
 
 def compiled(folder: Path) -> Path:
@@ -101,6 +104,7 @@ def main(words: list[str]) -> int:
     parser.add_argument("--rate", type=float, help="how many requests all sessions send in a second; 0 for as many as they can [0]")
     parser.add_argument("--window", type=int, help="how many requests are sent before their replies are read [1]")
     parser.add_argument("--rows", type=int, help="how many rows are registered first and looked up [1000]")
+    parser.add_argument("--made", type=int, help="the first timestamp of the sessions' own rows, after 4,000,000,000 [0]")
     parser.add_argument("--seed", type=int, help="of the draws [1]")
     parser.add_argument("--series", type=Path, metavar="FILE", help="write figures over time to this file")
     parser.add_argument("--every", type=float, metavar="S", help="seconds of a line of the series [0.25]")
