@@ -4,7 +4,8 @@
 //! To the layer above: `begin_merge` reads the half once and plans. Each `write_next` writes the
 //! next sectors, at most 256, and reads as much of the old area as the sectors after them need. A
 //! merge has no area and no database in memory: it has two buffers, a row for each key that the
-//! journal names, and eight bytes for each run of rows.
+//! journal names, eight bytes for each run of rows, and a sum of eight bytes for each sector of the
+//! old area. By these sums it notices a sector that reads otherwise than when it was planned.
 #![tactic(auto)]
 
 mod beginning;

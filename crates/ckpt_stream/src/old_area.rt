@@ -21,7 +21,7 @@ use std::alloc::Global;
 use store_layout::{Geometry, Half};
 use store_open::{OpenError, SealedError, read_sector};
 
-/// Reads the front of a half's area. Its journal is to be read next.
+/// Reads the front of a half's area. Its journal comes next.
 pub(crate) fn open_half<D: Device>(
     alloc: Global,
     device: &mut D,

@@ -24,7 +24,8 @@ pub(crate) fn read_sectors<D: Device>(
     requires window { SECTOR * count ≤ length window.old }
     ensures looks { LooksAt result (D.disk device.old) (D.disk device.new) }
     ensures window { length window.new ≡ length window.old }
-    ensures read { IsHonest (D.disk device.old) → OnOk result (take (SECTOR * count) window.new ≡ part (SECTOR * at) (SECTOR * count) (reads_of (D.disk device.old))) }
+    ensures read { IsHonest (D.disk device.old)
+        → OnOk result (take (SECTOR * count) window.new ≡ part (SECTOR * at) (SECTOR * count) (reads_of (D.disk device.old))) }
 {
     device.read(at, &mut window[..SECTOR * count as usize])
 }

@@ -3,7 +3,8 @@
 //! or one sync of the device, and its clause says which.
 //!
 //! Here are the start of a state, submitting commands, staging, preparing and beginning a
-//! checkpoint, the steps of both actors on the device, publishing, redeeming, stopping, lookups, and the end of a state.
+//! checkpoint, the steps of both actors on the device, publishing, redeeming, stopping, lookups,
+//! and the end of a state.
 //!
 //! To the layer above: each step is exact, and says what a stop within it leaves: what is
 //! committed, with a front of the accepted commands as long as the phase of the flusher allows.

@@ -19,11 +19,12 @@ pub enum Prepared {
 }
 
 impl<D: Device, S: Showcase> State<D, S> {
-    /// Reads the next piece of the sealed half, at most 256 sectors, and keeps what `begin` needs
-    /// of it. What is prepared, and whether anything is, makes no difference to what `begin` plans:
-    /// it reads what is not prepared. The call only reads the device, and other steps may come
-    /// between two of these calls. It is refused as `begin` is, in the same order. Where memory is
-    /// refused, the state may drop what was prepared.
+    /// Reads the next piece of the sealed half, which is 256 sectors or, in the journal, as much
+    /// more as the last group of the piece has, and keeps what `begin` needs of it. What is
+    /// prepared, and whether anything is, makes no difference to what `begin` plans: it reads what
+    /// is not prepared. The call only reads the device, and other steps may come between two of
+    /// these calls. It is refused as `begin` is, in the same order. Where memory is refused, the
+    /// state may drop what was prepared.
     pub fn prepare(&mut self) -> Result<Prepared, BeginError>
         ensures step { PreparesCheckpoint result self.old self.new }
         ensures any_moment { StepLeaves self.old self.new }

@@ -6,30 +6,33 @@
 /// of the tail's gate:
 ///
 /// ```text
-/// Resting --stage--> Staged --write_group--> Written --sync_group--> Stable --open_gate--> Opened --sync_gate--> Durable
-///    ^                                                                 |                                            |
-///    |                                                                 '--open_gate fails--> Doubtful               |
-///    '--publish-----------------------------------------------------------------------------------------------------'
+/// Resting --stage--> Staged --write_group--> Written --sync_group--> Stable --open_gate--> Opened
+///    ^                                                                 |                     |
+///    |                                     Doubtful <--open_gate fails-'                 sync_gate
+///    |                                                                                       v
+///    '--publish--------------------------------------------------------------------------- Durable
 ///
-/// Opened --follow--> Following --write_following--> Followed --sync_followed--> DurableFollowed --publish_followed--> Stable
+/// Opened --follow--> Following --write_following--> Followed --sync_followed--> DurableFollowed
+///                                                                                    |
+/// Stable <--publish_followed---------------------------------------------------------'
 /// ```
 ///
-/// The second line is the way of a group that is followed: the next group is written before the gate
-/// of the group in flight is synced. One sync then makes that gate durable and the next group
+/// The second picture is the way of a group that is followed: the next group is written before the
+/// gate of the group in flight is synced. One sync then makes that gate durable and the next group
 /// stable, and publishing leaves the next group in flight.
 ///
 /// In each phase the groups that are committed are in the tail's journal, clean. What else holds of
 /// an honest device there:
 ///
 /// ```text
-///            the tail's gate   what is in flight, after that gate   a stop keeps of what is in flight
-/// Resting    closed*           nothing is in flight                 -
-/// Staged     closed*           anything may be there                nothing
-/// Written    closed*           it is there                          nothing
-/// Stable     closed*           it is there*                         nothing
-/// Opened     open              it is there*                         nothing or all
-/// Doubtful   open or closed    it is there*                         nothing or all
-/// Durable    open*             it is there*                         all
+///            the tail's gate   what is in flight, after it   a stop keeps of what is in flight
+/// Resting    closed*           nothing is in flight           -
+/// Staged     closed*           anything may be there          nothing
+/// Written    closed*           it is there                    nothing
+/// Stable     closed*           it is there*                   nothing
+/// Opened     open              it is there*                   nothing or all
+/// Doubtful   open or closed    it is there*                   nothing or all
+/// Durable    open*             it is there*                   all
 /// ```
 ///
 /// The following group is written after the gate that ends the group in flight. That gate is closed
@@ -74,32 +77,38 @@ pub enum Flush {
 /// leaves the phase as it is, except a write of a half's gate:
 ///
 /// ```text
-/// Ready --publish of a seal--> Sealed --begin--> Planned --sync_chunks--> Laid --open_half--> Switched --sync_half--> Live
-///   ^                                                                      |                                           |
-///   |                                                                      '--open_half fails--> SwitchFailed          |
-///   |                                                                                                                  |
-///   '--sync_close-- Closing <--close_half------------------------------------------------------------------------------|
-///                                                     CloseFailed <--close_half fails----------------------------------'
+/// Ready --publish of a seal--> Sealed --begin--> Planned --sync_chunks--> Laid
+///   ^                                                                      |
+///   |                                SwitchFailed <--open_half fails-------|
+///   |                                                                      |
+///   |              Live <--sync_half-- Switched <--open_half---------------'
+///   |                |
+///   |                |--close_half fails--> CloseFailed
+///   |                |
+///   |                '--close_half--> Closing --sync_close--.
+///   |                                                       |
+///   '-------------------------------------------------------'
 /// ```
 ///
 /// What holds of an honest device then, of the half that has the tail and of the other one:
 ///
 /// ```text
-///               the tail's half                    the other half                                a stop leaves
-///               gate             area              gate     area          journal                in use
-/// Ready         open*            checkpoint*       closed*  anything      first gate closed*     the tail's half
-/// Sealed        closed*          anything          open*    checkpoint*   groups and a seal*     the other half
-/// Planned       closed*          first sectors     open*    checkpoint*   groups and a seal*     the other half
-/// Laid          closed*          new checkpoint*   open*    checkpoint*   groups and a seal*     the other half
-/// Switched      open             new checkpoint*   open*    checkpoint*   groups and a seal*     either, with the same rows
-/// SwitchFailed  open or closed   new checkpoint*   open*    checkpoint*   groups and a seal*     either, with the same rows
-/// Live          open*            new checkpoint*   any      older head*   anything               the tail's half
-/// Closing       open*            new checkpoint*   closed   older head*   first gate closed      the tail's half
-/// CloseFailed   open*            new checkpoint*   any      older head*   anything               the tail's half
+///               the tail's half           the other half                              in use
+///               gate      area            gate     area         journal               after a stop
+/// Ready         open*     checkpoint*     closed*  anything     first gate closed*    the tail's
+/// Sealed        closed*   anything        open*    checkpoint*  groups and a seal*    the other
+/// Planned       closed*   first sectors   open*    checkpoint*  groups and a seal*    the other
+/// Laid          closed*   new checkpoint* open*    checkpoint*  groups and a seal*    the other
+/// Switched      open      new checkpoint* open*    checkpoint*  groups and a seal*    either
+/// SwitchFailed  either    new checkpoint* open*    checkpoint*  groups and a seal*    either
+/// Live          open*     new checkpoint* any      older head*  anything              the tail's
+/// Closing       open*     new checkpoint* closed   older head*  first gate closed     the tail's
+/// CloseFailed   open*     new checkpoint* any      older head*  anything              the tail's
 /// ```
 ///
-/// `*`: and clean, as above. The new checkpoint is the other half's, with the commands of its
-/// journal applied, in the next epoch; an older head is one of a smaller epoch than the new
+/// `*`: and clean, as above. At `SwitchFailed` the gate is open or closed. Where either half may be
+/// in use, both have the same rows. The new checkpoint is the other half's, with the commands of
+/// its journal applied, in the next epoch; an older head is one of a smaller epoch than the new
 /// checkpoint's, which is why that half is in use no more.
 #[derive(Clone, Copy, Debug, PartialEq, Eq)]
 pub enum Check {

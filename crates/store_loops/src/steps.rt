@@ -101,8 +101,8 @@ pub trait Steps {
     fn publish_followed(&self, value: DurableFollowed) -> Result<Stable, PublishFollowedError>
         ensures { IsPassedOn value result };
 
-    /// Reads the next piece of the sealed half, at most 256 sectors, for a checkpoint that is begun
-    /// after that.
+    /// Reads the next piece of the sealed half for a checkpoint that is begun after that: 256
+    /// sectors or, in the journal, as much more as the last group of the piece has.
     fn prepare(&self) -> Result<Prepared, BeginError>
         ensures { IfErr result (λ e. e ≡ begin_refused.Stopped → has_stopped self.now) };
 

@@ -149,8 +149,8 @@ impl<D: Device> Store<D> {
         device
     }
 
-    /// The device, and all rows, which keep no index by their ends: a caller that shows rows takes a
-    /// copy of `db` first.
+    /// The device, and all rows, which keep no index by their ends: a caller that shows rows takes
+    /// a copy of `db` first.
     pub fn into_parts(self) -> (D, PathDb)
         ensures device { D.disk result.0 ≡ self.disk }
         ensures rows { result.1 ≡ self.rows }
