@@ -48,7 +48,8 @@ impl Left {
     pub fn find_acknowledged(&mut self)
         ensures same { self.new ≡ self.old }
         ensures found { AllByRecursion (IsCommitted self.old.log) self.old.acknowledged }
-        ensures opens { (opening : StoreValue (List RowView)) (image : List ℕ) → OpensToLog opening self.old.log image → OpensWithAll opening self.old.acknowledged image }
+        ensures opens { (opening : StoreValue (List RowView)) (image : List ℕ)
+            → OpensToLog opening self.old.log image → OpensWithAll opening self.old.acknowledged image }
     {
         self.log.find_all(&mut self.acknowledged);
     }

@@ -96,7 +96,8 @@ impl<D: Device, S: Showcase, B: StateName> LoggedState<D, S, B> {
     pub fn find(&mut self, logged: Logged<B>)
         ensures same { self.new ≡ self.old }
         ensures found { IsCommitted self.old.log logged }
-        ensures opens { IsHonest self.old.state.disk → EveryImage self.old.state.disk.history.now (OpensWith B.opening (B.opening.place + logged.index) logged.command) }
+        ensures opens { IsHonest self.old.state.disk
+            → EveryImage self.old.state.disk.history.now (OpensWith B.opening (B.opening.place + logged.index) logged.command) }
     {
         self.stops_leave_the_log();
         self.log.find(logged);

@@ -124,7 +124,8 @@ fn named_crew<
     requires history { name.history.seen.book ≡ N.history }
     requires refusals { (command : Command) → N.refused command ≡ true }
     ensures left { IfSome result.1 (λ left. IsHonest (D.disk result.0) → EveryImage (D.disk result.0).history.now (OpensToLog N.opening left.log)) }
-    ensures acknowledged { IfSome result.1 (λ left. IsHonest (D.disk result.0) → EveryImage (D.disk result.0).history.now (OpensWithAll N.opening left.acknowledged)) }
+    ensures acknowledged { IfSome result.1 (λ left. IsHonest (D.disk result.0)
+        → EveryImage (D.disk result.0).history.now (OpensWithAll N.opening left.acknowledged)) }
     ensures unmade { IfNone result.1 (D.disk result.0 ≡ store.disk) }
     ensures made { OnOk result.2 (IsSome result.1) }
     ensures why { IfErr result.2 (λ e. (e ≡ NoMemory) ⊎ (e ≡ NoReader)) }

@@ -60,8 +60,8 @@ impl<D: Device, N: HubName, R: Wait + Clock> Hub<D, N, R> {
         }
     }
 
-    /// Leaves the state's lock to the threads that wait for it, for 1 millisecond. A thread that takes
-    /// the lock again as soon as it has given it up is mostly faster than those that wait.
+    /// Leaves the state's lock to the threads that wait for it, for 1 millisecond. A thread that
+    /// takes the lock again as soon as it has given it up is mostly faster than those that wait.
     fn leave_lock(&self) {
         let seen = self.changes.count(Awaited::Seal);
         let most = Duration::from_millis(BETWEEN_PIECES);

@@ -49,8 +49,9 @@ pub trait HubJob<D: Device, R: Wait + Clock> {
 
 /// Makes a hub over a store, and does the job with it. At the end the state is taken apart, and the
 /// device is returned with the log of all commands that the state accepted. An honest device opens
-/// to that log, with each command at its place whose claim was handed in as acknowledged. The caller gives each state of a process a home number of its own. Where the hub
-/// cannot be made, the store is returned unchanged, with the job.
+/// to that log, with each command at its place whose claim was handed in as acknowledged. The
+/// caller gives each state of a process a home number of its own. Where the hub cannot be made, the
+/// store is returned unchanged, with the job.
 pub fn with_hub<D: Device, J: HubJob<D, R>, R: Wait + Clock + Copy>(
     rt: R,
     alloc: Global,
@@ -60,7 +61,8 @@ pub fn with_hub<D: Device, J: HubJob<D, R>, R: Wait + Clock + Copy>(
 ) -> Result<(J::Out, D, Left), (Store<D>, J, HubError)>
     ensures done { IfOk result (λ done. J.does job done.0 done.2.table) }
     ensures left { IfOk result (λ done. IsHonest (D.disk done.1) → EveryImage (D.disk done.1).history.now (OpensToLog (value_of_store store) done.2.log)) }
-    ensures acknowledged { IfOk result (λ done. IsHonest (D.disk done.1) → EveryImage (D.disk done.1).history.now (OpensWithAll (value_of_store store) done.2.acknowledged)) }
+    ensures acknowledged { IfOk result (λ done. IsHonest (D.disk done.1)
+        → EveryImage (D.disk done.1).history.now (OpensWithAll (value_of_store store) done.2.acknowledged)) }
     ensures back { IfErr result (λ back. (back.0 ≡ store) × (back.1 ≡ job)) }
     ensures why { IfErr result (λ back. (back.2 ≡ NoMemory) ⊎ (back.2 ≡ NoReader)) }
 {
@@ -85,7 +87,8 @@ fn do_with<N: HubName + Send + Sync, D: Device, J: HubJob<D, R>, R: Wait + Clock
     requires refusals { (command : Command) → N.refused command ≡ true }
     ensures done { IfOk result (λ done. J.does job done.0 done.2.table) }
     ensures left { IfOk result (λ done. IsHonest (D.disk done.1) → EveryImage (D.disk done.1).history.now (OpensToLog N.opening done.2.log)) }
-    ensures acknowledged { IfOk result (λ done. IsHonest (D.disk done.1) → EveryImage (D.disk done.1).history.now (OpensWithAll N.opening done.2.acknowledged)) }
+    ensures acknowledged { IfOk result (λ done. IsHonest (D.disk done.1)
+        → EveryImage (D.disk done.1).history.now (OpensWithAll N.opening done.2.acknowledged)) }
     ensures back { IfErr result (λ back. (back.0 ≡ store) × (back.1 ≡ job)) }
     ensures why { IfErr result (λ back. (back.2 ≡ NoMemory) ⊎ (back.2 ≡ NoReader)) }
 {

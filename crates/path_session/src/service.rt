@@ -194,7 +194,8 @@ impl<'a, D: Device, N: HubName, R: Wait + Clock, V: Verifier, C: Now> HubService
 
     /// Answers a message that was taken.
     fn answer(&mut self, under_way: HubUnderWay<N>) -> Result<Ack, Refusal>
-        ensures { AnswersTaken N.opening N.refused (after_check (serving V.verifies self.old) under_way.moment) under_way.handed result (serving V.verifies self.new) }
+        ensures { AnswersTaken N.opening N.refused (after_check (serving V.verifies self.old) under_way.moment)
+            under_way.handed result (serving V.verifies self.new) }
     {
         let HubUnderWay { moment, handed } = under_way;
         self.note_moment(moment);
@@ -228,7 +229,8 @@ impl<'a, D: Device, N: HubName, R: Wait + Clock, V: Verifier, C: Now> HubService
     /// The segments that a request asks for, of one type.
     #[tactic(auto, unfolding(crate::specs::Answered::IsAnswered))]
     fn find(&mut self, message: &[u8]) -> Result<(SegType, Vec<Segment>), Refusal>
-        ensures answers { HubAnswers N.opening N.refused (serving V.verifies self.old) (Lookup message.now) (reply_to_query result) (serving V.verifies self.new) }
+        ensures answers { HubAnswers N.opening N.refused (serving V.verifies self.old)
+            (Lookup message.now) (reply_to_query result) (serving V.verifies self.new) }
         ensures few { IfOk result (λ found. length found.1.items ≤ MOST_SEGMENTS) }
         ensures whole { IfOk result (λ found. AllByRecursion IsSegment found.1.items) }
         ensures clock { OnOk result (self.new.moment ≡ C.moment self.new.clock) }
