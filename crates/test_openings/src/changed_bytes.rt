@@ -1,111 +1,126 @@
 //! A store that a stop left, with one byte changed: what opening it answers.
 
-use crate::stopped::{PAIR, stopped_store};
-use crate::stores::{Answer, answer_of, change, put, read_sector};
+use crate::answers::{
+    Answer, BAD_CHECKPOINT, BAD_HEADER, BAD_RECORD, GAP, Held, NEWER, NO_HALF, NO_STORE, answer_of,
+};
+use crate::stopped::{HELD, stopped_store};
+use crate::stores::{change, put, read_sector};
 use sector_dev::{Device, MemDevice, SECTOR};
 use std::test::Fail;
 
 /// What a byte is changed by, bit for bit.
 const MASKS: [u8; 4] = [0x01, 0x02, 0x80, 0xa7];
 
-/// The bytes of a sector from one offset up to another, and what may be answered when one of them
-/// is changed.
-type Places = (u64, usize, usize, &'static [Answer]);
-
 /// It opens to the same rows and place.
-const SAME: Answer = Ok(PAIR);
-
-/// It is no store, it has no open half, a checkpoint is none, or its version is not known.
-const NO_STORE: Answer = Err((1, 0));
-
-const NO_HALF: Answer = Err((3, 1));
-
-const BAD_CHECKPOINT: Answer = Err((3, 3));
-
-const NEWER: Answer = Err((3, 5));
-
-/// A payload has no header, a bad record or another place.
-const BAD_HEADER: Answer = Err((4, 1));
-
-const BAD_RECORD: Answer = Err((4, 2));
-
-const GAP: Answer = Err((4, 3));
+const SAME: Answer = Ok(HELD);
 
 /// The first half's journal ends before the purge, or before the seal; or the tail has no group.
-const NO_JOURNAL: Answer = Ok((3, 279, 258));
+const NO_JOURNAL: Answer = Ok(Held {
+    rows: 3,
+    bytes: 279,
+    place: 258,
+});
 
-const NO_TAIL: Answer = Ok((3, 279, 259));
+const NO_TAIL: Answer = Ok(Held {
+    rows: 3,
+    bytes: 279,
+    place: 259,
+});
 
 /// The purge is of a moment at which all three rows are expired.
-const PURGED: Answer = Ok((1, 93, 260));
+const PURGED: Answer = Ok(Held {
+    rows: 1,
+    bytes: 93,
+    place: 260,
+});
+
+/// The bytes of a sector from one offset up to another, and what may be answered when one of them
+/// is changed.
+#[derive(Clone, Copy)]
+struct Span {
+    name: &'static str,
+    sector: u64,
+    from: usize,
+    end: usize,
+    answers: &'static [Answer],
+}
 
 /// Five hundred bytes, which are changed four times each.
-const CHANGES: [Places; 51] = [
+#[rattlefmt::skip]
+const CHANGES: [Span; 51] = [
     // Sector 0: the name and number of the layout and the sizes; what is not read.
-    (0, 0, 20, &[NO_STORE]),
-    (0, 20, 24, &[SAME]),
-    // The first half's checkpoint: the magic, the version, the epoch, the place, the length and the
-    // count.
-    (1, 0, 4, &[BAD_CHECKPOINT]),
-    (1, 4, 7, &[NEWER]),
-    (1, 7, 8, &[NEWER, BAD_CHECKPOINT]),
-    (1, 8, 16, &[SAME]),
-    (1, 16, 24, &[GAP]),
-    (1, 24, 32, &[BAD_CHECKPOINT]),
-    // Its rows: of each the type and the length, and the segment, which may be another one; after
-    // them.
-    (1, 32, 37, &[BAD_CHECKPOINT]),
-    (1, 37, 125, &[BAD_CHECKPOINT, SAME]),
-    (1, 125, 130, &[BAD_CHECKPOINT]),
-    (1, 130, 218, &[BAD_CHECKPOINT, SAME]),
-    (1, 218, 223, &[BAD_CHECKPOINT]),
-    (1, 223, 251, &[BAD_CHECKPOINT, SAME]),
-    (1, 311, 319, &[SAME]),
+    Span { name: "the layout and the sizes", sector: 0, from: 0, end: 20, answers: &[NO_STORE] },
+    Span { name: "after the sizes", sector: 0, from: 20, end: 24, answers: &[SAME] },
+    // The first half's checkpoint, its rows, and what is after them. A row's segment may become
+    // another one.
+    Span { name: "the magic", sector: 1, from: 0, end: 4, answers: &[BAD_CHECKPOINT] },
+    Span { name: "the version, but its last byte", sector: 1, from: 4, end: 7, answers: &[NEWER] },
+    Span { name: "the version's last byte", sector: 1, from: 7, end: 8,
+        answers: &[NEWER, BAD_CHECKPOINT] },
+    Span { name: "the epoch", sector: 1, from: 8, end: 16, answers: &[SAME] },
+    Span { name: "the place", sector: 1, from: 16, end: 24, answers: &[GAP] },
+    Span { name: "the length and the count", sector: 1, from: 24, end: 32,
+        answers: &[BAD_CHECKPOINT] },
+    Span { name: "row 1, type and length", sector: 1, from: 32, end: 37,
+        answers: &[BAD_CHECKPOINT] },
+    Span { name: "row 1, segment", sector: 1, from: 37, end: 125,
+        answers: &[BAD_CHECKPOINT, SAME] },
+    Span { name: "row 2, type and length", sector: 1, from: 125, end: 130,
+        answers: &[BAD_CHECKPOINT] },
+    Span { name: "row 2, segment", sector: 1, from: 130, end: 218,
+        answers: &[BAD_CHECKPOINT, SAME] },
+    Span { name: "row 3, type and length", sector: 1, from: 218, end: 223,
+        answers: &[BAD_CHECKPOINT] },
+    Span { name: "row 3, segment", sector: 1, from: 223, end: 251,
+        answers: &[BAD_CHECKPOINT, SAME] },
+    Span { name: "after the rows", sector: 1, from: 311, end: 319, answers: &[SAME] },
     // Its gate, and its journal's first gate.
-    (3, 0, 1, &[NO_HALF]),
-    (3, 1, 4, &[SAME]),
-    (4, 0, 1, &[NO_JOURNAL]),
-    (4, 1, 4, &[SAME]),
-    // The purge: the kind, the count, zeros, the length, the place, the command and its moment, and
-    // the padding.
-    (5, 0, 1, &[BAD_HEADER]),
-    (5, 1, 2, &[BAD_HEADER, BAD_RECORD]),
-    (5, 2, 5, &[BAD_HEADER]),
-    (5, 5, 8, &[BAD_HEADER, BAD_RECORD]),
-    (5, 8, 16, &[GAP]),
-    (5, 16, 21, &[BAD_RECORD]),
-    (5, 21, 25, &[PURGED]),
-    (5, 25, 29, &[SAME]),
-    (5, 29, 37, &[BAD_RECORD]),
-    (5, 510, 512, &[BAD_RECORD]),
-    // The seal's gate, the seal, and what is after it.
-    (6, 0, 1, &[NO_TAIL]),
-    (6, 1, 4, &[SAME]),
-    (7, 0, 8, &[BAD_HEADER]),
-    (7, 8, 16, &[GAP]),
-    (7, 16, 24, &[BAD_RECORD]),
-    (8, 0, 2, &[SAME]),
+    Span { name: "the first half's gate", sector: 3, from: 0, end: 1, answers: &[NO_HALF] },
+    Span { name: "rest of the first half's gate", sector: 3, from: 1, end: 4, answers: &[SAME] },
+    Span { name: "the journal's gate", sector: 4, from: 0, end: 1, answers: &[NO_JOURNAL] },
+    Span { name: "rest of the journal's gate", sector: 4, from: 1, end: 4, answers: &[SAME] },
+    // The group in it, which is a purge.
+    Span { name: "purge, kind", sector: 5, from: 0, end: 1, answers: &[BAD_HEADER] },
+    Span { name: "purge, count", sector: 5, from: 1, end: 2, answers: &[BAD_HEADER, BAD_RECORD] },
+    Span { name: "purge, zeros", sector: 5, from: 2, end: 5, answers: &[BAD_HEADER] },
+    Span { name: "purge, length", sector: 5, from: 5, end: 8, answers: &[BAD_HEADER, BAD_RECORD] },
+    Span { name: "purge, place", sector: 5, from: 8, end: 16, answers: &[GAP] },
+    Span { name: "purge, command", sector: 5, from: 16, end: 21, answers: &[BAD_RECORD] },
+    Span { name: "purge, high bytes of the moment", sector: 5, from: 21, end: 25,
+        answers: &[PURGED] },
+    Span { name: "purge, low bytes of the moment", sector: 5, from: 25, end: 29, answers: &[SAME] },
+    Span { name: "purge, padding", sector: 5, from: 29, end: 37, answers: &[BAD_RECORD] },
+    Span { name: "purge, end of the padding", sector: 5, from: 510, end: 512,
+        answers: &[BAD_RECORD] },
+    // The seal, its gate, and what is after it.
+    Span { name: "the seal's gate", sector: 6, from: 0, end: 1, answers: &[NO_TAIL] },
+    Span { name: "rest of the seal's gate", sector: 6, from: 1, end: 4, answers: &[SAME] },
+    Span { name: "seal, kind and zeros", sector: 7, from: 0, end: 8, answers: &[BAD_HEADER] },
+    Span { name: "seal, place", sector: 7, from: 8, end: 16, answers: &[GAP] },
+    Span { name: "seal, padding", sector: 7, from: 16, end: 24, answers: &[BAD_RECORD] },
+    Span { name: "after the seal", sector: 8, from: 0, end: 2, answers: &[SAME] },
     // The second half's checkpoint, and its gate: where that opens, its rows are those up to the
     // seal.
-    (520, 0, 8, &[SAME]),
-    (522, 0, 4, &[SAME]),
-    // The tail's gate, and its group: the kind, the count, zeros, the length, the place, the
-    // command, the row's type, its length, the segment, and the padding.
-    (523, 0, 1, &[NO_TAIL]),
-    (523, 1, 4, &[SAME]),
-    (524, 0, 1, &[BAD_HEADER]),
-    (524, 1, 2, &[BAD_HEADER, BAD_RECORD]),
-    (524, 2, 5, &[BAD_HEADER]),
-    (524, 5, 8, &[BAD_HEADER, BAD_RECORD]),
-    (524, 8, 16, &[GAP]),
-    (524, 16, 22, &[BAD_RECORD]),
-    (524, 22, 23, &[BAD_RECORD, SAME]),
-    (524, 23, 27, &[BAD_RECORD]),
-    (524, 27, 115, &[BAD_RECORD, SAME]),
-    (524, 115, 120, &[BAD_RECORD]),
-    // The gate at which it ends, and what is after it.
-    (525, 0, 1, &[BAD_HEADER, SAME]),
-    (525, 1, 4, &[SAME]),
+    Span { name: "the second checkpoint", sector: 520, from: 0, end: 8, answers: &[SAME] },
+    Span { name: "the second half's gate", sector: 522, from: 0, end: 4, answers: &[SAME] },
+    // The tail's gate, and its group, which registers a row.
+    Span { name: "the tail's gate", sector: 523, from: 0, end: 1, answers: &[NO_TAIL] },
+    Span { name: "rest of the tail's gate", sector: 523, from: 1, end: 4, answers: &[SAME] },
+    Span { name: "tail, kind", sector: 524, from: 0, end: 1, answers: &[BAD_HEADER] },
+    Span { name: "tail, count", sector: 524, from: 1, end: 2, answers: &[BAD_HEADER, BAD_RECORD] },
+    Span { name: "tail, zeros", sector: 524, from: 2, end: 5, answers: &[BAD_HEADER] },
+    Span { name: "tail, length", sector: 524, from: 5, end: 8, answers: &[BAD_HEADER, BAD_RECORD] },
+    Span { name: "tail, place", sector: 524, from: 8, end: 16, answers: &[GAP] },
+    Span { name: "tail, command", sector: 524, from: 16, end: 22, answers: &[BAD_RECORD] },
+    Span { name: "tail, type of the row", sector: 524, from: 22, end: 23,
+        answers: &[BAD_RECORD, SAME] },
+    Span { name: "tail, length of the row", sector: 524, from: 23, end: 27,
+        answers: &[BAD_RECORD] },
+    Span { name: "tail, segment", sector: 524, from: 27, end: 115, answers: &[BAD_RECORD, SAME] },
+    Span { name: "tail, padding", sector: 524, from: 115, end: 120, answers: &[BAD_RECORD] },
+    // The gate at which it ends.
+    Span { name: "the last gate", sector: 525, from: 0, end: 1, answers: &[BAD_HEADER, SAME] },
+    Span { name: "rest of the last gate", sector: 525, from: 1, end: 4, answers: &[SAME] },
 ];
 
 /// Restores a sector and all gates.
@@ -125,20 +140,22 @@ fn put_right(device: &mut MemDevice, at: u64, sector: &[u8]) -> Result<(), Fail>
 fn two_thousand_images_are_told(rt: HostRuntime) -> Result<(), Fail> {
     let mut device = stopped_store(rt.alloc(), false)?;
     let mut images = 0u64;
-    for (at, from, end, answers) in CHANGES {
+    for span in &CHANGES {
+        let (name, at) = (span.name, span.sector);
         let sector = read_sector(&mut device, at).unwrap_or([0; SECTOR]);
-        for (offset, byte) in sector.iter().enumerate().take(end).skip(from) {
+        let bytes = sector.iter().enumerate();
+        for (offset, byte) in bytes.take(span.end).skip(span.from) {
             for mask in MASKS {
                 change(&mut device, at, offset, &[byte ^ mask])?;
                 let (answer, changed) = answer_of(rt.alloc(), device);
                 assert!(rt;
-                    answers.contains(&answer),
-                    "{at} {offset} {mask} {answer:?}"
+                    span.answers.contains(&answer),
+                    "{name}: {at} {offset} {mask} {answer:?}"
                 );
                 device = changed;
                 put_right(&mut device, at, &sector)?;
                 let (again, whole) = answer_of(rt.alloc(), device);
-                assert_eq!(rt; again, SAME, "{at} {offset} {mask}");
+                assert_eq!(rt; again, SAME, "{name}: {at} {offset} {mask}");
                 device = whole;
                 images = images.saturating_add(1);
             }

@@ -1,8 +1,7 @@
 //! Checkpoints at rest: the bytes, each refusal, and a stop or a fault at every call.
 
-use crate::stores::{
-    PLAIN, SECTORS, Worked, new_store, opened, pair_of, read_sector, state_of, worked_store,
-};
+use crate::answers::{Held, State, held_by, state_of, usable};
+use crate::stores::{PLAIN, SECTORS, Worked, new_store, opened, read_sector, worked_store};
 use sector_dev::{FaultDevice, FuseDevice, SECTOR, Tear};
 use std::test::Fail;
 use store_layout::Half;
@@ -14,8 +13,20 @@ const CALLS: u64 = 6;
 /// More calls than it takes to open a store and to make a checkpoint.
 const MANY: u64 = 200;
 
-/// What the worked store represents: three rows in 279 bytes, at place 259.
-const PAIR: (usize, u64, u64) = (3, 279, 259);
+/// What the worked store represents: three rows, at place 259.
+const HELD: Held = Held {
+    rows: 3,
+    bytes: 279,
+    place: 259,
+};
+
+/// Its state where a call of the device failed.
+const BROKEN: State = State {
+    epoch: 7,
+    version: 2,
+    is_sealed: false,
+    is_broken: true,
+};
 
 /// How the sectors of a new store that are not zero begin after its first checkpoint.
 const BEGINNINGS: [(u64, &[u8]); 4] = [
@@ -58,19 +69,19 @@ fn rows_are_kept_by_one_after_another(rt: HostRuntime) -> Result<(), Fail> {
     let mut half = Half::First;
     for epoch in 7..12 {
         let mut store = opened(rt.alloc(), device)?;
-        assert_eq!(rt; pair_of(&store), PAIR);
-        assert_eq!(rt; state_of(&store), (epoch, 2, false, false));
+        assert_eq!(rt; held_by(&store), HELD);
+        assert_eq!(rt; state_of(&store), usable(epoch, 2));
         assert_eq!(rt; store.tail_half(), half);
         assert_eq!(rt; store.checkpoint(), Ok(()));
         half = half.other();
-        assert_eq!(rt; pair_of(&store), PAIR);
-        assert_eq!(rt; state_of(&store), (epoch + 1, 2, false, false));
+        assert_eq!(rt; held_by(&store), HELD);
+        assert_eq!(rt; state_of(&store), usable(epoch + 1, 2));
         assert_eq!(rt; (store.tail_half(), store.tail_gate()), (half, 0));
         assert_eq!(rt; store.sealed_len(), 279);
         device = store.into_device();
     }
     let store = opened(rt.alloc(), device)?;
-    assert_eq!(rt; pair_of(&store), PAIR);
+    assert_eq!(rt; held_by(&store), HELD);
     let _device = store.into_device();
     Ok(())
 }
@@ -82,44 +93,52 @@ fn an_old_version_is_made_new(rt: HostRuntime) -> Result<(), Fail> {
         ..PLAIN
     };
     let mut store = opened(rt.alloc(), worked_store(rt.alloc(), old)?)?;
-    assert_eq!(rt; state_of(&store), (7, 1, false, false));
+    assert_eq!(rt; state_of(&store), usable(7, 1));
     assert_eq!(rt; store.checkpoint(), Ok(()));
-    assert_eq!(rt; state_of(&store), (8, 2, false, false));
-    assert_eq!(rt; pair_of(&store), PAIR);
+    assert_eq!(rt; state_of(&store), usable(8, 2));
+    assert_eq!(rt; held_by(&store), HELD);
     let store = opened(rt.alloc(), store.into_device())?;
-    assert_eq!(rt; state_of(&store), (8, 2, false, false));
-    assert_eq!(rt; pair_of(&store), PAIR);
+    assert_eq!(rt; state_of(&store), usable(8, 2));
+    assert_eq!(rt; held_by(&store), HELD);
     let _device = store.into_device();
     Ok(())
 }
 
+/// A store of this number of rows, and why no checkpoint of it is made.
+#[derive(Clone, Copy)]
+struct Refused {
+    name: &'static str,
+    worked: Worked,
+    rows: usize,
+    error: StoreError,
+}
+
+/// A store in the last epoch.
+const LAST: Worked = Worked {
+    epoch: [0xff; 8],
+    ..PLAIN
+};
+
+#[rattlefmt::skip]
+const REFUSED: [Refused; 3] = [
+    Refused { name: "sealed in the last epoch", worked: Worked { sealed: true, ..LAST }, rows: 3,
+        error: StoreError::Sealed },
+    Refused { name: "too many rows in the last epoch", worked: Worked { twelve: true, ..LAST },
+        rows: 15, error: StoreError::Exhausted },
+    Refused { name: "too many rows", worked: Worked { twelve: true, ..PLAIN }, rows: 15,
+        error: StoreError::Unfit },
+];
+
 #[test]
 fn stores_are_refused_in_order(rt: HostRuntime) -> Result<(), Fail> {
-    let sealed = Worked {
-        epoch: [0xff; 8],
-        sealed: true,
-        ..PLAIN
-    };
-    let exhausted = Worked {
-        epoch: [0xff; 8],
-        twelve: true,
-        ..PLAIN
-    };
-    let unfit = Worked {
-        twelve: true,
-        ..PLAIN
-    };
-    for (worked, refusal, rows) in [
-        (sealed, StoreError::Sealed, 3),
-        (exhausted, StoreError::Exhausted, 15),
-        (unfit, StoreError::Unfit, 15),
-    ] {
-        let mut store = opened(rt.alloc(), worked_store(rt.alloc(), worked)?)?;
-        let (pair, state) = (pair_of(&store), state_of(&store));
-        assert_eq!(rt; pair.0, rows);
+    for row in &REFUSED {
+        let mut store = opened(rt.alloc(), worked_store(rt.alloc(), row.worked)?)?;
+        let (held, state) = (held_by(&store), state_of(&store));
+        assert_eq!(rt; held.rows, row.rows, "{}", row.name);
         for _again in 0..2 {
-            assert_eq!(rt; store.checkpoint(), Err(refusal));
-            assert_eq!(rt; (pair_of(&store), state_of(&store)), (pair, state));
+            assert_eq!(rt; store.checkpoint(), Err(row.error), "{}", row.name);
+            assert_eq!(rt; held_by(&store), held, "{}", row.name);
+            assert_eq!(rt; state_of(&store), state, "{}", row.name);
         }
         let _device = store.into_device();
     }
@@ -141,11 +160,11 @@ fn a_fault_at_any_call_breaks_the_store(rt: HostRuntime) -> Result<(), Fail> {
         }
         faults = faults.saturating_add(1);
         assert_eq!(rt; answer, Err(StoreError::Fault), "{number}");
-        assert_eq!(rt; pair_of(&store), PAIR, "{number}");
-        assert_eq!(rt; state_of(&store), (7, 2, false, true), "{number}");
+        assert_eq!(rt; held_by(&store), HELD, "{number}");
+        assert_eq!(rt; state_of(&store), BROKEN, "{number}");
         assert_eq!(rt; store.checkpoint(), Err(StoreError::Broken), "{number}");
         let mut store = opened(rt.alloc(), store.into_device().into_mem())?;
-        assert_eq!(rt; pair_of(&store), PAIR, "{number}");
+        assert_eq!(rt; held_by(&store), HELD, "{number}");
         assert_eq!(rt; store.checkpoint(), Ok(()), "{number}");
         let _device = store.into_device();
     }
@@ -168,9 +187,9 @@ fn a_stop_at_any_call_keeps_rows_and_place(rt: HostRuntime) -> Result<(), Fail> 
             };
             let answer = store.checkpoint();
             let mut again = opened(rt.alloc(), store.into_device().into_mem())?;
-            assert_eq!(rt; pair_of(&again), PAIR, "{calls} {keep} {fill}");
+            assert_eq!(rt; held_by(&again), HELD, "{calls} {keep} {fill}");
             assert_eq!(rt; again.checkpoint(), Ok(()), "{calls} {keep} {fill}");
-            assert_eq!(rt; pair_of(&again), PAIR, "{calls} {keep} {fill}");
+            assert_eq!(rt; held_by(&again), HELD, "{calls} {keep} {fill}");
             let _device = again.into_device();
             if answer == Ok(()) {
                 break;
@@ -190,15 +209,15 @@ fn refused_calls_may_be_tried_again(rt: HostRuntime) -> Result<(), Fail> {
     let mut store = opened(rt.alloc(), worked_store(rt.alloc(), PLAIN)?)?;
     let answer = match store.checkpoint() {
         Err(StoreError::NoMemory) => {
-            assert_eq!(rt; pair_of(&store), PAIR);
-            assert_eq!(rt; state_of(&store), (7, 2, false, false));
+            assert_eq!(rt; held_by(&store), HELD);
+            assert_eq!(rt; state_of(&store), usable(7, 2));
             store.checkpoint()
         }
         answer => answer,
     };
     assert_eq!(rt; answer, Ok(()));
-    assert_eq!(rt; pair_of(&store), PAIR);
-    assert_eq!(rt; state_of(&store), (8, 2, false, false));
+    assert_eq!(rt; held_by(&store), HELD);
+    assert_eq!(rt; state_of(&store), usable(8, 2));
     let _device = store.into_device();
     Ok(())
 }

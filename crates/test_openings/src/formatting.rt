@@ -2,7 +2,8 @@
 use crate::stores::LEAST;
 use sector_dev::{Device, FaultDevice, MemDevice, SECTOR};
 use std::test::Fail;
-use store_open::{FormatError, Geometry, format, read_geometry};
+use store_open::FormatError::{self, BadGeometry, TooSmall};
+use store_open::{Geometry, format, read_geometry};
 
 // How many calls of the device it takes to make a store.
 const CALLS: u64 = 7;
@@ -17,16 +18,35 @@ const BEGINNINGS: [(u64, &[u8]); 3] = [
     (3, b"\xa7"),
 ];
 
-// Sizes, how many sectors a device has, and the refusal.
-const REFUSALS: [(u32, u32, u64, FormatError); 8] = [
-    (1, 516, 8192, FormatError::BadGeometry),
-    (2, 515, 8192, FormatError::BadGeometry),
-    (1_048_577, 516, 8192, FormatError::BadGeometry),
-    (2, 1_048_577, 8192, FormatError::BadGeometry),
-    (0, 0, 0, FormatError::BadGeometry),
-    (2, 516, 1038, FormatError::TooSmall),
-    (2, 516, 0, FormatError::TooSmall),
-    (1_048_576, 1_048_576, 8192, FormatError::TooSmall),
+/// Sizes, how many sectors a device has, and the refusal.
+#[derive(Clone, Copy)]
+struct Refused {
+    name: &'static str,
+    sizes: Geometry,
+    sectors: u32,
+    error: FormatError,
+}
+
+#[rattlefmt::skip]
+const REFUSALS: [Refused; 8] = [
+    Refused { name: "a small checkpoint area",
+        sizes: Geometry { checkpoint: 1, journal: 516 }, sectors: 8192, error: BadGeometry },
+    Refused { name: "a small journal",
+        sizes: Geometry { checkpoint: 2, journal: 515 }, sectors: 8192, error: BadGeometry },
+    Refused { name: "a large checkpoint area",
+        sizes: Geometry { checkpoint: 1_048_577, journal: 516 }, sectors: 8192,
+        error: BadGeometry },
+    Refused { name: "a large journal",
+        sizes: Geometry { checkpoint: 2, journal: 1_048_577 }, sectors: 8192, error: BadGeometry },
+    Refused { name: "no area and no journal, on a device without sectors",
+        sizes: Geometry { checkpoint: 0, journal: 0 }, sectors: 0, error: BadGeometry },
+    Refused { name: "a sector too few for the least sizes",
+        sizes: Geometry { checkpoint: 2, journal: 516 }, sectors: 1038, error: TooSmall },
+    Refused { name: "the least sizes on a device without sectors",
+        sizes: Geometry { checkpoint: 2, journal: 516 }, sectors: 0, error: TooSmall },
+    Refused { name: "the greatest sizes",
+        sizes: Geometry { checkpoint: 1_048_576, journal: 1_048_576 }, sectors: 8192,
+        error: TooSmall },
 ];
 
 // Reads a sector that the device has.
@@ -65,22 +85,12 @@ fn a_new_store_has_these_bytes(rt: HostRuntime) -> Result<(), Fail> {
 
 #[test]
 fn sizes_and_devices_are_refused(rt: HostRuntime) -> Result<(), Fail> {
-    for (checkpoint, journal, sectors, refusal) in REFUSALS {
-        let mut device = MemDevice::new(rt.alloc(), sectors)?;
-        let geometry = Geometry {
-            checkpoint,
-            journal,
-        };
-        assert_eq!(rt;
-            format(&mut device, geometry),
-            Err(refusal),
-            "{checkpoint} {journal}"
-        );
-        assert_eq!(rt;
-            read_geometry(&mut device).ok(),
-            Some(None),
-            "{checkpoint} {journal}"
-        );
+    for row in &REFUSALS {
+        let mut device = MemDevice::new(rt.alloc(), u64::from(row.sectors))?;
+        let made = format(&mut device, row.sizes);
+        assert_eq!(rt; made, Err(row.error), "{}", row.name);
+        let found = read_geometry(&mut device).ok();
+        assert_eq!(rt; found, Some(None), "{}", row.name);
     }
     Ok(())
 }

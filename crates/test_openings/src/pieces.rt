@@ -1,6 +1,7 @@
 //! Checkpoints at rest that are more than one piece.
 
-use crate::stores::{opened, pair_of, put, read_sector, state_of};
+use crate::answers::{Held, held_by, state_of, usable};
+use crate::stores::{opened, put, read_sector};
 use path_db::{PathDb, read_command, write_rows};
 use sector_dev::{Device, MemDevice};
 use std::alloc::Global;
@@ -16,7 +17,11 @@ const LARGE: Geometry = Geometry {
 };
 
 /// What the store represents: 3,000 rows of 93 bytes each, at place 258.
-const PAIR: (usize, u64, u64) = (3000, 279_000, 258);
+const HELD: Held = Held {
+    rows: 3000,
+    bytes: 279_000,
+    place: 258,
+};
 
 /// How many sectors such a checkpoint takes.
 const TAKEN: u64 = 545;
@@ -64,10 +69,10 @@ fn large_store(alloc: Global, db: &PathDb) -> Result<MemDevice, Fail> {
 fn all_pieces_are_there(rt: HostRuntime) -> Result<(), Fail> {
     let db = large_db(rt.alloc())?;
     let mut store = opened(rt.alloc(), large_store(rt.alloc(), &db)?)?;
-    assert_eq!(rt; pair_of(&store), PAIR);
-    assert_eq!(rt; state_of(&store), (7, 2, false, false));
+    assert_eq!(rt; held_by(&store), HELD);
+    assert_eq!(rt; state_of(&store), usable(7, 2));
     assert_eq!(rt; store.checkpoint(), Ok(()));
-    assert_eq!(rt; state_of(&store), (8, 2, false, false));
+    assert_eq!(rt; state_of(&store), usable(8, 2));
     let mut device = store.into_device();
     for sector in 1..TAKEN {
         let old = read_sector(&mut device, LARGE.area_at(Half::First) + sector);
@@ -75,8 +80,8 @@ fn all_pieces_are_there(rt: HostRuntime) -> Result<(), Fail> {
         assert_eq!(rt; new, old, "{sector}");
     }
     let store = opened(rt.alloc(), device)?;
-    assert_eq!(rt; pair_of(&store), PAIR);
-    assert_eq!(rt; state_of(&store), (8, 2, false, false));
+    assert_eq!(rt; held_by(&store), HELD);
+    assert_eq!(rt; state_of(&store), usable(8, 2));
     let _device = store.into_device();
     Ok(())
 }

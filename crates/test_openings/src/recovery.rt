@@ -1,7 +1,8 @@
 //! Stores that a stop left are opened, with a stop or a fault at every call of the opening too.
 
-use crate::stopped::{PAIR, stopped_store};
-use crate::stores::{opened, pair_of, put, read_sector, state_of};
+use crate::answers::{State, held_by, state_of};
+use crate::stopped::{HELD, stopped_store};
+use crate::stores::{opened, put, read_sector};
 use sector_dev::{Device, FaultDevice, FuseDevice, MemDevice, Tear};
 use std::alloc::Global;
 use std::process::Abort;
@@ -41,7 +42,7 @@ struct Left {
     // a header; the gate at the end; a sync. Where both halves are open, also the older one's gate,
     // and the write that closes it.
     calls: u64,
-    state: (u64, u32, bool, bool),
+    state: State,
     // How the first half's gate and its journal's first gate begin then.
     gate: u8,
 }
@@ -50,7 +51,12 @@ struct Left {
 const SEALED: Left = Left {
     both_are_open: false,
     calls: 17,
-    state: (7, 2, true, false),
+    state: State {
+        epoch: 7,
+        version: 2,
+        is_sealed: true,
+        is_broken: false,
+    },
     gate: 0xa7,
 };
 
@@ -58,7 +64,12 @@ const SEALED: Left = Left {
 const BOTH: Left = Left {
     both_are_open: true,
     calls: 15,
-    state: (8, 2, false, false),
+    state: State {
+        epoch: 8,
+        version: 2,
+        is_sealed: false,
+        is_broken: false,
+    },
     gate: 0,
 };
 
@@ -82,7 +93,7 @@ fn stopped(
 ) -> (bool, MemDevice) {
     match open(alloc, FuseDevice::new(device, calls, tear)) {
         Ok(store) => {
-            assert_eq!(rt; pair_of(&store), PAIR, "{calls}");
+            assert_eq!(rt; held_by(&store), HELD, "{calls}");
             (true, store.into_device().into_mem())
         }
         Err((device, error)) => {
@@ -100,7 +111,7 @@ fn assert_opens(
     left: Left,
 ) -> Result<MemDevice, Fail> {
     let store = opened(alloc, device)?;
-    assert_eq!(rt; pair_of(&store), PAIR);
+    assert_eq!(rt; held_by(&store), HELD);
     assert_eq!(rt; state_of(&store), left.state);
     assert_eq!(rt; (store.tail_half(), store.tail_gate()), (Half::Second, 2));
     let mut device = store.into_device();
@@ -179,7 +190,7 @@ fn a_fault_at_any_call_is_told(rt: HostRuntime) -> Result<(), Fail> {
         let later = FaultDevice::new(left_again(device)?, left.calls);
         match open(rt.alloc(), later) {
             Ok(store) => {
-                assert_eq!(rt; pair_of(&store), PAIR);
+                assert_eq!(rt; held_by(&store), HELD);
                 let _device = store.into_device();
             }
             Err((_failed, error)) => Err(error)?,

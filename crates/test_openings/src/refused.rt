@@ -2,29 +2,48 @@
 //! turn: an opening that is refused gives the device back and succeeds when it is tried again, and
 //! no answer is another for the refusal.
 
-use crate::stopped::{PAIR, stopped_store};
-use crate::stores::{Answer, answer_of, change};
+use crate::answers::{
+    Answer, BAD_CHECKPOINT, BAD_HEADER, BAD_RECORD, NEWER, NO_HALF, NO_MEMORY, NO_STORE, answer_of,
+};
+use crate::stopped::{HELD, stopped_store};
+use crate::stores::change;
 use sector_dev::MemDevice;
 use std::alloc::Global;
 use std::process::Abort;
 use std::test::Fail;
 
-/// The numbers of want of memory.
-const NO_MEMORY: Answer = Err((5, 0));
+/// A byte of a sector that is another one, whether memory may be wanted before the answer, and the
+/// answer.
+#[derive(Clone, Copy)]
+struct Change {
+    name: &'static str,
+    sector: u64,
+    offset: usize,
+    byte: u8,
+    takes_memory: bool,
+    answer: Answer,
+}
 
-/// A byte of a sector that is another one, whether memory may be wanted before the refusal, and the
-/// refusal: sector 0, the first half's gate, the version, length and count of its checkpoint, its
-/// third row's type, the header of the purge, the seal's padding, and the type of the tail's row.
-const CHANGES: [(u64, usize, u8, bool, Answer); 9] = [
-    (0, 11, 2, false, Err((1, 0))),
-    (3, 0, 0, false, Err((3, 1))),
-    (1, 7, 3, false, Err((3, 5))),
-    (1, 26, 4, false, Err((3, 3))),
-    (1, 31, 2, true, Err((3, 3))),
-    (1, 218, 2, true, Err((3, 3))),
-    (5, 0, 9, true, Err((4, 1))),
-    (7, 16, 1, true, Err((4, 2))),
-    (524, 22, 9, true, Err((4, 2))),
+#[rattlefmt::skip]
+const CHANGES: [Change; 9] = [
+    Change { name: "the number of the layout", sector: 0, offset: 11, byte: 2,
+        takes_memory: false, answer: NO_STORE },
+    Change { name: "the first half's gate", sector: 3, offset: 0, byte: 0,
+        takes_memory: false, answer: NO_HALF },
+    Change { name: "the version of its checkpoint", sector: 1, offset: 7, byte: 3,
+        takes_memory: false, answer: NEWER },
+    Change { name: "the length of its rows", sector: 1, offset: 26, byte: 4,
+        takes_memory: false, answer: BAD_CHECKPOINT },
+    Change { name: "the count of its rows", sector: 1, offset: 31, byte: 2,
+        takes_memory: true, answer: BAD_CHECKPOINT },
+    Change { name: "the type of its third row", sector: 1, offset: 218, byte: 2,
+        takes_memory: true, answer: BAD_CHECKPOINT },
+    Change { name: "the header of the purge", sector: 5, offset: 0, byte: 9,
+        takes_memory: true, answer: BAD_HEADER },
+    Change { name: "the padding of the seal", sector: 7, offset: 16, byte: 1,
+        takes_memory: true, answer: BAD_RECORD },
+    Change { name: "the type of the tail's row", sector: 524, offset: 22, byte: 9,
+        takes_memory: true, answer: BAD_RECORD },
 ];
 
 /// Opens a device, and once more where memory was refused, which may be so only where it is wanted.
@@ -33,34 +52,35 @@ fn tried(
     alloc: Global,
     device: MemDevice,
     takes_memory: bool,
+    name: &str,
 ) -> (Answer, MemDevice) {
     let (answer, device) = answer_of(alloc, device);
     if answer != NO_MEMORY {
         return (answer, device);
     }
-    assert!(rt; takes_memory);
+    assert!(rt; takes_memory, "{name}");
     answer_of(alloc, device)
 }
 
 #[test]
 fn refused_memory_of_openings(rt: HostRuntime) -> Result<(), Fail> {
-    for both_are_open in [false, true] {
+    for (both_are_open, name) in [(false, "one open half"), (true, "two open halves")] {
         let device = stopped_store(rt.alloc(), both_are_open)?;
-        let (answer, device) = tried(&rt, rt.alloc(), device, true);
-        assert_eq!(rt; answer, Ok(PAIR));
-        let (answer, _device) = tried(&rt, rt.alloc(), device, true);
-        assert_eq!(rt; answer, Ok(PAIR));
+        let (answer, device) = tried(&rt, rt.alloc(), device, true, name);
+        assert_eq!(rt; answer, Ok(HELD), "{name}");
+        let (answer, _device) = tried(&rt, rt.alloc(), device, true, name);
+        assert_eq!(rt; answer, Ok(HELD), "{name}");
     }
     Ok(())
 }
 
 #[test]
 fn refused_memory_of_refusals(rt: HostRuntime) -> Result<(), Fail> {
-    for (at, offset, byte, takes_memory, expected) in CHANGES {
+    for row in &CHANGES {
         let mut device = stopped_store(rt.alloc(), false)?;
-        change(&mut device, at, offset, &[byte])?;
-        let (answer, _device) = tried(&rt, rt.alloc(), device, takes_memory);
-        assert_eq!(rt; answer, expected, "{byte} at {at} {offset}");
+        change(&mut device, row.sector, row.offset, &[row.byte])?;
+        let (answer, _device) = tried(&rt, rt.alloc(), device, row.takes_memory, row.name);
+        assert_eq!(rt; answer, row.answer, "{}", row.name);
     }
     Ok(())
 }

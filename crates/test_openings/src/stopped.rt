@@ -1,13 +1,18 @@
 //! Stores as a stop leaves them while a checkpoint takes over, on devices in memory.
 
+use crate::answers::Held;
 use crate::stores::{PLAIN, REGISTER, Worked, put, read_sector, worked_store};
 use sector_dev::{Device, MemDevice, SECTOR};
 use std::alloc::Global;
 use std::test::Fail;
 use test_support::leaving_by;
 
-/// What such a store represents: four rows in 372 bytes, at place 260.
-pub(crate) const PAIR: (usize, u64, u64) = (4, 372, 260);
+/// What such a store represents: four rows, at place 260.
+pub(crate) const HELD: Held = Held {
+    rows: 4,
+    bytes: 372,
+    place: 260,
+};
 
 /// The header of a group at place 259 of one command, whose record has 99 bytes.
 const ONE: [u8; 16] = [1, 1, 0, 0, 0, 0, 0, 99, 0, 0, 0, 0, 0, 0, 1, 3];
