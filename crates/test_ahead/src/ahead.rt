@@ -12,7 +12,7 @@ use std::sync::Wait;
 use std::thread::Threads;
 use std::time::Clock;
 use test_hub_scripts::folds::{Act, Ledger, act_of};
-use test_hub_scripts::stores::{new_store, opens_to};
+use test_hub_scripts::stores::{Contents, assert_opens_to, new_store};
 
 /// How many sessions there are, and how many commands each of them sends ahead.
 const CROWDS: [(u64, usize); 7] = [
@@ -100,12 +100,12 @@ fn assert_crowd<R: Wait + Clock + Threads + Abort + Copy + Drop + Send + Sync>(
     };
     let device = crowded(rt, alloc, new_store(&host, alloc), &sends, sessions);
     let rows = sends.ledger.rows(&host);
-    let _device = opens_to(
-        &host,
-        alloc,
-        device,
-        (rows, (rows as u64).saturating_mul(93), all as u64),
-    );
+    let wanted = Contents {
+        rows,
+        bytes: (rows as u64).saturating_mul(93),
+        place: all as u64,
+    };
+    let _device = assert_opens_to(&host, alloc, device, wanted);
 }
 
 #[test]

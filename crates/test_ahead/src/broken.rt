@@ -1,5 +1,5 @@
-//! Sessions that break off while commands are under way: each command takes effect as a whole or not
-//! at all, and a later session sees a state that is a front.
+//! Sessions that break off while commands are under way: each command takes effect as a whole or
+//! not at all, and a later session sees a state that is a front.
 
 use crate::crowds::{Sessions, crowded, served};
 use crate::frames::{PURGE, joined, push};
@@ -15,7 +15,7 @@ use std::sync::Wait;
 use std::thread::Threads;
 use std::time::Clock;
 use test_group_scripts::acts::{query, shown};
-use test_hub_scripts::stores::{new_store, opens_to};
+use test_hub_scripts::stores::{Contents, assert_opens_to, new_store};
 use test_support::leaving_by;
 
 /// How many registrations a session sends. Each has two segments: those that are left by the
@@ -44,29 +44,39 @@ const LATER: &str = "0000001983000000000000000500000000000000000000000000000000"
 /// The segments after each number of registrations, from none to all, as bits by their interfaces.
 const FRONTS: [u64; 6] = [0, 0x6, 0x1e, 0x7e, 0x1fe, 0x7fe];
 
-/// A session that breaks off: what follows the registrations in its input, how many bytes its writer
-/// takes, and what it ends with.
-type Break = (&'static str, usize, Result<u64, FrameError>);
+/// A session that breaks off: what follows the registrations in its input, how many bytes its
+/// writer takes, and what it ends with.
+#[derive(Clone, Copy)]
+struct Break {
+    name: &'static str,
+    rest: &'static str,
+    room: usize,
+    ended: Result<u64, FrameError>,
+}
 
 /// More bytes than all replies have.
 const ENOUGH: usize = 10_000;
 
+const READ: Result<u64, FrameError> = Err(FrameError::Read);
+
+const WRITE: Result<u64, FrameError> = Err(FrameError::Write);
+
+#[rattlefmt::skip]
 const BREAKS: [Break; 12] = [
-    ("", ENOUGH, Ok(5)),
-    // The input ends within a frame.
-    ("00", ENOUGH, Err(FrameError::Read)),
-    ("00000009", ENOUGH, Err(FrameError::Read)),
-    ("000000bd010a", ENOUGH, Err(FrameError::Read)),
-    // A frame is faulty.
-    ("00000000", ENOUGH, Err(FrameError::Length)),
-    ("0000000105", ENOUGH, Err(FrameError::Kind)),
-    // A write fails: within a reply, between two replies, and before the last byte.
-    ("", 0, Err(FrameError::Write)),
-    ("", 1, Err(FrameError::Write)),
-    ("", 28, Err(FrameError::Write)),
-    ("", 29, Err(FrameError::Write)),
-    ("", 100, Err(FrameError::Write)),
-    ("", 144, Err(FrameError::Write)),
+    Break { name: "the end of the input", rest: "", room: ENOUGH, ended: Ok(5) },
+    Break { name: "an end in a length", rest: "00", room: ENOUGH, ended: READ },
+    Break { name: "an end after a length", rest: "00000009", room: ENOUGH, ended: READ },
+    Break { name: "an end in a message", rest: "000000bd010a", room: ENOUGH, ended: READ },
+    Break { name: "an empty frame", rest: "00000000", room: ENOUGH,
+        ended: Err(FrameError::Length) },
+    Break { name: "a frame of no kind", rest: "0000000105", room: ENOUGH,
+        ended: Err(FrameError::Kind) },
+    Break { name: "no byte is written", rest: "", room: 0, ended: WRITE },
+    Break { name: "one byte is written", rest: "", room: 1, ended: WRITE },
+    Break { name: "the first reply but its last byte", rest: "", room: 28, ended: WRITE },
+    Break { name: "one reply is written", rest: "", room: 29, ended: WRITE },
+    Break { name: "a part of the fourth reply", rest: "", room: 100, ended: WRITE },
+    Break { name: "all but the last byte", rest: "", room: 144, ended: WRITE },
 ];
 
 /// Takes a number of bytes, and fails then.
@@ -119,17 +129,22 @@ impl Breaks {
     /// Serves the session that breaks off. What it writes is a front of the replies.
     fn break_off<D: Device, N: HubName, R: Wait + Clock + Abort>(&self, hub: &Hub<D, N, R>) {
         let rt = hub.handle();
-        let (rest, room, wanted) = self.row;
+        let Break {
+            name,
+            rest,
+            room,
+            ended: wanted,
+        } = self.row;
         let frames = frames_of(rt, self.alloc, rest);
         let mut writer = Narrow {
             taken: Vec::new(self.alloc),
             room,
         };
         let ended = served(hub, self.alloc, 0, &frames, &mut writer);
-        assert_eq!(rt; ended, wanted, "{rest}, {room}");
+        assert_eq!(rt; ended, wanted, "{name}");
         let replies = joined(rt, self.alloc, &REPLIES);
         let (front, _rest) = replies.split_at(room.min(replies.len()));
-        assert_eq!(rt; writer.taken.as_slice(), front, "{rest}, {room}");
+        assert_eq!(rt; writer.taken.as_slice(), front, "{name}");
     }
 }
 
@@ -156,13 +171,13 @@ impl Sessions for Breaks {
         let rt = hub.handle();
         self.break_off(hub);
         let early = shown_now(hub);
-        assert!(rt; FRONTS.contains(&early), "{:?}: {early:x}", self.row);
+        assert!(rt; FRONTS.contains(&early), "{}: {early:x}", self.row.name);
         let purge = joined(rt, self.alloc, &[PURGE]);
         let mut replies = Vec::new(self.alloc);
         let ended = served(hub, self.alloc, 0, &purge, &mut replies);
         assert_eq!(rt; ended, Ok(1));
         assert_eq!(rt; replies, joined(rt, self.alloc, &[LATER]));
-        assert_eq!(rt; shown_now(hub), FRONTS[5], "{:?}", self.row);
+        assert_eq!(rt; shown_now(hub), FRONTS[5], "{}", self.row.name);
     }
 }
 
@@ -175,7 +190,12 @@ fn assert_break<R: Wait + Clock + Threads + Abort + Copy + Drop + Send + Sync>(
     let breaks = Breaks { alloc, row };
     let host = Host(rt);
     let device = crowded(rt, alloc, new_store(&host, alloc), &breaks, 1);
-    let _device = opens_to(&host, alloc, device, (10, 930, 6));
+    let wanted = Contents {
+        rows: 10,
+        bytes: 930,
+        place: 6,
+    };
+    let _device = assert_opens_to(&host, alloc, device, wanted);
 }
 
 #[test]

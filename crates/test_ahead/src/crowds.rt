@@ -76,8 +76,8 @@ impl<S> Crowd<'_, S> {
     }
 }
 
-/// Runs this number of sessions over a store: the device. Where memory is refused for the hub or for
-/// the thread of the only session, it is asked for once more.
+/// Runs this number of sessions over a store: the device. Where memory is refused for the hub or
+/// for the thread of the only session, it is asked for once more.
 pub(crate) fn crowded<
     D: Device + Send,
     S: Sessions + Sync,
@@ -111,8 +111,8 @@ fn cores(rt: &impl Abort, alloc: Global) -> Roster {
     Roster::new(cores)
 }
 
-/// Serves the frames of an input over a writer, by a clock whose first moment is the one after this:
-/// what the session ended with.
+/// Serves the frames of an input over a writer, by a clock whose first moment is the one after
+/// this: what the session ended with.
 pub(crate) fn served<D: Device, N: HubName, R: Wait + Clock + Abort, W: Write>(
     hub: &Hub<D, N, R>,
     alloc: Global,

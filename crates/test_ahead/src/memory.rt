@@ -1,5 +1,5 @@
-//! Want of memory in a session that sends ahead. The test is run with each of its allocations refused
-//! in turn: a command that is refused for it is replied so in its turn, and takes no place.
+//! Want of memory in a session that sends ahead. The test is run with each of its allocations
+//! refused in turn: a command that is refused for it is replied so in its turn, and takes no place.
 
 use crate::crowds::{Sessions, crowded, served};
 use crate::frames::{PURGE, joined, purged, push};
@@ -12,7 +12,7 @@ use std::process::Abort;
 use std::sync::Wait;
 use std::sync::atomic::{AtomicU64, Ordering};
 use std::time::Clock;
-use test_hub_scripts::stores::{new_store, opens_to};
+use test_hub_scripts::stores::{Contents, assert_opens_to, new_store};
 
 /// How many purges a session sends.
 const PURGES: u8 = 40;
@@ -110,5 +110,5 @@ fn refused_commands_in_their_turns(rt: HostRuntime) {
     };
     let device = crowded(&rt, alloc, new_store(&host, alloc), &purges, 1);
     let places = purges.placed.load(Ordering::SeqCst);
-    let _device = opens_to(&host, alloc, device, (0, 0, places));
+    let _device = assert_opens_to(&host, alloc, device, Contents::empty_at(places));
 }

@@ -13,7 +13,7 @@ use std::thread::Threads;
 use std::time::Clock;
 use store_open::Store;
 use test_group_scripts::stores::old_store;
-use test_hub_scripts::stores::{new_store, opened, opens_to};
+use test_hub_scripts::stores::{Contents, assert_opens_to, new_store, opened};
 use test_support::EXPIRY;
 use test_support::digits::{REGISTER_2096, REGISTER_LOOP, REGISTER_NO_CHAIN, REMOVE_NO_TYPE};
 
@@ -48,8 +48,12 @@ fn assert_turns<R: Wait + Clock + Threads + Abort + Copy + Drop + Send + Sync>(
     (rows, place): (usize, u64),
 ) {
     let device = crowded(rt, turns.alloc, store, turns, 1);
-    let wanted = (rows, (rows as u64).saturating_mul(93), place);
-    let _device = opens_to(&Host(rt), turns.alloc, device, wanted);
+    let wanted = Contents {
+        rows,
+        bytes: (rows as u64).saturating_mul(93),
+        place,
+    };
+    let _device = assert_opens_to(&Host(rt), turns.alloc, device, wanted);
 }
 
 /// A session of these frames, whose first moment is the one after this, and its replies.

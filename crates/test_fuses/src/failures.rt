@@ -2,15 +2,15 @@
 //! that fail again.
 
 use crate::left::{Ending, Left};
-use crate::noted::{Calls, Noted};
 use crate::scripts::{Script, fronted, seen};
-use crate::values::calls_device;
 use sector_dev::{Device, FuseDevice, MemDevice, SECTOR, Tear};
 use std::alloc::Global;
 use store_open::{OpenError, open};
 use test_group_scripts::acts::{Act, Line};
+use test_group_scripts::noted::{Calls, Noted};
 use test_group_scripts::runs::{begun, done, ended};
 use test_group_scripts::stores::{bytes_of, opened};
+use test_group_scripts::values::calls_device;
 use test_support::{TestHost, assert_same, assert_true};
 
 /// More calls of the device than any of these runs makes.

@@ -6,12 +6,12 @@ use crate::faults::Once;
 use crate::host::Host;
 use crate::rounds::FLUSHER;
 use crate::scripts::{Script, followed_script, round_script};
-use crate::values::step_of;
 use std::alloc::Global;
 use std::process::Abort;
 use std::test::Fail;
 use test_group_scripts::acts::Act;
 use test_group_scripts::stores::TEARS;
+use test_group_scripts::values::step_of;
 
 /// Has the run of a script fail at each call, and each opening of what is left.
 fn assert_fronts<F: Failure>(rt: &Host<impl Abort>, alloc: Global, script: &Script, failure: &F) {

@@ -19,8 +19,6 @@ mod left;
 #[cfg(test)]
 mod long_runs;
 #[cfg(test)]
-mod noted;
-#[cfg(test)]
 mod outs;
 #[cfg(test)]
 mod rounds;
@@ -28,5 +26,3 @@ mod rounds;
 mod scripts;
 #[cfg(test)]
 mod short_runs;
-#[cfg(test)]
-mod values;

@@ -1,9 +1,9 @@
 //! What a run has out, by its script, and what a state that has stopped answers.
 
-use crate::values::{Held, is_group_step, is_plan_step, step_of};
 use group_core::{BeginError, FollowError, StageError, SubmitError};
 use group_recovery::StepRefusal;
 use test_group_scripts::acts::{Act, Line, Said};
+use test_group_scripts::values::{Held, is_group_step, is_plan_step, step_of};
 
 /// What a run has out, by its script.
 #[derive(Clone, Copy)]

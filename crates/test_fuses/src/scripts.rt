@@ -6,7 +6,6 @@ use crate::long_runs::{NEW, OLD};
 use crate::outs::{NONE_OUT, Out};
 use crate::rounds::{FLUSHER, ROUND, SEALED_AT, with_sealed_purge};
 use crate::short_runs::{FIRST, READS, SHORT_NEW, SHORT_OLD, with_purges};
-use crate::values::calls_device;
 use group_recovery::{Event, Reply};
 use path_db::{Command, PathDb, write_rows};
 use sector_dev::{Device, MemDevice, SECTOR};
@@ -15,6 +14,7 @@ use std::test::Fail;
 use store_open::{Geometry, Store};
 use test_group_scripts::acts::{Line, Said, events_of, heard, joined};
 use test_group_scripts::stores::{LEAST, bytes_of, change, formatted};
+use test_group_scripts::values::calls_device;
 use test_support::{TestHost, assert_same};
 
 /// Areas for checkpoints of two chunks, and the least journals.

@@ -208,30 +208,60 @@ pub fn opened<D: Device>(rt: &impl TestHost, alloc: Global, device: D) -> Store<
     }
 }
 
-/// What a store represents: how many rows, their bytes, and the place.
-pub type Pair = (usize, u64, u64);
-
-/// What rows and a place are given as.
-pub fn pair_of(db: &PathDb, place: u64) -> Pair {
-    (db.rows().count(), db.encoded_len(), place)
+/// What a store has: how many rows, how many bytes their records take, and the place.
+#[derive(Clone, Copy, Debug, PartialEq, Eq)]
+pub struct Contents {
+    pub rows: usize,
+    pub bytes: u64,
+    pub place: u64,
 }
 
-/// What a device opens to.
-pub fn told(rt: &impl TestHost, alloc: Global, device: MemDevice) -> (Pair, MemDevice) {
+impl Contents {
+    /// No rows, at a place.
+    pub fn empty_at(place: u64) -> Contents {
+        Contents {
+            rows: 0,
+            bytes: 0,
+            place,
+        }
+    }
+}
+
+/// What a store of these rows at a place has.
+pub fn contents_at(db: &PathDb, place: u64) -> Contents {
+    Contents {
+        rows: db.rows().count(),
+        bytes: db.encoded_len(),
+        place,
+    }
+}
+
+/// What a store has.
+pub fn contents_of<D: Device>(store: &Store<D>) -> Contents {
+    contents_at(store.db(), store.place())
+}
+
+/// Opens a device: what its store has, and the device.
+pub fn opened_contents<D: Device>(rt: &impl TestHost, alloc: Global, device: D) -> (Contents, D) {
     let store = opened(rt, alloc, device);
-    let pair = pair_of(store.db(), store.place());
-    (pair, store.into_device())
+    let contents = contents_of(&store);
+    (contents, store.into_device())
 }
 
-/// Sees what rows and a place are given as.
-pub fn assert_pair(rt: &impl TestHost, pair: Pair, wanted: Pair) {
-    assert_same(rt, &pair, &wanted, &"rows and place");
+/// Sees what a store has.
+pub fn assert_contents(rt: &impl TestHost, contents: Contents, wanted: Contents) {
+    assert_same(rt, &contents, &wanted, &"rows and place");
 }
 
-/// Sees what a device opens to.
-pub fn opens_to(rt: &impl TestHost, alloc: Global, device: MemDevice, wanted: Pair) -> MemDevice {
-    let (pair, device) = told(rt, alloc, device);
-    assert_pair(rt, pair, wanted);
+/// Opens a device, and sees what its store has: the device.
+pub fn assert_opens_to<D: Device>(
+    rt: &impl TestHost,
+    alloc: Global,
+    device: D,
+    wanted: Contents,
+) -> D {
+    let (contents, device) = opened_contents(rt, alloc, device);
+    assert_contents(rt, contents, wanted);
     device
 }
 

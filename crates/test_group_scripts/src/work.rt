@@ -1,6 +1,6 @@
 //! A state at work, with the tickets that it gave and the values that its actors hold.
 
-use crate::stores::{Pair, assert_pair, pair_of};
+use crate::stores::{Contents, assert_contents, contents_at};
 use group_core::{
     BeginError, Closing, Durable, DurableFollowed, FollowError, Followed, Following, Laid, Live,
     Opened, PlainShow, Plan, PublishError, PublishFollowedError, Redeemed, Stable, StageError,
@@ -342,7 +342,7 @@ impl<D: Device> Work<D> {
     }
 
     /// Stops the state, redeems all tickets and spends all values: the device, and what is shown.
-    pub fn end(self, rt: &impl TestHost) -> (D, Pair) {
+    pub fn end(self, rt: &impl TestHost) -> (D, Contents) {
         let mut work = self;
         work.state.halt();
         for _each in 0..MOST_TICKETS {
@@ -364,15 +364,15 @@ impl<D: Device> Work<D> {
         assert_true(rt, tickets.is_empty(), "no ticket is left");
         tickets.destroy_empty();
         let (device, show) = state.into_parts();
-        (device, pair_of(show.db(), show.place()))
+        (device, contents_at(show.db(), show.place()))
     }
 }
 
 impl<D: Device> Work<D> {
     /// Stops the state as `end` does, which shows this: the device.
-    pub fn ends(self, rt: &impl TestHost, wanted: Pair) -> D {
-        let (device, pair) = self.end(rt);
-        assert_pair(rt, pair, wanted);
+    pub fn ends(self, rt: &impl TestHost, wanted: Contents) -> D {
+        let (device, contents) = self.end(rt);
+        assert_contents(rt, contents, wanted);
         device
     }
 }

@@ -13,7 +13,7 @@ use std::sync::atomic::{AtomicU64, Ordering};
 use std::test::Fail;
 use std::time::Clock;
 use test_hub_scripts::acts::{Unwatched, flush};
-use test_hub_scripts::stores::{ended, new_store, opens_to};
+use test_hub_scripts::stores::{Contents, assert_opens_to, ended, new_store};
 
 /// How many purges are handed in ahead: more than a group has.
 const AHEAD: u64 = 40;
@@ -70,12 +70,12 @@ fn commands_handed_in_ahead(rt: HostRuntime) -> Result<(), Fail> {
     let guests = Guests::new(1, hands_in);
     let device = crewed(&rt, alloc, new_store(&host, alloc), &guests);
     assert_eq!(rt; guests.errand.settled.load(Ordering::SeqCst), AHEAD);
-    let _device = opens_to(&host, alloc, device, (0, 0, 80));
+    let _device = assert_opens_to(&host, alloc, device, Contents::empty_at(80));
     Ok(())
 }
 
-/// Hands purges in at a hub that has no threads: one of them is committed, the next one is under way
-/// when the state is stopped, and the last one comes after that.
+/// Hands purges in at a hub that has no threads: one of them is committed, the next one is under
+/// way when the state is stopped, and the last one comes after that.
 #[derive(Clone, Copy)]
 struct Stops;
 

@@ -13,7 +13,7 @@ use std::test::Fail;
 use std::time::Clock;
 use test_hub_scripts::acts::{Unwatched, spend, submit};
 use test_hub_scripts::fakes::Fake;
-use test_hub_scripts::stores::{LEAST, formatted, new_store, opens_to};
+use test_hub_scripts::stores::{Contents, LEAST, assert_opens_to, formatted, new_store};
 
 /// Gives up a value of another state at a hub, as an actor does with a stranger, and registers a
 /// command then.
@@ -47,6 +47,6 @@ fn crews_hear_of_a_stranger(rt: HostRuntime) -> Result<(), Fail> {
     let guests = Guests::new(1, GivesUp { alloc });
     let device = crewed(&rt, alloc, new_store(&host, alloc), &guests);
     assert_eq!(rt; guests.strangers(), 1);
-    let _device = opens_to(&host, alloc, device, (0, 0, 0));
+    let _device = assert_opens_to(&host, alloc, device, Contents::empty_at(0));
     Ok(())
 }

@@ -10,7 +10,9 @@ use std::sync::{Mutex, Wait};
 use std::test::Fail;
 use std::time::Clock;
 use test_hub_scripts::doors::{Door, Holds, Latch};
-use test_hub_scripts::stores::{LEAST, formatted, opened, opens_to, query, receipt_of, register};
+use test_hub_scripts::stores::{
+    Contents, LEAST, assert_opens_to, formatted, opened, query, receipt_of, register,
+};
 
 /// What the lookups show: before the sync is held, while it is, and once the command is committed.
 type Shown = [usize; 3];
@@ -80,6 +82,11 @@ fn held_sync_lookup(rt: HostRuntime) -> Result<(), Fail> {
     assert_eq!(rt; *guests.errand.shown.lock(&rt), Some([1, 1, 2]));
     assert_eq!(rt; door.latch(&rt), Latch::Open);
     let (device, _gate) = device.into_parts();
-    let _device = opens_to(&host, alloc, device, (2, 2 * 93, 2));
+    let wanted = Contents {
+        rows: 2,
+        bytes: 2 * 93,
+        place: 2,
+    };
+    let _device = assert_opens_to(&host, alloc, device, wanted);
     Ok(())
 }

@@ -10,7 +10,7 @@ use std::sync::Wait;
 use std::sync::atomic::{AtomicU64, Ordering};
 use std::test::Fail;
 use std::time::Clock;
-use test_hub_scripts::stores::{new_store, opens_to, query, register};
+use test_hub_scripts::stores::{Contents, assert_opens_to, new_store, query, register};
 
 /// How many segments are registered.
 const SEGMENTS: u8 = 4;
@@ -65,6 +65,11 @@ fn learnt_receipt_is_shown(rt: HostRuntime) -> Result<(), Fail> {
         guests.errand.shown.load(Ordering::SeqCst),
         u64::from(SEGMENTS)
     );
-    let _device = opens_to(&host, rt.alloc(), device, (4, 4 * 93, 4));
+    let wanted = Contents {
+        rows: 4,
+        bytes: 4 * 93,
+        place: 4,
+    };
+    let _device = assert_opens_to(&host, rt.alloc(), device, wanted);
     Ok(())
 }

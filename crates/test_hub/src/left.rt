@@ -11,7 +11,7 @@ use std::sync::Wait;
 use std::test::Fail;
 use std::time::Clock;
 use test_hub_scripts::acts::{Unwatched, flush};
-use test_hub_scripts::stores::{new_store, opens_to};
+use test_hub_scripts::stores::{Contents, assert_opens_to, new_store};
 
 /// Hands two purges in, which one group commits. Comes to the claims of both receipts.
 #[derive(Clone, Copy)]
@@ -66,7 +66,7 @@ fn receipts_are_found_in_what_is_left(rt: HostRuntime) -> Result<(), Fail> {
         Ok(((first, second), device, mut left)) => {
             left.find(first);
             left.find(second);
-            let _device = opens_to(&host, alloc, device, (0, 0, 2));
+            let _device = assert_opens_to(&host, alloc, device, Contents::empty_at(2));
         }
         Err((_store, _job, e)) => panic!(rt; "{e:?}"),
     }

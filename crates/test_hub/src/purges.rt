@@ -10,7 +10,7 @@ use std::sync::Wait;
 use std::sync::atomic::{AtomicBool, AtomicU64, Ordering};
 use std::test::Fail;
 use std::time::Clock;
-use test_hub_scripts::stores::{assert_pair, new_store, opened};
+use test_hub_scripts::stores::{Contents, assert_contents, contents_of, new_store, opened};
 
 /// How many commands are registered. A journal of 516 sectors has room for 257 groups of one purge,
 /// and the second seal waits for the checkpoint after the first one.
@@ -60,7 +60,7 @@ fn six_hundred_purges(rt: HostRuntime) -> Result<(), Fail> {
     assert_eq!(rt; guests.errand.placed.load(Ordering::SeqCst), PURGES);
     assert!(rt; guests.errand.is_counted.load(Ordering::SeqCst));
     let store = opened(&host, rt.alloc(), device);
-    assert_pair(&host, &store, (0, 0, PURGES));
+    assert_contents(&host, contents_of(&store), Contents::empty_at(PURGES));
     // The first half's checkpoint has epoch 1, and each further one has the next.
     assert!(rt; 2 <= store.epoch());
     let _device = store.into_device();

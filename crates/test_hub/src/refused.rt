@@ -17,11 +17,16 @@ use std::time::Clock;
 use store_open::Store;
 use test_hub_scripts::acts::{Unwatched, keep};
 use test_hub_scripts::stores::{
-    Pair, assert_pair, one_row, opened, opens_to, query, receipt_of, register,
+    Contents, assert_contents, assert_opens_to, contents_of, one_row, opened, query, receipt_of,
+    register,
 };
 
 /// What the store has at first: one row, at place 1.
-const FIRST: Pair = (1, 93, 1);
+const FIRST: Contents = Contents {
+    rows: 1,
+    bytes: 93,
+    place: 1,
+};
 
 /// That store.
 fn first_store(rt: &Host<impl Abort>, alloc: Global) -> Store<MemDevice> {
@@ -185,9 +190,9 @@ fn assert_kept<D: Device>(
         matches!(e, HubError::NoMemory | HubError::NoReader),
         "{e:?}"
     );
-    assert_pair(rt, &store, FIRST);
+    assert_contents(rt, contents_of(&store), FIRST);
     let store = opened(rt, alloc, store.into_device());
-    assert_pair(rt, &store, FIRST);
+    assert_contents(rt, contents_of(&store), FIRST);
     store
 }
 
@@ -242,14 +247,13 @@ fn joined<R: Wait + Clock + Threads + Abort + Copy + Drop + Send + Sync>(
 ) -> (MemDevice, u64) {
     let host = Host(rt);
     let (device, _left, first) = with_crew(rt, alloc, first_store(&host, alloc), 1, guests);
-    let (device, _left, attended) = match first {
-        Err(e) => {
-            let store = assert_kept(&host, alloc, opened(&host, alloc, device), e);
-            with_crew(rt, alloc, store, 1, guests)
-        }
-        Ok(attended) => (device, None, Ok(attended)),
+    let e = match first {
+        Ok(attended) => return (device, attended),
+        Err(e) => e,
     };
-    match attended {
+    let store = assert_kept(&host, alloc, opened(&host, alloc, device), e);
+    let (device, _left, again) = with_crew(rt, alloc, store, 1, guests);
+    match again {
         Ok(attended) => (device, attended),
         Err(e) => panic!(&rt; "{e:?}"),
     }
@@ -269,10 +273,18 @@ fn refused_crews_may_come_again(rt: HostRuntime) -> Result<(), Fail> {
     assert_eq!(rt; attended.wrapping_add(guests.missed()), 2);
     assert_eq!(rt; guests.errand.done.load(Ordering::SeqCst), attended);
     let wanted = if attended == 2 {
-        (3, 3 * 93, 3)
+        Contents {
+            rows: 3,
+            bytes: 3 * 93,
+            place: 3,
+        }
     } else {
-        (2, 2 * 93, 2)
+        Contents {
+            rows: 2,
+            bytes: 2 * 93,
+            place: 2,
+        }
     };
-    let _device = opens_to(&host, alloc, device, wanted);
+    let _device = assert_opens_to(&host, alloc, device, wanted);
     Ok(())
 }

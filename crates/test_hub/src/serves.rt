@@ -10,7 +10,9 @@ use std::sync::Wait;
 use std::sync::atomic::{AtomicU64, Ordering};
 use std::test::Fail;
 use std::time::Clock;
-use test_hub_scripts::stores::{WIDE, formatted, opened, opens_to, query_from, register};
+use test_hub_scripts::stores::{
+    Contents, WIDE, assert_opens_to, formatted, opened, query_from, register,
+};
 
 /// How many guests there are.
 const GUESTS: u64 = 16;
@@ -75,6 +77,11 @@ fn crew_serves_all(rt: HostRuntime) -> Result<(), Fail> {
     let guests = Guests::new(GUESTS, serves);
     let device = crewed(&rt, alloc, store, &guests);
     assert_eq!(rt; guests.errand.shown.load(Ordering::SeqCst), 128);
-    let _device = opens_to(&host, alloc, device, (128, 128 * 93, 128));
+    let wanted = Contents {
+        rows: 128,
+        bytes: 128 * 93,
+        place: 128,
+    };
+    let _device = assert_opens_to(&host, alloc, device, wanted);
     Ok(())
 }

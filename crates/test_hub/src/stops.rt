@@ -16,7 +16,8 @@ use store_open::{Store, open};
 use test_hub_scripts::acts::{Unwatched, fill};
 use test_hub_scripts::fakes::Fake;
 use test_hub_scripts::stores::{
-    LEAST, change, formatted, opened, opens_to, pair_of, query, register, sealed_row,
+    Contents, LEAST, assert_opens_to, change, contents_of, formatted, opened, query, register,
+    sealed_row,
 };
 
 /// A store whose journals are full, at place 514, and that has no epoch left for a checkpoint: a
@@ -79,7 +80,7 @@ fn register_in_a_state_that_stops(rt: HostRuntime) -> Result<(), Fail> {
         Some(HubError::Submit(SubmitError::Stopped)),
     ];
     assert_eq!(rt; *guests.errand.answers.lock(&rt), wanted);
-    let _device = opens_to(&host, alloc, device, (0, 0, 514));
+    let _device = assert_opens_to(&host, alloc, device, Contents::empty_at(514));
     Ok(())
 }
 
@@ -165,7 +166,12 @@ fn failed_gate_sync_stops(rt: HostRuntime) -> Result<(), Fail> {
     ];
     assert_eq!(rt; *guests.errand.seen.lock(&rt), Some(([1, 1, 1], answers)));
     // The gate was written, though its sync failed: that command was kept.
-    let _device = opens_to(&host, alloc, device.into_mem(), (2, 2 * 93, 2));
+    let wanted = Contents {
+        rows: 2,
+        bytes: 2 * 93,
+        place: 2,
+    };
+    let _device = assert_opens_to(&host, alloc, device.into_mem(), wanted);
     Ok(())
 }
 
@@ -228,7 +234,7 @@ fn assert_readers_go_on<R: Wait + Clock + Threads + Abort + Copy + Drop + Send +
     let device = crewed(rt, alloc, opened(&host, alloc, failing), &guests);
     assert_eq!(&rt; *guests.errand.shown.lock(&rt), Some([1; 4]), "{number}");
     let store = opened(&host, alloc, device.into_mem());
-    assert_eq!(&rt; pair_of(&store).0, 1, "{number}");
+    assert_eq!(&rt; contents_of(&store).rows, 1, "{number}");
     let _device = store.into_device();
 }
 

@@ -160,8 +160,8 @@ pub fn fill<S: Steps>(rt: &impl TestHost, steps: &S, watch: &mut impl Watch) {
     commit_all(rt, steps, watch, GROUPS - 1);
 }
 
-/// Takes a checkpoint of one chunk through the checkpointer's steps, after a piece of it is prepared;
-/// after each step but the last, nothing is staged.
+/// Takes a checkpoint of one chunk through the checkpointer's steps, after a piece of it is
+/// prepared; after each step but the last, nothing is staged.
 pub fn fold<S: Steps>(rt: &impl TestHost, steps: &S, watch: &mut impl Watch) {
     if let Err(refusal) = steps.prepare() {
         rt.fail(format_args!("{refusal:?}"));

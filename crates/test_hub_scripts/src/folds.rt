@@ -1,6 +1,6 @@
-//! Commands whose outcomes depend on their order, and a ledger of what sessions that run beside each
-//! other are answered: each place is given once, and each command did what it does in the order of
-//! places.
+//! Commands whose outcomes depend on their order, and a ledger of what sessions that run beside
+//! each other are answered: each place is given once, and each command did what it does in the
+//! order of places.
 
 use crate::stores::register;
 use path_db::{Command, Outcome};

@@ -10,7 +10,9 @@ use seg_lookup::Query;
 use std::alloc::Global;
 use store_open::{Geometry, Store, format};
 use test_group_scripts::stores::{REGISTERED, SEAL};
-pub use test_group_scripts::stores::{LEAST, change, opened};
+pub use test_group_scripts::stores::{
+    Contents, LEAST, assert_contents, assert_opens_to, change, contents_of, opened,
+};
 use test_support::{SEGMENT, TestHost, assert_same, assert_true, leaving_by};
 
 /// How long a commit is waited for, in rests of at most 10 milliseconds.
@@ -87,30 +89,6 @@ pub fn sealed_row(rt: &impl TestHost, alloc: Global) -> MemDevice {
 /// A new store of the least sizes.
 pub fn new_store(rt: &impl TestHost, alloc: Global) -> Store<MemDevice> {
     opened(rt, alloc, formatted(rt, alloc, LEAST))
-}
-
-/// What a store has: how many rows, their bytes, and the place.
-pub type Pair = (usize, u64, u64);
-
-/// What a store has.
-pub fn pair_of<D: Device>(store: &Store<D>) -> Pair {
-    (
-        store.db().rows().count(),
-        store.db().encoded_len(),
-        store.place(),
-    )
-}
-
-/// Sees what a store has.
-pub fn assert_pair<D: Device>(rt: &impl TestHost, store: &Store<D>, wanted: Pair) {
-    assert_same(rt, &pair_of(store), &wanted, &"rows and place");
-}
-
-/// Sees what a device opens to.
-pub fn opens_to<D: Device>(rt: &impl TestHost, alloc: Global, device: D, wanted: Pair) -> D {
-    let store = opened(rt, alloc, device);
-    assert_pair(rt, &store, wanted);
-    store.into_device()
 }
 
 /// The command that registers the segment as a down segment, its first AS being 1-ff00:0:100 and

@@ -12,7 +12,9 @@ use std::test::Fail;
 use store_open::format;
 use test_hub_scripts::acts::{GROUPS, Unwatched, commit_all, flush, seal, spend, submit};
 use test_hub_scripts::fakes::Fake;
-use test_hub_scripts::stores::{LEAST, bytes_of, formatted, opened, pair_of, restored, sealed_row};
+use test_hub_scripts::stores::{
+    Contents, LEAST, bytes_of, contents_of, formatted, opened, restored, sealed_row,
+};
 use test_support::TestHost;
 
 /// How many commands are submitted: a group of 32, and one of 8.
@@ -167,7 +169,7 @@ type Found = (usize, u64, u64, bool);
 /// What a device opens to.
 fn found_on(rt: &Host<impl Abort>, alloc: Global, device: MemDevice) -> (MemDevice, Found) {
     let store = opened(rt, alloc, device);
-    let (rows, _bytes, place) = pair_of(&store);
+    let Contents { rows, place, .. } = contents_of(&store);
     let found = (rows, place, store.epoch(), store.is_sealed());
     (store.into_device(), found)
 }
@@ -205,9 +207,9 @@ fn found_at((rows, place): (usize, u64), pieces: u64, number: u64, is_committed:
     }
 }
 
-/// Has the checkpointer's loop stopped before each of the calls that prepare a checkpoint, and before
-/// this number of calls after them, over a device with a sealed journal: before and after a purge is
-/// committed, or by turns before the last of the former calls and those after them.
+/// Has the checkpointer's loop stopped before each of the calls that prepare a checkpoint, and
+/// before this number of calls after them, over a device with a sealed journal: before and after a
+/// purge is committed, or by turns before the last of the former calls and those after them.
 fn fold_all<R: Wait + Abort + Copy + Drop>(
     rt: R,
     alloc: Global,

@@ -119,8 +119,8 @@ fn assert_seal<S: Steps>(rt: &Host<impl Abort>, alloc: Global, steps: &S) {
     spend(rt, steps, &mut Unwatched, ticket);
 }
 
-/// A checkpoint is prepared, begun, written, synced, its gate opened and synced, the old half closed
-/// and synced, with a staging that is refused between two of these calls.
+/// A checkpoint is prepared, begun, written, synced, its gate opened and synced, the old half
+/// closed and synced, with a staging that is refused between two of these calls.
 fn assert_fold<S: Steps>(rt: &Host<impl Abort>, alloc: Global, steps: &S) {
     let mut counts = Counts::new(alloc, steps, GROUPS + 1);
     fold(rt, steps, &mut counts);

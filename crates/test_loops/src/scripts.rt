@@ -17,7 +17,7 @@ use store_open::Store;
 use test_group_scripts::acts::NOTHING;
 use test_hub_scripts::acts::{Answer, GROUPS, Watch, fill, fold, refuse_stage, spend, submit};
 use test_hub_scripts::fakes::state_of;
-use test_hub_scripts::stores::{LEAST, ended, formatted, opened, opens_to};
+use test_hub_scripts::stores::{Contents, LEAST, assert_opens_to, ended, formatted, opened};
 
 /// How many lines the script has: 513 purges that are committed at once, the one that a seal is
 /// staged before, and the one that is left.
@@ -270,7 +270,7 @@ fn run_all(rt: &Host<impl Abort>, alloc: Global, script: &Script) {
     }
     match held.wind_up() {
         Ok(device) => {
-            let _device = opens_to(rt, alloc, device, (0, 0, 2 * GROUPS));
+            let _device = assert_opens_to(rt, alloc, device, Contents::empty_at(2 * GROUPS));
         }
         Err(_held) => panic!(rt.0; "something is kept"),
     }

@@ -15,8 +15,8 @@ use test_hub_scripts::stores::{LEAST, formatted, sealed_row};
 /// refusal hands the value to the sixth, which is refused as well.
 const FLUSHER_CALLS: [(u64, u64); 6] = [(2, 3), (3, 4), (4, 5), (5, 7), (6, 7), (7, 8)];
 
-/// The calls of the checkpointer that take a value, counted after those that prepare the checkpoint:
-/// the write of the only chunk, and all up to the sync of the closed half.
+/// The calls of the checkpointer that take a value, counted after those that prepare the
+/// checkpoint: the write of the only chunk, and all up to the sync of the closed half.
 const CHECKPOINTER_CALLS: [u64; 6] = [2, 3, 4, 5, 6, 7];
 
 /// Sees that a loop met one stranger, gave it up by the call of this number, and ended by the next

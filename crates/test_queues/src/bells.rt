@@ -97,8 +97,8 @@ impl Desks {
         }
     }
 
-    /// Asks at the desk of a number, and waits for each answer as a session does over a hub. A sleep
-    /// that ends although the bell has not rung is counted.
+    /// Asks at the desk of a number, and waits for each answer as a session does over a hub. A
+    /// sleep that ends although the bell has not rung is counted.
     fn ask_all<R: Wait>(&self, rt: &R, ringer: &Ringer, number: u64) {
         for desk in self.desks.iter().skip(number as usize).take(1) {
             for round in 1..=ROUNDS {
@@ -159,8 +159,8 @@ impl Desks {
     }
 }
 
-/// Runs those who ask, one who answers, and the ringer, each in a thread. For whom no thread was given
-/// is answered at once. Whether there was a thread for each.
+/// Runs those who ask, one who answers, and the ringer, each in a thread. For whom no thread was
+/// given is answered at once. Whether there was a thread for each.
 fn ask_and_answer<R: Wait + Threads + Sync>(rt: &R, ringer: &Ringer, desks: &Desks) -> bool {
     thread::scope(thread::scope_env(), rt, |all| {
         if all.spawn(move || ringer.run(rt)).is_err() {

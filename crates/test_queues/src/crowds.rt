@@ -12,7 +12,7 @@ use std::sync::atomic::{AtomicU64, Ordering};
 use std::test::Fail;
 use std::time::Clock;
 use test_hub_scripts::folds::{Act, Ledger, act_of, command_of, counts_of};
-use test_hub_scripts::stores::{new_store, opens_to};
+use test_hub_scripts::stores::{Contents, assert_opens_to, new_store};
 
 /// How many guests there are.
 const GUESTS: u64 = 64;
@@ -128,11 +128,11 @@ fn sixty_four_guests_beside_checkpoints(rt: HostRuntime) -> Result<(), Fail> {
     let seals = guests.errand.seals.load(Ordering::SeqCst);
     let checkpoints = guests.errand.checkpoints.load(Ordering::SeqCst);
     assert!(rt; SEALS <= seals && 1 <= checkpoints, "{seals} {checkpoints}");
-    let _device = opens_to(
-        &host,
-        alloc,
-        device,
-        (rows, (rows as u64).saturating_mul(93), ALL),
-    );
+    let wanted = Contents {
+        rows,
+        bytes: (rows as u64).saturating_mul(93),
+        place: ALL,
+    };
+    let _device = assert_opens_to(&host, alloc, device, wanted);
     Ok(())
 }

@@ -15,7 +15,7 @@ use std::thread::Threads;
 use std::time::Clock;
 use store_open::{Store, open};
 use test_hub_scripts::doors::{Door, Holds, Latch};
-use test_hub_scripts::stores::{LEAST, formatted, opened, opens_to};
+use test_hub_scripts::stores::{Contents, LEAST, assert_opens_to, formatted, opened};
 
 /// How many calls of the device are tried.
 const MANY: u64 = 1000;
@@ -292,7 +292,7 @@ fn assert_answered<R: Wait + Clock + Threads + Abort + Copy + Drop + Send + Sync
     let (tally, device) = answered(rt, alloc, number, waiting, true);
     let wanted = wanted(row.committed, row.stopped, waiting);
     assert_eq!(&rt; tally, wanted, "{row:?}, {waiting} waiting");
-    let _device = opens_to(&Host(rt), alloc, device, (0, 0, row.opens));
+    let _device = assert_opens_to(&Host(rt), alloc, device, Contents::empty_at(row.opens));
 }
 
 #[test]
@@ -322,7 +322,7 @@ fn failed_first_write(rt: HostRuntime) -> Result<(), Fail> {
         assert!(rt; is_a_group, "{tally:?}, {waiting} waiting");
         let wanted = wanted(0, tally.stopped, waiting);
         assert_eq!(rt; tally, wanted, "{waiting} waiting");
-        let _device = opens_to(&Host(&rt), alloc, device, (0, 0, 0));
+        let _device = assert_opens_to(&Host(&rt), alloc, device, Contents::empty_at(0));
     }
     Ok(())
 }

@@ -1,6 +1,6 @@
 //! Want of memory while commands are handed in ahead. The tests are run with each of their
-//! allocations refused in turn: a command that is refused takes no place, and is accepted when it is
-//! handed in again.
+//! allocations refused in turn: a command that is refused takes no place, and is accepted when it
+//! is handed in again.
 
 use crate::crews::{Errand, Guests, nap};
 use crate::host::Host;
@@ -18,7 +18,9 @@ use std::thread::Threads;
 use std::time::Clock;
 use store_open::Store;
 use test_hub_scripts::doors::{Door, Holds, Latch};
-use test_hub_scripts::stores::{LEAST, assert_pair, formatted, opened, opens_to};
+use test_hub_scripts::stores::{
+    Contents, LEAST, assert_contents, assert_opens_to, contents_of, formatted, opened,
+};
 
 /// How many commands are handed in while a sync is held: the queue grows several times.
 const AHEAD: u64 = 100;
@@ -30,8 +32,8 @@ const NAPS: u64 = 10;
 /// How many naps the second guest waits for a sync to be held.
 const MOST_NAPS: u64 = 400;
 
-/// The first guest hands a purge in, waits until its sync is held, hands more in, and sees that they
-/// are committed in their order. The second guest lets the sync go on where it has to.
+/// The first guest hands a purge in, waits until its sync is held, hands more in, and sees that
+/// they are committed in their order. The second guest lets the sync go on where it has to.
 #[derive(Drop)]
 struct Grows<'a> {
     alloc: Global,
@@ -136,7 +138,7 @@ fn grown<R: Wait + Clock + Threads + Abort + Copy + Drop + Send + Sync>(
     };
     assert!(&rt; matches!(refused, HubError::NoMemory | HubError::NoReader));
     let store = held_store(rt, alloc, door, device);
-    assert_pair(&host, &store, (0, 0, 0));
+    assert_contents(&host, contents_of(&store), Contents::empty_at(0));
     door.arm(&rt);
     let (device, _left, again) = with_crew(rt, alloc, store, 1, guests);
     assert_eq!(&rt; again, Ok(2));
@@ -159,6 +161,6 @@ fn refused_commands_may_be_handed_in_again(rt: HostRuntime) -> Result<(), Fail> 
     let settled = guests.errand.settled.load(Ordering::SeqCst);
     // Where no thread was given for the first guest, nobody has handed a purge in.
     assert!(rt; settled == AHEAD + 1 || (settled == 0 && guests.missed() == 1));
-    let _device = opens_to(&host, alloc, device, (0, 0, settled));
+    let _device = assert_opens_to(&host, alloc, device, Contents::empty_at(settled));
     Ok(())
 }

@@ -8,7 +8,9 @@ use std::alloc::Global;
 use std::process::Abort;
 use std::test::Fail;
 use test_group_scripts::acts::INSERTED;
-use test_group_scripts::stores::{assert_half, opened, opens_to, register, sealed_store};
+use test_group_scripts::stores::{
+    Contents, assert_half, assert_opens_to, opened, register, sealed_store,
+};
 use test_group_scripts::work::{Paid, Told, Work, work_of};
 use test_support::assert_same;
 
@@ -108,6 +110,11 @@ fn refused_calls_may_be_tried_again(rt: HostRuntime) -> Result<(), Fail> {
     }
     let store = opened(&host, rt.alloc(), work.device(&host));
     assert_half(&host, &store, (2, false));
-    let _device = opens_to(&host, rt.alloc(), store.into_device(), (4, 372, 4));
+    let wanted = Contents {
+        rows: 4,
+        bytes: 372,
+        place: 4,
+    };
+    let _device = assert_opens_to(&host, rt.alloc(), store.into_device(), wanted);
     Ok(())
 }

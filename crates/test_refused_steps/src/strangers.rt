@@ -11,7 +11,7 @@ use std::alloc::Global;
 use std::process::Abort;
 use std::test::Fail;
 use test_group_scripts::stores::{
-    change, new_store, opened, opens_to, register, sealed_store, told,
+    Contents, assert_opens_to, change, new_store, opened, opened_contents, register, sealed_store,
 };
 use test_group_scripts::work::{Group, Round, Told, Work, state_of, work_of};
 use test_support::assert_same;
@@ -198,7 +198,12 @@ fn strangers_come_back(rt: HostRuntime) -> Result<(), Fail> {
     let (_device, _show) = other.into_parts();
     let (_device, _show) = halted.into_parts();
     work.redeems_at(&host, 1);
-    let _device = opens_to(&host, rt.alloc(), work.device(&host), (2, 186, 2));
+    let wanted = Contents {
+        rows: 2,
+        bytes: 186,
+        place: 2,
+    };
+    let _device = assert_opens_to(&host, rt.alloc(), work.device(&host), wanted);
     Ok(())
 }
 
@@ -256,7 +261,12 @@ fn assert_one_of_each(rt: &Host<impl Abort>, alloc: Global, pending: usize) {
     if pending == 1 {
         stages_none(rt, &mut work, StageError::Empty);
     }
-    let _device = work.ends(rt, (1, 93, pending.min(32) as u64 + 1));
+    let wanted = Contents {
+        rows: 1,
+        bytes: 93,
+        place: pending.min(32) as u64 + 1,
+    };
+    let _device = work.ends(rt, wanted);
 }
 
 #[test]
@@ -288,16 +298,16 @@ fn assert_halted(rt: &Host<impl Abort>, alloc: Global, steps: usize) {
     work.state.halt();
     stages_none(rt, &mut work, StageError::Stopped);
     begins_none(rt, &mut work, BeginError::Stopped);
-    let (device, (_, _, shown)) = work.end(rt);
+    let (device, shown) = work.end(rt);
     // A group that is durable is published where the state has stopped too.
-    assert_same(rt, &shown, if steps == 5 { &6 } else { &1 }, &steps);
-    let ((_, _, place), _device) = told(rt, alloc, device);
+    assert_same(rt, &shown.place, if steps == 5 { &6 } else { &1 }, &steps);
+    let (left, _device) = opened_contents(rt, alloc, device);
     let wanted = if steps > 3 {
         (steps as u64).saturating_add(1)
     } else {
         1
     };
-    assert_same(rt, &place, &wanted, &steps);
+    assert_same(rt, &left.place, &wanted, &steps);
 }
 
 #[test]

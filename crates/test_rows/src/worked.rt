@@ -45,7 +45,7 @@ pub(crate) fn four(alloc: Global) -> Result<Registration, Fail> {
     Ok(Registration::new(rows))
 }
 
-// ---- databases: no test needs a fact about one, so these calls, which have no contracts, keep the tests' proofs short
+// ---- databases: no test needs a fact about one, and calls without contracts keep the proofs short
 
 /// A database without rows.
 pub(crate) fn no_rows(alloc: Global) -> PathDb {

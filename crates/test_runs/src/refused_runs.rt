@@ -11,7 +11,7 @@ use std::process::Abort;
 use std::test::Fail;
 use test_group_scripts::acts::{Act, GONE, INSERTED, Line, Said, event_of, events_of, heard};
 use test_group_scripts::runs::{done, ended};
-use test_group_scripts::stores::{assert_pair, opens_to, pair_of};
+use test_group_scripts::stores::{Contents, assert_contents, assert_opens_to, contents_at};
 use test_support::assert_same;
 
 /// The events and answers of a state whose store was sealed at place 1, after the segment left by
@@ -117,12 +117,19 @@ fn told_events(rt: &Host<impl Abort>, alloc: Global, count: usize) -> Run<MemDev
     held
 }
 
+/// What the store has once all events are done.
+const COMMITTED: Contents = Contents {
+    rows: 2,
+    bytes: 186,
+    place: 4,
+};
+
 #[test]
 fn refused_events_may_be_tried_again(rt: HostRuntime) -> Result<(), Fail> {
     let host = Host(&rt);
     let held = told_events(&host, rt.alloc(), usize::MAX);
     let (place, db) = rested(&host, rt.alloc(), held);
-    assert_pair(&host, pair_of(&db, place), (2, 186, 4));
+    assert_contents(&host, contents_at(&db, place), COMMITTED);
     Ok(())
 }
 
@@ -138,7 +145,7 @@ fn refused_ends_may_be_tried_again(rt: HostRuntime) -> Result<(), Fail> {
             ended(&host, held)
         }
     };
-    let _device = opens_to(&host, rt.alloc(), device, (2, 186, 4));
+    let _device = assert_opens_to(&host, rt.alloc(), device, COMMITTED);
     Ok(())
 }
 

@@ -8,7 +8,9 @@ use std::process::Abort;
 use std::test::Fail;
 use store_open::{OpenError, open};
 use test_group_scripts::acts::NOTHING;
-use test_group_scripts::stores::{TEARS, old_store, opened, opens_to, read_sector, told};
+use test_group_scripts::stores::{
+    Contents, TEARS, assert_opens_to, old_store, opened, opened_contents, read_sector,
+};
 use test_group_scripts::work::{Group, Paid, Told, Work, work_of};
 use test_support::assert_same;
 
@@ -71,12 +73,12 @@ fn three_groups_follow_each_other(rt: HostRuntime) -> Result<(), Fail> {
     for place in 0..20 {
         work.redeems(&host, 0, Paid::Committed(place, NOTHING));
     }
-    let mut device = work.ends(&host, (0, 0, 20));
+    let mut device = work.ends(&host, Contents::empty_at(20));
     for (at, wanted) in &PAYLOADS {
         let sector = read_sector(&mut device, *at);
         assert!(rt; sector.starts_with(wanted), "{at}");
     }
-    let _device = opens_to(&host, rt.alloc(), device, (0, 0, 20));
+    let _device = assert_opens_to(&host, rt.alloc(), device, Contents::empty_at(20));
     Ok(())
 }
 
@@ -97,7 +99,7 @@ fn stopped_groups(
     let mut work = work_of(rt, alloc, store);
     work.purge(rt, PURGES);
     let (work, made) = committed(rt, work);
-    let (device, _pair) = work.end(rt);
+    let (device, _shown) = work.end(rt);
     (Some(made), device.into_mem())
 }
 
@@ -125,9 +127,9 @@ fn assert_groups_stop(rt: &Host<impl Abort>, alloc: Global, tear: Tear) {
         let Some(made) = made else {
             continue;
         };
-        let (pair, _device) = told(rt, alloc, device);
-        let wanted = (0, 0, place_after(made, tear));
-        assert_same(rt, &pair, &wanted, &(made, tear.keep, tear.fill));
+        let (contents, _device) = opened_contents(rt, alloc, device);
+        let wanted = Contents::empty_at(place_after(made, tear));
+        assert_same(rt, &contents, &wanted, &(made, tear.keep, tear.fill));
         assert_same(rt, &Some(&made), &MADE.get(stops), &calls);
         stops = stops.saturating_add(1);
         if stops == MADE.len() {

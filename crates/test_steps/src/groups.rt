@@ -6,7 +6,9 @@ use std::alloc::Global;
 use std::process::Abort;
 use std::test::Fail;
 use test_group_scripts::acts::NOTHING;
-use test_group_scripts::stores::{new_store, old_store, opened, opens_to, read_sector};
+use test_group_scripts::stores::{
+    Contents, assert_opens_to, new_store, old_store, opened, read_sector,
+};
 use test_group_scripts::work::{Paid, Work, work_of};
 
 /// A version, how many commands a group takes at most, and how the payloads of two groups begin: of
@@ -86,11 +88,11 @@ fn assert_groups(
 ) {
     let store = opened(rt, alloc, store_of(rt, alloc, version));
     let work = two_groups(rt, work_of(rt, alloc, store), most, newest_first);
-    let pair = (0, 0, (most as u64).saturating_add(1));
-    let mut device = work.ends(rt, pair);
+    let wanted = Contents::empty_at((most as u64).saturating_add(1));
+    let mut device = work.ends(rt, wanted);
     assert_begins(rt, &mut device, 5, first);
     assert_begins(rt, &mut device, 7, second);
-    let _device = opens_to(rt, alloc, device, pair);
+    let _device = assert_opens_to(rt, alloc, device, wanted);
 }
 
 #[test]

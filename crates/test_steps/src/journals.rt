@@ -6,7 +6,9 @@ use sector_dev::{Device, MemDevice};
 use std::alloc::Global;
 use std::process::Abort;
 use std::test::Fail;
-use test_group_scripts::stores::{GROUPS, new_store, opened, opens_to, read_sector};
+use test_group_scripts::stores::{
+    Contents, GROUPS, assert_opens_to, new_store, opened, read_sector,
+};
 use test_group_scripts::work::{Paid, Told, Work, work_of};
 
 /// The seal of the first half, after these groups.
@@ -114,12 +116,13 @@ fn journal_fills_then_seal_then_no_room(rt: HostRuntime) -> Result<(), Fail> {
     let host = Host(&rt);
     let store = opened(&host, rt.alloc(), new_store(&host, rt.alloc()));
     let work = filled(&host, work_of(&host, rt.alloc(), store));
-    let pair = (0, 0, 2 * GROUPS);
-    let device = without_room(&host, work).ends(&host, pair);
+    let full = Contents::empty_at(2 * GROUPS);
+    let device = without_room(&host, work).ends(&host, full);
     let device = assert_begin(&host, device, &FULL);
-    let device = opens_to(&host, rt.alloc(), device, pair);
+    let device = assert_opens_to(&host, rt.alloc(), device, full);
     let device = sealed_again(&host, rt.alloc(), device);
-    let device = opens_to(&host, rt.alloc(), device, (0, 0, 2 * GROUPS + 1));
+    let purged = Contents::empty_at(2 * GROUPS + 1);
+    let device = assert_opens_to(&host, rt.alloc(), device, purged);
     let _device = assert_begin(&host, device, &SEALED);
     Ok(())
 }

@@ -8,7 +8,9 @@ use seg_core::SegType;
 use std::alloc::Global;
 use std::process::Abort;
 use std::test::Fail;
-use test_group_scripts::stores::{change, new_store, old_store, opened, opens_to, register};
+use test_group_scripts::stores::{
+    Contents, assert_opens_to, change, new_store, old_store, opened, register,
+};
 use test_group_scripts::work::{Paid, Work, work_of};
 use test_support::assert_same;
 
@@ -80,8 +82,13 @@ fn busy_and_full(rt: HostRuntime) -> Result<(), Fail> {
     for place in 0..257 {
         work.redeems(&host, 0, Paid::Committed(place, outcome_at(place)));
     }
-    let device = work.ends(&host, (10, 930, 257));
-    let _device = opens_to(&host, rt.alloc(), device, (10, 930, 257));
+    let full = Contents {
+        rows: 10,
+        bytes: 930,
+        place: 257,
+    };
+    let device = work.ends(&host, full);
+    let _device = assert_opens_to(&host, rt.alloc(), device, full);
     Ok(())
 }
 
@@ -177,7 +184,7 @@ fn assert_answer(rt: &Host<impl Abort>, alloc: Global, case: &Case) {
     }
     let answer = work.submit(rt, command_of(rt, alloc, case.kind));
     assert_same(rt, &answer, &case.answer, case);
-    let _device = work.ends(rt, (0, 0, case.place));
+    let _device = work.ends(rt, Contents::empty_at(case.place));
 }
 
 #[test]

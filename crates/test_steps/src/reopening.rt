@@ -8,7 +8,9 @@ use std::alloc::Global;
 use std::process::Abort;
 use std::test::Fail;
 use store_open::{OpenError, Store};
-use test_group_scripts::stores::{assert_pair, new_store, opened, pair_of, register};
+use test_group_scripts::stores::{
+    Contents, assert_contents, contents_of, new_store, opened, register,
+};
 use test_group_scripts::work::{Work, work_of};
 
 /// The state of work whose outcomes are still kept comes back.
@@ -57,7 +59,12 @@ fn state_at_rest_is_reopened(rt: HostRuntime) -> Result<(), Fail> {
     let mut work = comes_back(&host, alloc, work).flushes_group(&host);
     work.redeems_all(&host, 1);
     let store = reopened(&host, alloc, work.at_rest(&host));
-    assert_pair(&host, pair_of(store.db(), store.place()), (1, 93, 1));
+    let wanted = Contents {
+        rows: 1,
+        bytes: 93,
+        place: 1,
+    };
+    assert_contents(&host, contents_of(&store), wanted);
     let _device = store.into_device();
     Ok(())
 }

@@ -9,7 +9,9 @@ use std::alloc::Global;
 use std::process::Abort;
 use std::test::Fail;
 use store_open::Store;
-use test_group_scripts::stores::{assert_half, opened, opens_to, register, sealed_store};
+use test_group_scripts::stores::{
+    Contents, assert_half, assert_opens_to, opened, register, sealed_store,
+};
 use test_group_scripts::work::{Paid, Told, Work, work_of};
 use test_support::ID;
 
@@ -38,7 +40,12 @@ fn assert_round(rt: &Host<impl Abort>, alloc: Global, before: u64) {
     work.redeems_all(rt, 1);
     let store = opened(rt, alloc, work.device(rt));
     assert_half(rt, &store, (2, false));
-    let _device = opens_to(rt, alloc, store.into_device(), (2, 186, 2));
+    let wanted = Contents {
+        rows: 2,
+        bytes: 186,
+        place: 2,
+    };
+    let _device = assert_opens_to(rt, alloc, store.into_device(), wanted);
 }
 
 #[test]
@@ -91,6 +98,11 @@ fn removals_are_accepted_once_the_new_half_counts(rt: HostRuntime) -> Result<(),
     work.redeems(&host, 0, Paid::Committed(1, PURGED));
     let store = opened(&host, rt.alloc(), work.device(&host));
     assert_version(&host, &store, (2, false));
-    let _device = opens_to(&host, rt.alloc(), store.into_device(), (0, 0, 2));
+    let _device = assert_opens_to(
+        &host,
+        rt.alloc(),
+        store.into_device(),
+        Contents::empty_at(2),
+    );
     Ok(())
 }

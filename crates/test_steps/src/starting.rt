@@ -10,7 +10,8 @@ use std::process::Abort;
 use std::test::Fail;
 use store_open::{Store, StoreError, open};
 use test_group_scripts::stores::{
-    Pair, REGISTERED, SEAL, change, new_store, old_store, opened, opens_to, register, segment,
+    Contents, REGISTERED, SEAL, assert_opens_to, change, new_store, old_store, opened, register,
+    segment,
 };
 use test_group_scripts::work::{Told, assert_stopped, work_of};
 use test_support::assert_same;
@@ -67,7 +68,12 @@ fn place_at_maximum(rt: HostRuntime) -> Result<(), Fail> {
         work.submits(&host, Command::Purge(0), Err(SubmitError::Exhausted));
     }
     let work = work.flushes(&host, Told::Stage(StageError::Empty));
-    let _device = opens_to(&host, rt.alloc(), work.device(&host), (0, 0, u64::MAX));
+    let _device = assert_opens_to(
+        &host,
+        rt.alloc(),
+        work.device(&host),
+        Contents::empty_at(u64::MAX),
+    );
     Ok(())
 }
 
@@ -104,8 +110,13 @@ const PURGE: [u8; 29] = [
 ];
 
 /// Sees that a device opens to this, and that a state of its store has stopped.
-fn assert_larger(rt: &Host<impl Abort>, alloc: Global, device: MemDevice, pair: Pair) -> MemDevice {
-    let device = opens_to(rt, alloc, device, pair);
+fn assert_larger(
+    rt: &Host<impl Abort>,
+    alloc: Global,
+    device: MemDevice,
+    wanted: Contents,
+) -> MemDevice {
+    let device = assert_opens_to(rt, alloc, device, wanted);
     assert_stopped(rt, work_of(rt, alloc, opened(rt, alloc, device)))
 }
 
@@ -128,19 +139,29 @@ fn assert_sealed(rt: &Host<impl Abort>, store: &Store<MemDevice>, len: u64) {
 fn fold_larger_than_area(rt: HostRuntime) -> Result<(), Fail> {
     let host = Host(&rt);
     let device = overfull_store(&host, rt.alloc());
-    let mut device = assert_larger(&host, rt.alloc(), device, (11, 1023, 1));
+    let eleven = Contents {
+        rows: 11,
+        bytes: 1023,
+        place: 1,
+    };
+    let mut device = assert_larger(&host, rt.alloc(), device, eleven);
     // After a seal all rows are purged, but those up to the seal have no room.
     purge_behind_a_seal(&mut device);
     let store = opened(&host, rt.alloc(), device);
     assert_sealed(&host, &store, 1023);
-    let _device = assert_larger(&host, rt.alloc(), store.into_device(), (0, 0, 2));
+    let _device = assert_larger(
+        &host,
+        rt.alloc(),
+        store.into_device(),
+        Contents::empty_at(2),
+    );
     Ok(())
 }
 
 /// Sees that a state of a store whose checkpoint failed has stopped, and that nothing is there.
 fn assert_broken(rt: &Host<impl Abort>, alloc: Global, store: Store<FaultDevice>) {
     let device = assert_stopped(rt, work_of(rt, alloc, store));
-    let _device = opens_to(rt, alloc, device.into_mem(), (0, 0, 0));
+    let _device = assert_opens_to(rt, alloc, device.into_mem(), Contents::empty_at(0));
 }
 
 /// Makes a checkpoint of a store, and sees that a state of the store has stopped where that failed:

@@ -11,7 +11,7 @@ use std::test::Fail;
 use store_open::{OpenError, open};
 use test_group_scripts::acts::{INSERTED, query, shown};
 use test_group_scripts::stores::{
-    Pair, TEARS, new_store, opened, opens_to, register, sealed_store, told,
+    Contents, TEARS, assert_opens_to, new_store, opened, opened_contents, register, sealed_store,
 };
 use test_group_scripts::work::{Paid, Told, Work, assert_stopped, assert_told, work_of};
 use test_support::assert_same;
@@ -36,7 +36,7 @@ fn stopped_group(
     let mut work = work_of(rt, alloc, store);
     work.submits(rt, Command::Purge(5), Ok(0));
     let (work, made) = flushed(rt, work);
-    let (device, _pair) = work.end(rt);
+    let (device, _shown) = work.end(rt);
     (Some(made), device.into_mem())
 }
 
@@ -75,8 +75,9 @@ fn stopped_group_at(rt: &Host<impl Abort>, alloc: Global, calls: u64, tear: Tear
         Some(made) => place_after(made, tear),
         None => 0,
     };
-    let (pair, _device) = told(rt, alloc, device);
-    assert_same(rt, &pair, &(0, 0, place), &(made, tear.keep, tear.fill));
+    let (contents, _device) = opened_contents(rt, alloc, device);
+    let wanted = Contents::empty_at(place);
+    assert_same(rt, &contents, &wanted, &(made, tear.keep, tear.fill));
     made
 }
 
@@ -106,8 +107,12 @@ fn stop_within_group_writes(rt: HostRuntime) -> Result<(), Fail> {
     Ok(())
 }
 
-/// What the sealed store represents with a group in the other journal for each of two segments.
-const PAIR: Pair = (3, 279, 3);
+/// What the sealed store has with a group in the other journal for each of two segments.
+const THREE_ROWS: Contents = Contents {
+    rows: 3,
+    bytes: 279,
+    place: 3,
+};
 
 /// A sealed store with these groups.
 fn with_two_groups(rt: &Host<impl Abort>, alloc: Global) -> MemDevice {
@@ -135,7 +140,7 @@ fn stopped_round(
         }
     };
     let (work, made) = checked(rt, work_of(rt, alloc, store));
-    let device = work.ends(rt, PAIR);
+    let device = work.ends(rt, THREE_ROWS);
     (Some(made), device.into_mem())
 }
 
@@ -180,7 +185,7 @@ fn epoch_after(made: u64, tear: Tear) -> u64 {
 fn assert_opens(rt: &Host<impl Abort>, alloc: Global, device: MemDevice, epoch: u64) -> MemDevice {
     let store = opened(rt, alloc, device);
     assert_same(rt, &store.epoch(), &epoch, &"epoch");
-    opens_to(rt, alloc, store.into_device(), PAIR)
+    assert_opens_to(rt, alloc, store.into_device(), THREE_ROWS)
 }
 
 /// Sees where a round's stop is with this tear, which lets this number of calls pass: in the step
@@ -433,6 +438,11 @@ fn assert_failed(rt: &Host<impl Abort>, alloc: Global, made: u64, work: Work<Fau
     let epoch = 1 + u64::from(made > 9);
     let store = opened(rt, alloc, device);
     assert_same(rt, &store.epoch(), &epoch, &made);
-    let (pair, _device) = told(rt, alloc, store.into_device());
-    assert_same(rt, &pair, &(place as usize, 93 * place, place), &made);
+    let (contents, _device) = opened_contents(rt, alloc, store.into_device());
+    let wanted = Contents {
+        rows: place as usize,
+        bytes: 93 * place,
+        place,
+    };
+    assert_same(rt, &contents, &wanted, &made);
 }

@@ -2,14 +2,14 @@
 //! them in turn.
 
 use crate::host::Host;
-use crate::large_rows::{LARGE_PAIR, large_half};
+use crate::large_rows::{LARGE_CONTENTS, large_half};
 use group_core::{BeginError, Prepared};
 use sector_dev::{FaultDevice, MemDevice};
 use std::alloc::Global;
 use std::process::Abort;
 use std::test::Fail;
 use store_open::{OpenError, open};
-use test_group_scripts::stores::opens_to;
+use test_group_scripts::stores::assert_opens_to;
 use test_group_scripts::work::{Round, Told, Work, assert_stopped, assert_told, work_of};
 use test_support::{TestHost, assert_same};
 
@@ -29,9 +29,9 @@ enum Failed {
     None,
 }
 
-/// Begins a checkpoint of a device of which the call of this number fails, after all pieces of it or
-/// none are prepared, and writes it up to its last sector: where the device failed. A state of which
-/// it did has stopped.
+/// Begins a checkpoint of a device of which the call of this number fails, after all pieces of it
+/// or none are prepared, and writes it up to its last sector: where the device failed. A state of
+/// which it did has stopped.
 fn failed_at(
     rt: &Host<impl Abort>,
     alloc: Global,
@@ -103,11 +103,11 @@ fn written(rt: &Host<impl Abort>, work: Work<FaultDevice>) -> (Failed, MemDevice
             return (Failed::Chunk, assert_stopped(rt, work).into_mem());
         }
     }
-    (Failed::None, work.ends(rt, LARGE_PAIR).into_mem())
+    (Failed::None, work.ends(rt, LARGE_CONTENTS).into_mem())
 }
 
-/// How many calls of `prepare`, `begin` and `write_chunk` fail in turn. Each time the device opens to
-/// the same.
+/// How many calls of `prepare`, `begin` and `write_chunk` fail in turn. Each time the device opens
+/// to the same.
 fn failures(
     rt: &Host<impl Abort>,
     alloc: Global,
@@ -121,7 +121,7 @@ fn failures(
     for number in 0..MANY {
         let failed;
         (failed, device) = failed_at(rt, alloc, device, number, is_prepared);
-        device = opens_to(rt, alloc, device, LARGE_PAIR);
+        device = assert_opens_to(rt, alloc, device, LARGE_CONTENTS);
         match failed {
             Failed::Opening => {}
             Failed::Prepare => prepares = prepares.saturating_add(1),

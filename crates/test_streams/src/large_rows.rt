@@ -8,7 +8,7 @@ use crate::sealed::sealed_half;
 use path_db::{Command, PathDb};
 use sector_dev::MemDevice;
 use std::alloc::Global;
-use test_group_scripts::stores::{Pair, large};
+use test_group_scripts::stores::{Contents, large};
 use test_support::{EXPIRY, TestHost};
 
 /// The rows of 1 to 20, of which those of 9 to 16 were made earlier: 327,780 bytes, in 641 sectors
@@ -42,8 +42,12 @@ pub fn large_commands(rt: &impl TestHost, alloc: Global) -> Vec<Command> {
     commands
 }
 
-/// What such a store represents: 20 rows, and 2, without 1 and 8.
-pub const LARGE_PAIR: Pair = (13, 13 * 16_389, 3);
+/// What such a store has: 20 rows, and 2, without 1 and 8.
+pub const LARGE_CONTENTS: Contents = Contents {
+    rows: 13,
+    bytes: 13 * 16_389,
+    place: 3,
+};
 
 /// A store of version 2 whose first half has these rows, with a sealed journal of these commands.
 pub fn large_half(rt: &impl TestHost, alloc: Global) -> MemDevice {

@@ -1,8 +1,8 @@
-//! A device of which one read lies once a checkpoint is begun: the lie is noticed, and no byte of it
-//! is written.
+//! A device of which one read lies once a checkpoint is begun: the lie is noticed, and no byte of
+//! it is written.
 
 use crate::host::Host;
-use crate::large_rows::{LARGE_PAIR, large_half};
+use crate::large_rows::{LARGE_CONTENTS, large_half};
 use crate::sealed::{SECTORS, sectors_from};
 use crate::watched::{Change, Watched};
 use group_core::{BeginError, StepError};
@@ -10,7 +10,7 @@ use sector_dev::MemDevice;
 use std::alloc::Global;
 use std::process::Abort;
 use std::test::Fail;
-use test_group_scripts::stores::{opened, told};
+use test_group_scripts::stores::{opened, opened_contents};
 use test_group_scripts::work::{Told, work_of};
 use test_support::{TestHost, assert_same};
 
@@ -31,13 +31,13 @@ fn reads_of_begin(rt: &Host<impl Abort>, alloc: Global) -> u64 {
     let store = opened(rt, alloc, watched(rt, alloc, u64::MAX));
     let work = work_of(rt, alloc, store).checks(rt, Told::Done);
     let reads = work.state.device().reads();
-    let _device = work.ends(rt, LARGE_PAIR);
+    let _device = work.ends(rt, LARGE_CONTENTS);
     reads
 }
 
 /// The bytes of a store after a checkpoint was begun over a device whose next read lies: the first
-/// chunk is written, what is read after it is refused, and the state has stopped. The store opens to
-/// the rows of its old half.
+/// chunk is written, what is read after it is refused, and the state has stopped. The store opens
+/// to the rows of its old half.
 fn bytes_after_a_lie(rt: &Host<impl Abort>, alloc: Global, honest: u64) -> Vec<u8> {
     let store = opened(rt, alloc, watched(rt, alloc, honest));
     let mut work = work_of(rt, alloc, store);
@@ -54,8 +54,8 @@ fn bytes_after_a_lie(rt: &Host<impl Abort>, alloc: Global, honest: u64) -> Vec<u
     }
     let (changes, memory) = work.device(rt).into_parts();
     assert!(rt.0; changes.ends_with(&CHANGES), "{changes:?}");
-    let (pair, mut memory) = told(rt, alloc, memory);
-    assert_same(rt, &pair, &LARGE_PAIR, &"the old half");
+    let (contents, mut memory) = opened_contents(rt, alloc, memory);
+    assert_same(rt, &contents, &LARGE_CONTENTS, &"the old half");
     sectors_from(rt, alloc, &mut memory, 0, SECTORS as usize)
 }
 

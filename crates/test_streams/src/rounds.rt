@@ -4,7 +4,7 @@ use crate::sealed::{AREA, SECOND_AREA, checkpoint_of, sectors_from};
 use path_db::PathDb;
 use sector_dev::{Device, MemDevice};
 use std::alloc::Global;
-use test_group_scripts::stores::{Pair, opened, pair_of};
+use test_group_scripts::stores::opened;
 use test_group_scripts::work::{Told, Work};
 use test_support::{TestHost, assert_same, assert_true};
 
@@ -78,9 +78,4 @@ pub fn assert_opens(
     let wanted = checkpoint_of(rt, alloc, db, 2, place);
     assert_true(rt, found == wanted, "the rows are those");
     store.into_device()
-}
-
-/// What rows at a place are given as.
-pub fn pair_at(db: &PathDb, place: u64) -> Pair {
-    pair_of(db, place)
 }

@@ -2,7 +2,7 @@
 
 use crate::commands::{add, fold, mixed, registrations, removal_of, room};
 use crate::host::Host;
-use crate::large_rows::{LARGE_PAIR, large_commands, large_olds};
+use crate::large_rows::{LARGE_CONTENTS, large_commands, large_olds};
 use crate::rounds::{assert_area, assert_opens, whole_round};
 use crate::sealed::sealed_half;
 use path_db::{Command, PathDb};
@@ -10,7 +10,7 @@ use sector_dev::MemDevice;
 use std::alloc::Global;
 use std::process::Abort;
 use std::test::Fail;
-use test_group_scripts::stores::opened;
+use test_group_scripts::stores::{Contents, opened};
 use test_group_scripts::work::work_of;
 use test_support::assert_same;
 
@@ -64,7 +64,7 @@ fn large_over_large(rt: HostRuntime) -> Result<(), Fail> {
     let host = Host(&rt);
     let olds = large_olds(&host, rt.alloc());
     let commands = large_commands(&host, rt.alloc());
-    let (rows, bytes, _place) = LARGE_PAIR;
+    let Contents { rows, bytes, .. } = LARGE_CONTENTS;
     assert_streamed(&host, rt.alloc(), &olds, &commands, (rows, bytes));
     Ok(())
 }

@@ -23,8 +23,8 @@ pub struct Watched<D> {
 }
 
 impl<D> Watched<D> {
-    /// The device, of which the read after this number of reads lies. Where memory is refused for its
-    /// changes, it is asked for once more.
+    /// The device, of which the read after this number of reads lies. Where memory is refused for
+    /// its changes, it is asked for once more.
     pub fn over(rt: &impl TestHost, alloc: Global, device: D, honest: u64) -> Watched<D> {
         let room = match Vec::with_capacity(alloc, MOST_CHANGES) {
             Err(_) => Vec::with_capacity(alloc, MOST_CHANGES),

@@ -1,7 +1,7 @@
 //! The steps of both actors: what each of the flusher's takes, what it leads to, and which use the
 //! device.
 
-use test_group_scripts::acts::{Act, Line, Said};
+use crate::acts::{Act, Line, Said};
 
 /// What the flusher holds.
 #[derive(Clone, Copy, PartialEq, Eq)]

@@ -1,8 +1,8 @@
 //! Which calls of a device write or sync: between two of them a device stays as it is.
 
+use crate::stores::MOST_CHANGES;
 use sector_dev::{DevError, Device};
 use std::alloc::Global;
-use test_group_scripts::stores::MOST_CHANGES;
 use test_support::TestHost;
 
 /// A device that counts its calls, and notes the numbers of those that write or sync.
