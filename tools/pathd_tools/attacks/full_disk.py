@@ -15,6 +15,7 @@ from __future__ import annotations
 
 import os
 import subprocess
+import time
 from collections import Counter
 
 from pathd_model import model
@@ -24,6 +25,8 @@ from pathd_tools.attacks.refused_calls import STOPPED, Worlds, Wrong, called, ho
 SMALL = model.Layout(2, 516)
 PAGE = 4096
 COMMANDS = 90
+# How long a server may take to say that its store has stopped.
+SECONDS = 10
 
 
 def hold_round(program: str, folder: str, pages: int) -> str:
@@ -37,7 +40,7 @@ def hold_round(program: str, folder: str, pages: int) -> str:
     worlds = Worlds(model.open_image(store.read_bytes()))
     with runs.Server(program, store, notices=runs.Path(folder).parent / "notices") as server:
         hold_session(server, worlds, "ENOSPC", COMMANDS)
-        has_stopped = STOPPED in server.notices.read_text()
+        has_stopped = says_stopped(server, worlds.has_stopped)
     filler.unlink()
     if worlds.has_stopped != has_stopped:
         raise Wrong(f"with {pages} pages: commands are refused: {worlds.has_stopped}; the server says so: {has_stopped}")
@@ -46,6 +49,16 @@ def hold_round(program: str, folder: str, pages: int) -> str:
         raise Wrong(f"with {pages} pages `show` ends with the status {status}, {out[-20:]!r}, {err!r}")
     store.unlink()
     return "stopped" if has_stopped else "had room"
+
+
+def says_stopped(server: runs.Server, is_expected: bool) -> bool:
+    """Whether the server says that its store has stopped. A thread of its own prints that, so it may come after the replies."""
+    until = time.monotonic() + (SECONDS if is_expected else 0)
+    while STOPPED not in server.notices.read_text():
+        if time.monotonic() > until:
+            return False
+        time.sleep(0.01)
+    return True
 
 
 def main(words: list[str]) -> int:

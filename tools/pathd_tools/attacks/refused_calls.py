@@ -60,6 +60,10 @@ HOWS = {
 }
 # The kinds of calls that aren't about the store's device.
 BESIDE = {"accept", "clone", "thread", "receive", "send", "setting"}
+# What a command says where memory is refused for the path of its file, which the system opens by a copy, and how it ends then.
+OF_PATH, NO_PATH = b": out of memory\n", {"error: device 1"}
+# How a server is given up that says no address within ten seconds.
+NO_ADDRESS = "the server doesn't listen"
 # What a session is answered for which there is no thread, before its requests are read.
 NO_THREAD = b"\xff\x61"
 # What a command says where one of these ends it.
@@ -119,8 +123,7 @@ def try_command(program: str, store: Path, command: str, env: dict, kind: str, h
         return ended_beside(program, store, before, (status, out, err), wanted)
     lines = {"error: open 2", "error: device 1", "error: format 3"}
     if kind == "memory":
-        # The system's own allocations for a path are those of making the file.
-        lines = {"error: memory", "error: device 1"} if command == "format" else {"error: memory"}
+        lines = {"error: memory", *NO_PATH} if OF_PATH in err else {"error: memory"}
     line = runs.last_line(err)
     if status != 1 or not wanted[1].startswith(out) or line not in lines:
         raise Wrong(f"status {status}, {out!r}, {err!r}")
@@ -224,10 +227,10 @@ class Worlds:
         return any(out == model.show_text(self.fold(commands), self.place + len(commands)) for commands in self.lists)
 
 
-def first_lines(kind: str) -> set[str]:
+def first_lines(kind: str, said: str) -> set[str]:
     """What a server says that ends before it serves."""
     if kind == "memory":
-        return {"error: memory"}
+        return {"error: memory", *NO_PATH} if OF_PATH.decode() in said else {"error: memory"}
     return {"error: open 2", "error: device 1"} if kind == "fstat" else {"error: open 2"}
 
 
@@ -240,9 +243,11 @@ def try_session(program: str, store: Path, env: dict, kind: str, how: str, first
         server = runs.Server(program, store, env=env)
     except RuntimeError as ended:
         line = result = runs.last_line(str(ended).split("ended: ")[-1].encode())
-        if kind == "setting" and " serves " in Path(f"{store}.notices").read_text():
+        notices = Path(f"{store}.notices").read_text()
+        # A line of standard error that finds no memory is left out, and so may be the one with the address.
+        if (kind == "setting" and " serves " in notices) or (kind == "memory" and " opened " in notices and str(ended) == NO_ADDRESS):
             result = "served, and said no address"
-        elif not (BESIDE_LINES.fullmatch(line) if kind in BESIDE else line in first_lines(kind)) or how in PASSING:
+        elif not (BESIDE_LINES.fullmatch(line) if kind in BESIDE else line in first_lines(kind, str(ended))) or how in PASSING:
             raise Wrong(str(ended)) from ended
     else:
         with server:
