@@ -82,9 +82,9 @@ class Server:
         return int(re.search(rf"^{name}:\s+(\d+)", Path(f"/proc/{self.process.pid}/status").read_text(), re.M)[1])
 
     def processor_seconds(self) -> float:
-        """The seconds that the threads of the process ran on a processor so far."""
-        threads = Path(f"/proc/{self.process.pid}/task").iterdir()
-        return sum(int((thread / "schedstat").read_text().split()[0]) for thread in threads) / 1e9
+        """The seconds that the process ran on a processor so far, with those of threads that have ended."""
+        used = Path(f"/proc/{self.process.pid}/stat").read_text().rpartition(")")[2].split()
+        return (int(used[11]) + int(used[12])) / os.sysconf("SC_CLK_TCK")
 
     def wait_for_sessions(self, threads: int) -> None:
         """Waits until the sessions that have left are gone, which leaves so many threads."""

@@ -3,23 +3,28 @@
     bench/pathd-bench plots CSV FOLDER
 
 FOLDER gets KIND.svg for each kind of figures: bars up to the median, with a line from the least to
-the greatest, over an axis of logarithms. The table is Markdown, on standard output: for each figure
-and program the median, with the least and the greatest in brackets; how many times the figure of
-pathd is that of each other program, as the median of the ratios of each round; and the load of the
-machine, from the least to the greatest.
+the greatest, over an axis of logarithms. The tables are Markdown, on standard output. For each
+figure and program they have the median, with the least and the greatest in brackets, and how many
+times the figure of pathd is that of each other program, as the median of the ratios of each round.
+Of percentiles they have the medians of three alone. A last line has the load of
+the machine, from the least to the greatest.
 """
 from __future__ import annotations
 
 import csv
 import statistics
 from collections import defaultdict
-from dataclasses import dataclass
+from dataclasses import dataclass, replace
 from pathlib import Path
 
 from pathd_tools import toolbox
 from pathd_tools.load.svg import Panel, Spread, draw_bars
 
 OURS = "pathd"
+NAMES = {"pathd": "`pathd`", "echo": "echo server", "leveldb": "LevelDB", "rocksdb": "RocksDB", "sqlite": "SQLite", "lmdb": "LMDB"}
+PERCENTILES = ["50 %", "99 %", "99.9 %", "most"]
+# Those of the tables.
+SHOWN = PERCENTILES[:3]
 TITLES = {
     "registrations": "Registrations",
     "lookups": "Lookups",
@@ -97,15 +102,21 @@ def spread(raws: list[Raw]) -> Spread:
 
 
 def number(value: float) -> str:
-    """A number of four digits at least where it is large, and of three where it is small."""
-    return f"{value:,.0f}" if abs(value) >= 100 else f"{value:.3g}"
+    """A number: whole where it is a hundred at least, of three digits above one, and of two below."""
+    return f"{value:,.0f}" if abs(value) >= 100 else f"{value:.3g}" if abs(value) >= 1 else f"{value:.2g}"
+
+
+def two_digits(value: float) -> str:
+    """A number of two digits, or a whole one."""
+    return number(float(f"{value:.2g}"))
 
 
 def shown(found: Spread) -> str:
     """A median with the least and the greatest."""
     if found.least == found.greatest:
         return number(found.median)
-    return f"{number(found.median)} ({number(found.least)} to {number(found.greatest)})"
+    least, greatest = (number(it) if it >= 100 else two_digits(it) for it in (found.least, found.greatest))
+    return f"{number(found.median)} ({least}-{greatest})"
 
 
 def ratio(ours: list[Raw], theirs: list[Raw]) -> str:
@@ -115,21 +126,65 @@ def ratio(ours: list[Raw], theirs: list[Raw]) -> str:
     return number(float(f"{statistics.median(ratios):.2g}")) if ratios else ""
 
 
-def table(kind: str, figures: Figures) -> list[str]:
-    """The lines of a kind's table."""
-    places = [place for place in figures if place.kind == kind]
+def head(names: list[str]) -> list[str]:
+    """The names of programs, as the head of a table has them."""
+    return [NAMES.get(name, name) for name in names]
+
+
+def in_table(place: Place) -> tuple[float, str]:
+    """By how much a figure is divided in a table, and its unit there."""
+    if place.unit == "a second" and place.figure != "checkpoints":
+        return 1000, "k/s"
+    return (0.001, "ms") if place.unit == "seconds" else (1, place.unit)
+
+
+def divided(found: Spread, by: float) -> Spread:
+    """A spread in another unit."""
+    return Spread(found.median / by, found.least / by, found.greatest / by)
+
+
+def rates(places: list[Place], figures: Figures) -> list[str]:
+    """A table of the figures that are no percentiles: medians with their spread, and how many times the others' figures are ours."""
     names = list(dict.fromkeys(raw.program for place in places for raw in figures[place]))
     others = [name for name in names if name != OURS]
-    ratios = [f"{OURS} over {name}" for name in others]
-    lines = [f"| figure | sync | sessions, rows | {' | '.join([*names, *ratios, 'load'])} |", "|---" * (4 + len(names) + len(ratios)) + "|"]
+    over = ["over each"] if others else []
+    lines = [f"| figure | sync | sessions, rows | {' | '.join([*head(names), *over])} |", "|---" * (3 + len(names) + len(over)) + "|"]
     for place in places:
-        found = by_program(figures[place])
-        cells = [shown(spread(found[name])) if name in found else "" for name in names]
-        cells += [ratio(found.get(OURS, []), found[name]) if name in found else "" for name in others]
-        loads = [raw.load for raw in figures[place]]
-        cells.append(f"{min(loads):.0f} to {max(loads):.0f}")
-        lines.append(f"| {place.figure}, {place.unit} | {place.sync()} | {place.who()} | {' | '.join(cells)} |")
+        found, (by, unit) = by_program(figures[place]), in_table(place)
+        cells = [shown(divided(spread(found[name]), by)) if name in found else "" for name in names]
+        cells += [", ".join(ratio(found.get(OURS, []), found[name]) for name in others if name in found)] if others else []
+        lines.append(f"| {place.figure}, {unit} | {place.sync()} | {place.who()} | {' | '.join(cells)} |")
     return lines
+
+
+def percentile_of(place: Place) -> tuple[str, str]:
+    """A figure, and which percentile of it this is; the empty text for one that is none."""
+    figure, _, percentile = place.figure.rpartition(", ")
+    return (figure, percentile) if percentile in PERCENTILES else (place.figure, "")
+
+
+def percentiles(places: list[Place], figures: Figures) -> list[str]:
+    """A table of percentiles: a cell has the medians of all percentiles of a program."""
+    rows: dict[Place, dict[str, dict[str, list[Raw]]]] = defaultdict(dict)
+    for place in places:
+        figure, percentile = percentile_of(place)
+        rows[replace(place, figure=figure)][percentile] = by_program(figures[place])
+    names = list(dict.fromkeys(name for row in rows.values() for found in row.values() for name in found))
+    lines = [f"| {' / '.join(SHOWN)} of | sync | sessions, rows | {' | '.join(head(names))} |", "|---" * (3 + len(names)) + "|"]
+    for place, row in rows.items():
+        of = {name: [spread(row[it][name]).median for it in SHOWN if name in row.get(it, {})] for name in names}
+        by, unit = (1, "µs") if max(value for values in of.values() for value in values) < 1000 else (1000, "ms")
+        cells = [" / ".join(two_digits(value / by) for value in of[name]) for name in names]
+        lines.append(f"| {place.figure}, {unit} | {place.sync()} | {place.who()} | {' | '.join(cells)} |")
+    return lines
+
+
+def table(kind: str, figures: Figures) -> list[str]:
+    """The lines of a kind's tables."""
+    places = [place for place in figures if place.kind == kind]
+    some = [place for place in places if not percentile_of(place)[1]]
+    others = [place for place in places if percentile_of(place)[1]]
+    return [*(rates(some, figures) if some else []), *([""] if some and others else []), *(percentiles(others, figures) if others else [])]
 
 
 # The pictures
@@ -171,4 +226,6 @@ def main(words: list[str]) -> int:
         title = TITLES.get(kind, kind)
         draw_bars(title, panels(kind, figures)).write(options.folder / f"{kind}.svg")
         print("", f"## {title}", "", f"![{title}]({kind}.svg)", "", *table(kind, figures), sep="\n")
+    loads = [raw.load for raws in figures.values() for raw in raws]
+    print("", f"The load was {min(loads):.0f} to {max(loads):.0f}.", sep="\n")
     return 0

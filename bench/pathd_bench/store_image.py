@@ -9,6 +9,9 @@ FILE.values, each after its length in four bytes, for other stores to keep.
 """
 from __future__ import annotations
 
+import os
+from pathlib import Path
+
 from pathd_bench import frames
 from pathd_tools import toolbox
 from pathd_tools.messages import DOWN
@@ -61,6 +64,24 @@ def journal(segments: list[bytes], place: int, is_sealed: bool) -> bytes:
     return out + gate(False)
 
 
+def image(segments: list[bytes], ids: list[bytes], later: list[bytes], version: int, is_sealed: bool) -> tuple[bytes, int]:
+    """The image of a store up to the end of its journal, and its length: segments in its checkpoint, and later ones in its journal."""
+    area = checkpoint([segment for _, segment in sorted(zip(ids, segments))], version)
+    written = journal(later, len(segments), is_sealed)
+    areas, journals = min(2 * len(area) // SECTOR, MOST_SECTORS), max(516, 2 * len(written) // SECTOR)
+    title = b"SCPATHDB" + (1).to_bytes(4, "big") + areas.to_bytes(4, "big") + journals.to_bytes(4, "big")
+    return padded(title) + area + bytes(SECTOR * areas - len(area)) + gate(True) + written, SECTOR * (1 + 2 * (areas + 1 + journals))
+
+
+def write(path: Path, rows: int, entries: int) -> int:
+    """Writes a store of version 2 with rows of so many entries in its checkpoint, and returns the bytes of a segment."""
+    segments = [frames.segment(it, entries, it) for it in range(rows)]
+    content, length = image(segments, [frames.segment_id(it, entries, it) for it in range(rows)], [], 2, False)
+    path.write_bytes(content)
+    os.truncate(path, length)
+    return len(segments[0])
+
+
 def main(words: list[str]) -> int:
     """Writes the store and the values."""
     parser = toolbox.parser(__doc__)
@@ -73,14 +94,10 @@ def main(words: list[str]) -> int:
     first = [frames.segment(it, ENTRIES, it) for it in range(options.rows)]
     later = [frames.segment(it, ENTRIES, it) for it in range(options.rows, options.rows + options.more)]
     ids = [frames.segment_id(it, ENTRIES, it) for it in range(options.rows)]
-    area = checkpoint([segment for _, segment in sorted(zip(ids, first))], options.version)
-    written = journal(later, options.rows, options.sealed is not None)
-    areas, journals = min(2 * len(area) // SECTOR, MOST_SECTORS), max(516, 2 * len(written) // SECTOR)
-    half = areas + 1 + journals
-    title = b"SCPATHDB" + (1).to_bytes(4, "big") + areas.to_bytes(4, "big") + journals.to_bytes(4, "big")
+    content, length = image(first, ids, later, options.version, options.sealed is not None)
     with open(options.path, "wb") as out:
-        out.write(padded(title) + area + bytes(SECTOR * areas - len(area)) + gate(True) + written)
-        out.truncate(SECTOR * (1 + 2 * half))
+        out.write(content)
+        out.truncate(length)
     with open(options.path + ".values", "wb") as out:
         for it in first + later:
             out.write(len(it).to_bytes(4, "big") + it)

@@ -50,7 +50,7 @@ from collections.abc import Iterator
 from dataclasses import dataclass, field
 from pathlib import Path
 
-from pathd_bench import frames, measure
+from pathd_bench import frames, measure, store_image
 from pathd_bench.measure import AFTER_FILLING, RIVALS, Load, Programs, WrongReply
 from pathd_tools import need, toolbox
 from pathd_tools.load.load import epoch_of
@@ -65,8 +65,8 @@ ROWS = [1_000, 10_000, 100_000, 1_000_000]
 QUICK_ROWS = [1_000, 10_000, 100_000]
 # The rows below which a store is too small for figures of checkpoints and of opening.
 MANY = 10_000
-# The bytes of a segment of tools/native/load.c, and of its row's record.
-SEGMENT, RECORD = 88, 93
+# The bytes of the record of a row of tools/native/load.c.
+RECORD = 93
 SECTOR = 512
 # How many registrations `once` gets: each with a lookup after it, and each of 16 segments.
 PAIRS, BATCHES = 200_000, 4_000
@@ -97,12 +97,20 @@ class Bench:
     rows: list[int]
     stores: dict[tuple[int, int], Path] = field(default_factory=dict)
     kept: dict[str, Path] = field(default_factory=dict)
+    images: dict[int, tuple[Path, int]] = field(default_factory=dict)
 
     def store(self, rows: int, journal: int = 65_536) -> Path:
         """A store that a server filled with rows, whose last checkpoint has them all, for reading alone."""
         if (rows, journal) not in self.stores:
             self.stores[rows, journal] = self._filled(rows, journal)
         return self.stores[rows, journal]
+
+    def image(self, rows: int) -> tuple[Path, int]:
+        """A store with rows of two entries in its checkpoint and nothing in its journal, and the bytes of a segment."""
+        if rows not in self.images:
+            path = self.folder / f"image-{rows}"
+            self.images[rows] = path, store_image.write(path, rows, 2)
+        return self.images[rows]
 
     def fresh(self, rows: int, journal: int = 65_536) -> Path:
         """A copy of that store, which may be written."""
@@ -196,29 +204,30 @@ def checkpoints(bench: Bench) -> Iterator[Figure]:
 
 
 def opening(bench: Bench) -> Iterator[Figure]:
-    """Seconds to open a store, and the memory of a row that was opened."""
+    """Seconds to open a store of rows of two entries, all in its checkpoint, and the memory of a row that was opened."""
     with measure.pathd(bench.programs, measure.formatted(bench.programs, bench.folder / "copy")) as server:
         empty = server.status("VmRSS")
     for rows in [rows for rows in bench.rows if rows >= MANY]:
-        with measure.pathd(bench.programs, bench.fresh(rows)) as server:
+        image, length = bench.image(rows)
+        with measure.pathd(bench.programs, image) as server:
             yield Figure("opening", "pathd", server.seconds_to_start, "seconds", rows=rows)
-            yield Figure("opening, of the processor", "pathd", server.processor_seconds(), "seconds", rows=rows)
+            yield Figure("opening, processor", "pathd", server.processor_seconds(), "seconds", rows=rows)
             yield Figure("memory of a row, opened", "pathd", 1024 * (server.status("VmRSS") - empty) / rows, "bytes", rows=rows)
         for name in RIVALS:
-            place = values_of(bench, name, rows)
+            place = values_of(bench, name, rows, length)
             printed = subprocess.run([bench.programs.stores, "read", name, place], check=True, capture_output=True, text=True).stdout
             size, clock, processor = printed.split()
-            assert int(size) == rows * SEGMENT
+            assert int(size) == rows * length
             yield Figure("opening", name, float(clock), "seconds", rows=rows)
-            yield Figure("opening, of the processor", name, float(processor), "seconds", rows=rows)
+            yield Figure("opening, processor", name, float(processor), "seconds", rows=rows)
 
 
-def values_of(bench: Bench, name: str, rows: int) -> Path:
+def values_of(bench: Bench, name: str, rows: int, length: int) -> Path:
     """A rival's store of values as long as segments."""
     place = bench.folder / f"{name}-{rows}"
     if not place.exists():
         values = bench.folder / "values"
-        head, rest = SEGMENT.to_bytes(4, "big"), b"\x5a" * (SEGMENT - 8)
+        head, rest = length.to_bytes(4, "big"), b"\x5a" * (length - 8)
         values.write_bytes(b"".join(head + number.to_bytes(8, "big") + rest for number in range(1, rows + 1)))
         subprocess.run([bench.programs.stores, "fill", name, values, place], check=True)
         values.unlink()

@@ -26,6 +26,8 @@
 
 enum { MOST_SESSIONS = 256, MOST_WINDOW = 128, MOST_ROWS = 1 << 24, MOST_MADE = 250000000, SEGMENT = 88, IN_A_REGISTRATION = 16, ONE = 13 + SEGMENT, MOST_FRAME = 2048 };
 enum { LOOKUP, REGISTER, FRESH, PURGE, REMOVE, ECHO, CONNECT, KINDS };
+// The reason of a refusal: no session more may be open.
+enum { NO_ROOM = 0x61 };
 static const char *const names[KINDS] = {"lookup", "register", "fresh", "purge", "remove", "echo", "connect"};
 
 // A segment of two entries, from 1-ff00:0:110 to an AS that is set for each row, as is its
@@ -277,17 +279,22 @@ static int ask(struct session *s, int kind) {
   return 1;
 }
 
-// Asks in a session of its own, from the next loopback address.
+// Asks in a session of its own, from the next loopback address. A busy machine may not have ended
+// the sessions that were closed, so no room for one more is counted as refused, and isn't wrong.
 static int ask_anew(struct session *s) {
   unsigned char frame[5];
   s->fd = connected_from(1 + (s->number + s->count[CONNECT] * sessions) % 200);
   s->from = s->to = 0;
   size_t len = put_bytes(frame, 0x02, 0, 0);
   const unsigned char *reply = send_all(s->fd, frame, len) ? received(s, 6) : NULL;
-  if (reply && (reply[4] != 0xff || reply[5] != 0x41)) {
+  if (reply && reply[4] == 0xff && reply[5] == NO_ROOM) {
+    s->refused[CONNECT]++;
+  } else if (reply && (reply[4] != 0xff || reply[5] != 0x41)) {
     if (s->wrong[CONNECT]++ == 0) fprintf(stderr, "session %lu: the reply 0x%02x 0x%02x to the smallest request\n", s->number, reply[4], reply[5]);
+    s->count[CONNECT]++;
+  } else {
+    s->count[CONNECT]++;
   }
-  s->count[CONNECT]++;
   close(s->fd);
   return reply != NULL;
 }
@@ -380,7 +387,7 @@ static int print_figures(struct session *all) {
     for (int i = 0; i < sessions; i++) count += all[i].count[of->kind], refused += all[i].refused[of->kind], wrong += all[i].wrong[of->kind];
     printf("%-9s %10lu %10.0f %9.1f %9.1f %9.1f %10.1f %7lu %7lu\n", names[of->kind], count, count / (ended - begun), percentile(of, end - at, 0.5),
            percentile(of, end - at, 0.99), percentile(of, end - at, 0.999), of[end - at - 1].took, refused, wrong);
-    is_wrong |= refused > 0 || wrong > 0;
+    is_wrong |= (refused > 0 && of->kind != CONNECT) || wrong > 0;
   }
   if (series) write_series(samples, len);
   return is_wrong || len == 0;
