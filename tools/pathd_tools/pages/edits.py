@@ -342,20 +342,34 @@ def short(by: str) -> str:
     return re.sub(r"^(?:[a-z_0-9]+::)+(?=\w)", "", by)
 
 
+def dates(rows: list[list[str]]) -> str:
+    """A sentence with the days of the commits of rows."""
+    named = sorted({it[3] for it in rows if it[3]})
+    shown = ["git", "show", "--no-patch", "--format=%h %cd", "--date=format:%-d %B %Y", *named]
+    days: dict[str, list[str]] = {}
+    for line in subprocess.run(shown, cwd=TOP, capture_output=True, text=True, check=True).stdout.splitlines() if named else []:
+        at, _, day = line.partition(" ")
+        days.setdefault(day, []).append(at)
+    said = "; ".join(f"of {day}: {', '.join(commits)}" for day, commits in days.items())
+    return textwrap.fill(f"Commits {said}.", 100) + "\n"
+
+
+def table(found: dict[str, list[list[str]]]) -> str:
+    """A table of the rows of edits, by crate."""
+    text = f"\n{HEADER}\n|---|---|---|---|\n"
+    for crate, rows in found.items():
+        text += f"| **`{crate}`** | | | |\n"
+        text += "".join(f"| {' | '.join(it)} |\n".replace("|  ", "| ") for it in rows)
+    return text
+
+
 def write() -> int:
     before = rows_before()
-    gate = [it for it in edits_of([]) if it.kind == "gate"]
-    text = HEAD + f"\n{HEADER}\n|---|---|---|---|\n"
-    for crate in dict.fromkeys(it.crate for it in gate):
-        text += f"| **`{crate}`** | | | |\n"
-        text += "".join(f"| {' | '.join(row(it, before))} |\n".replace("|  ", "| ") for it in gate if it.crate == crate)
-    text += BESIDE
-    beside = [it for it in edits_of([]) if it.kind == "beside"]
-    for crate in dict.fromkeys(it.crate for it in beside):
-        names = [it.path.stem for it in beside if it.crate == crate]
-        line = f"- `{crate}`, {len(names)}: {', '.join(f'`{it}`' for it in names)}"
-        text += textwrap.fill(line, 100, subsequent_indent="  ", break_long_words=False, break_on_hyphens=False) + "\n"
-    PAGE.write_text(text)
+    rows = {kind: {} for kind in KINDS.values()}
+    for it in edits_of([]):
+        rows[it.kind].setdefault(it.crate, []).append(row(it, before))
+    every = [it for found in rows.values() for of_crate in found.values() for it in of_crate]
+    PAGE.write_text(HEAD + "\n" + dates(every) + GATE + table(rows["gate"]) + BESIDE + table(rows["beside"]))
     return 0
 
 
@@ -363,11 +377,16 @@ HEAD = """# Wrong bodies, and the clauses that refuse them
 
 <!-- written by tools/pathd-tools edits --write -->
 
-Each edit is a wrong body of one function. Those of the table are in `crates/CRATE/must-fail/`, and
-`rt ci` tries them. The column 'refused by' has the function and the clause whose goal the prover
-refuses; a function alone has one clause without a name. At '**no refusal**' no clause, invariant or
-check refused it. 'at' is the commit at which `tools/pathd-tools edits CRATE` last tried the edit,
-and is empty where the edit has changed since.
+Each edit is a wrong body of one function. The column 'refused by' has the function and the clause
+whose goal the prover refuses; a function alone has one clause without a name. At '**no refusal**'
+no clause, invariant or check refused it. 'at' is the commit at which the edit was tried last, and
+is empty where no try of the edit as it is now was noted.
+"""
+
+GATE = """
+## In the gate
+
+These are in `crates/CRATE/must-fail/`, and `rt ci` tries them.
 """
 
 BESIDE = """
@@ -375,7 +394,6 @@ BESIDE = """
 
 These are in `crates/CRATE/more-edits/`, which the gate does not read. `tools/pathd-tools edits
 CRATE --beside` tries them.
-
 """
 
 
