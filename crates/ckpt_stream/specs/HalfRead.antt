@@ -23,6 +23,7 @@ use Rattle.ckpt_stream.specs.declared.old_rows.RowsRead.{RowsRead}
 use Rattle.ckpt_stream.specs.declared.old_rows.PlannedRows.{PlannedRows}
 use Rattle.ckpt_stream.specs.OldArea.{IsReadByFront}
 use Rattle.ckpt_stream.specs.OldRows.{AreRowsRead, AreStreamed, AreSummedOn, ArePlanned}
+use Rattle.ckpt_stream.specs.Pieces.{all_pieces}
 use Rattle.ckpt_stream.specs.Sums.{AreSummed}
 
 -- What holds of what is read, whatever the device does.
@@ -45,7 +46,7 @@ IsWithin geometry (Planned planned) = FitsWithin geometry planned.front
 
 -- A bound on the number of pieces that are still to be read.
 abbrev pub pieces_to_come : HalfRead → ℕ
-pieces_to_come Unread = 2 ^ 40
+pieces_to_come Unread = all_pieces
 pieces_to_come (Journal journal) = 2 ^ 32 + pieces_left journal.scanner
 pieces_to_come (Rows rows) = suc (sectors_of (32 + rows.front.size) - rows.first)
 pieces_to_come (Planned planned) = 0

@@ -4,6 +4,7 @@ pub mod Making
 pub mod OldArea
 pub mod OldJournal
 pub mod OldRows
+pub mod Pieces
 pub mod HalfRead
 pub mod Beginning
 pub mod Preparation

@@ -1,6 +1,6 @@
 //! Reading a sealed half in pieces, before its checkpoint is begun.
 
-ghost use Rattle.std.specs.Prelude.{◌≡◌, ◌≤◌, ◌-◌, IfErr, OnOk};
+ghost use Rattle.std.specs.Prelude.{◌≡◌, ◌≤◌, ◌-◌, ◌↔◌, IfErr, OnOk, OnErr, IsTrue};
 ghost use Rattle.sector_dev.specs.Disk.{IsHonest, reads_of};
 ghost use Rattle.store_layout.specs.Layout.{Geometry as GeometryView, IsGeometry, image_sectors};
 ghost use Rattle.store_layout.specs.Geometry.{geometry_view};
@@ -47,7 +47,8 @@ impl Preparation {
     /// Whether everything is read, so that to begin the checkpoint reads no more than the rows of
     /// its first piece.
     pub fn is_whole(&self) -> bool
-        ensures { result ≡ is_whole self.now }
+        ensures is { result ≡ is_whole self.now }
+        ensures left { IsTrue result ↔ calls_left self.now ≡ 0 }
     {
         matches!(self.read, HalfRead::Planned(_))
     }
@@ -66,6 +67,7 @@ impl Preparation {
         requires room { image_sectors (geometry_view geometry) ≤ (D.disk device.old).sectors }
         ensures looks { LooksAtHalf result (D.disk device.old) (D.disk device.new) }
         ensures nearer { OnOk result (calls_left self.new ≤ calls_left self.old - 1) }
+        ensures anew { OnErr result (IsUnread self.new) }
         ensures from { IsHonest (D.disk device.old) → (contents : SealedContents)
             → HasSealed (geometry_view geometry) half contents (reads_of (D.disk device.old))
             → IsPreparedFrom (geometry_view geometry) contents self.old → IsPreparedFrom (geometry_view geometry) contents self.new }

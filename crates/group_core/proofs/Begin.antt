@@ -24,7 +24,8 @@ use Rattle.ckpt_pair.specs.Checkpoint.{written_checkpoint}
 use Rattle.ckpt_pair.specs.Rows.{rows_format}
 use Rattle.ckpt_stream.specs.Merge.{MergeView, encoding_made}
 use Rattle.ckpt_stream.specs.Beginning.{IsMergeOf, MergesSealed}
-use Rattle.ckpt_stream.specs.Preparation.{SealedContents, HasSealed, PreparationView, IsPreparedFrom, IsPreparedFor}
+use Rattle.ckpt_stream.specs.HalfRead.{pieces_to_come}
+use Rattle.ckpt_stream.specs.Preparation.{SealedContents, HasSealed, PreparationView, IsUnread, calls_left, IsPreparedFrom, IsPreparedFor}
 use Rattle.store_open.specs.PathStores.{store_format}
 use Rattle.store_open.specs.Behind.{SameBehind}
 use Rattle.store_open.specs.Sealed.{SealedHalf, sealed_half, folded_in, folded_behind, LooksAtHalf}
@@ -41,11 +42,11 @@ use Rattle.group_phases.specs.HeldSteps.{OpensAroundCall}
 use Rattle.group_phases.specs.HeldChecks.{checked}
 use Rattle.group_phases.specs.HeldTurns.{behind_plan}
 use Rattle.group_phases.proofs.Exports.{reads_by_its_part, held_when_plan_begins}
-use Rattle.group_core.specs.StateView.{StateView}
+use Rattle.group_core.specs.StateView.{StateView, all_unprepared}
 use Rattle.group_core.specs.Stops.{config_of, commit_state_of, StepLeaves}
 use Rattle.group_core.specs.Invariant.{PrivateState, CountsAt, DeviceInvariant, DeviceInvariantWith, IsState}
 use Rattle.group_core.specs.declared.bookkeeping.Turn.{Turn}
-use Rattle.group_core.specs.declared.beginning.BeginError.TheVariants.{Damaged}
+use Rattle.group_core.specs.declared.beginning.BeginError.TheVariants.{Fault, NoMemory, Damaged}
 use Rattle.group_core.specs.declared.phases.AtPlan.{AtPlan}
 use Rattle.group_core.specs.declared.values.Commit.{Commit}
 use Rattle.group_core.specs.Preparing.{sealed_contents, IsPreparedOf}
@@ -63,6 +64,22 @@ ok_of value = Ok value
 
 abbrev error_of : (T : Type 0) → SealedError → Result T SealedError
 error_of T e = Err e
+
+-- the state after its device was read, with what is prepared then
+abbrev pub looked_at : StateView → Disk → Bool → PreparationView → StateView
+looked_at old disk stopped preparation = record old { disk = disk; unprepared = calls_left preparation; stopped = stopped }
+
+-- and where nothing is prepared then
+looked_is : (old : StateView) (disk : Disk) (stopped : Bool) (preparation : PreparationView) → IsUnread preparation
+    → looked_at old disk stopped preparation ≡ record old { disk = disk; unprepared = all_unprepared; stopped = stopped }
+looked_is old disk stopped preparation unread = ap (λ (n : ℕ). record old { disk = disk; unprepared = n; stopped = stopped }) (ap pieces_to_come unread)
+
+-- the state with a plan, and with what is prepared after that
+abbrev begun_with : StateView → Disk → List ℕ → PreparationView → StateView
+begun_with old disk bytes preparation = record (begun old disk bytes) { unprepared = calls_left preparation }
+
+begun_is : (old : StateView) (disk : Disk) (bytes : List ℕ) (preparation : PreparationView) → IsUnread preparation → begun_with old disk bytes preparation ≡ begun old disk bytes
+begun_is old disk bytes preparation unread = ap (λ (n : ℕ). record (begun old disk bytes) { unprepared = n }) (ap pieces_to_come unread)
 
 -- what is prepared is of each half
 abbrev pub IsFresh : PreparationView → Type 0
@@ -148,10 +165,10 @@ sectors_fit epoch area sealed bytes spelled fits =
 -- the device was looked at
 module _ (old : StateView) (hidden : PrivateState) (has : IsState old hidden) (disk : Disk) (looked : IsDeviceRead old.disk disk) where
   -- and the state may have stopped then
-  pub looked_state : AtWork old.flush old.check → (stopped : Bool) → (stopped ≡ false → old.stopped ≡ false) → (preparation : PreparationView)
+  pub looked_state : AtWork old.flush old.check → (stopped : Bool) → (stopped ≡ false → old.stopped ≡ false) → (unprepared : ℕ) (preparation : PreparationView)
       → ((with : DeviceInvariantWith old hidden.merge hidden.preparation) → IsHonest old.disk → stopped ≡ false → IsPreparedOf old.check old.geometry with.sound.behind preparation)
-      → IsState (record old { disk = disk; stopped = stopped }) (record hidden { preparation = preparation })
-  looked_state work stopped going preparation prepares = record {
+      → IsState (record old { disk = disk; unprepared = unprepared; stopped = stopped }) (record hidden { preparation = preparation })
+  looked_state work stopped going unprepared preparation prepares = record {
     shape = record {
       limits = has.shape.limits;
       sectors = omega (arith, has.shape.sectors, looked.keeps.sectors);
@@ -196,9 +213,9 @@ module _ (old : StateView) (hidden : PrivateState) (has : IsState old hidden) (d
     sound_now honest = (sound_at_work old hidden has (checking Sealed may.sealed (λ (is : Sealed ≡ Ready). cc)) honest).sound
 
     -- the sealed half's checkpoint is planned, and a plan begins
-    pub begun_state : (merge : MergeView) (plan : Turn) → IsMergeOf old.geometry (other old.half) (old.epoch + 1) old.disk merge → (preparation : PreparationView) → IsFresh preparation
-        → IsState (record old { disk = disk; check = Planned; plan = plan; checkpoint = encoding_made merge; written = 0 }) (record hidden { merge = Some merge; preparation = preparation })
-    begun_state merge plan made preparation fresh = record {
+    pub begun_state : (merge : MergeView) (plan : Turn) → IsMergeOf old.geometry (other old.half) (old.epoch + 1) old.disk merge → (unprepared : ℕ) (preparation : PreparationView) → IsFresh preparation
+        → IsState (record old { disk = disk; check = Planned; plan = plan; checkpoint = encoding_made merge; written = 0; unprepared = unprepared }) (record hidden { merge = Some merge; preparation = preparation })
+    begun_state merge plan made unprepared preparation fresh = record {
       shape = record {
         limits = has.shape.limits;
         sectors = omega (arith, has.shape.sectors, looked.keeps.sectors);
@@ -247,7 +264,7 @@ module _ (old : StateView) (hidden : PrivateState) (has : IsState old hidden) (d
               omega (arith, sized.0, sized.1);
         }
 
-        planned : IsHonest old.disk → DeviceInvariantWith (record old { disk = disk; check = Planned; plan = plan; checkpoint = encoding_made merge; written = 0 }) (Some merge) preparation
+        planned : IsHonest old.disk → DeviceInvariantWith (record old { disk = disk; check = Planned; plan = plan; checkpoint = encoding_made merge; written = 0; unprepared = unprepared }) (Some merge) preparation
         planned before =
             let sound = sound_now before in
             let turn = may.sealed in
@@ -299,9 +316,9 @@ looked_so looks = record { keeps = looks.keeps; history = looks.history }
 -- and a state that may begin, seen as `view`, which may have stopped then
 pub looked_on : (old : StateView) (hidden : PrivateState) → IsState old hidden → (view : StateView) → old ≡ view → MayBegin view → (disk : Disk) {T : Type 0} {result : Result T SealedError}
     → LooksAtHalf result old.disk disk → (stopped : Bool) → (stopped ≡ false → old.stopped ≡ false) → (preparation : PreparationView) → (stopped ≡ false → IsFresh preparation)
-    → IsState (record old { disk = disk; stopped = stopped }) (record hidden { preparation = preparation })
+    → IsState (looked_at old disk stopped preparation) (record hidden { preparation = preparation })
 looked_on old hidden has view view_is may_view disk looks stopped going preparation fresh =
-    looked_state old hidden has disk (looked_so looks) (checking Sealed (subst MayBegin (sym view_is) may_view).sealed (λ (is : Sealed ≡ Ready). cc)) stopped going preparation
+    looked_state old hidden has disk (looked_so looks) (checking Sealed (subst MayBegin (sym view_is) may_view).sealed (λ (is : Sealed ≡ Ready). cc)) stopped going (calls_left preparation) preparation
     (λ with honest is contents of. fresh is old.geometry contents)
 
 -- A state that may begin, seen as `view`, and what was read of its sealed half.
@@ -324,31 +341,32 @@ module _ (old : StateView) (hidden : PrivateState) (has : IsState old hidden) (w
     }
 
     pub begun_so : {T : Type 0} {result : Result T SealedError} → LooksAtHalf result old.disk disk → (preparation : PreparationView) → IsFresh preparation
-        → IsState (begun old disk (encoding_made merge)) (record hidden { merge = Some merge; preparation = preparation })
-    begun_so looks = begun_state old hidden has disk (looked_so looks) may_old whole merge (plan_begun old.plan) made_so
+        → IsState (begun_with old disk (encoding_made merge) preparation) (record hidden { merge = Some merge; preparation = preparation })
+    begun_so looks preparation = begun_state old hidden has disk (looked_so looks) may_old whole merge (plan_begun old.plan) made_so (calls_left preparation) preparation
 
     pub begins_so : {T : Type 0} (value : T) → LooksAtHalf (ok_of value) old.disk disk → (plan : Commit AtPlan) → plan.home ≡ old.home → plan.number ≡ (old.plan.number + 1) % 2 ^ 64
-        → plan.phase ≡ record { done = false } → BeginsCheckpoint (Ok plan) view (begun old disk (encoding_made merge))
-    begins_so value looks plan home number phase = subst (λ (v : StateView). BeginsCheckpoint (Ok plan) v (begun old disk (encoding_made merge))) view_is (
+        → plan.phase ≡ record { done = false } → (preparation : PreparationView) → IsUnread preparation
+        → BeginsCheckpoint (Ok plan) view (begun_with old disk (encoding_made merge) preparation)
+    begins_so value looks plan home number phase preparation unread = subst (λ (v : StateView). BeginsCheckpoint (Ok plan) v (begun_with old disk (encoding_made merge) preparation)) view_is (
       may_old,
       record { is_of = record { home = home; number = number }; done = ap (λ (p : AtPlan). p.done) phase },
       looked_so looks,
       looks.faults,
-      refl,
+      begun_is old disk (encoding_made merge) preparation unread,
       encoded,
       (sectors_fit (old.epoch + 1) old.geometry.checkpoint made_so.sealed (encoding_made merge) (spelled_so old.geometry (other old.half) (old.epoch + 1) old.disk merge made_so) made_so.fits).2,
     )
 
   pub damaged_so : {T : Type 0} (e : SealedError) → e ≡ half.Damaged → LooksAtHalf (error_of T e) old.disk disk
-      → MergesSealed old.geometry side (old.epoch + 1) (Err e) old.disk
-      → BeginsCheckpoint (Err Damaged) view (record old { disk = disk; stopped = true })
-  damaged_so {T} e is looks_so merges = subst (λ (v : StateView). BeginsCheckpoint (Err Damaged) v (record old { disk = disk; stopped = true })) view_is (
+      → MergesSealed old.geometry side (old.epoch + 1) (Err e) old.disk → (preparation : PreparationView) → IsUnread preparation
+      → BeginsCheckpoint (Err Damaged) view (looked_at old disk true preparation)
+  damaged_so {T} e is looks_so merges preparation unread = subst (λ (v : StateView). BeginsCheckpoint (Err Damaged) v (looked_at old disk true preparation)) view_is (
     may_old,
     λ honest. never_damaged old hidden has disk (looked_so looks) may_old whole honest
         (subst (λ (h : Half). (sealed : SealedHalf) → sealed_half old.geometry h (reads_of old.disk) ≡ Some sealed → ¬ FitsArea old.geometry (checkpoint_of (old.epoch + 1) sealed)) side_is (refused honest)),
     looked_so looks,
     looks.faults,
-    refl,
+    looked_is old disk true preparation unread,
   )
     where
       looks : LooksAtHalf (error_of T half.Damaged) old.disk disk
@@ -356,6 +374,21 @@ module _ (old : StateView) (hidden : PrivateState) (has : IsState old hidden) (w
 
       refused : MergesSealed old.geometry side (old.epoch + 1) (Err half.Damaged) old.disk
       refused = subst (λ (x : SealedError). MergesSealed old.geometry side (old.epoch + 1) (Err x) old.disk) is merges
+
+  -- a call is refused for memory, or the device fails
+  pub no_memory_so : {T : Type 0} (e : SealedError) → e ≡ half.NoMemory → LooksAtHalf (error_of T e) old.disk disk → (preparation : PreparationView) → IsUnread preparation
+      → BeginsCheckpoint (Err NoMemory) view (looked_at old disk old.stopped preparation)
+  no_memory_so {T} e is looks_so preparation unread =
+      let looks = subst (λ (x : SealedError). LooksAtHalf (error_of T x) old.disk disk) is looks_so in
+      subst (λ (v : StateView). BeginsCheckpoint (Err NoMemory) v (looked_at old disk old.stopped preparation)) view_is
+      (may_old, looked_so looks, looks.faults, looked_is old disk old.stopped preparation unread)
+
+  pub fault_so : {T : Type 0} (e : SealedError) → e ≡ half.Fault → LooksAtHalf (error_of T e) old.disk disk → (preparation : PreparationView) → IsUnread preparation
+      → BeginsCheckpoint (Err Fault) view (looked_at old disk true preparation)
+  fault_so {T} e is looks_so preparation unread =
+      let looks = subst (λ (x : SealedError). LooksAtHalf (error_of T x) old.disk disk) is looks_so in
+      subst (λ (v : StateView). BeginsCheckpoint (Err Fault) v (looked_at old disk true preparation)) view_is
+      (may_old, looked_so looks, looks.faults, looked_is old disk true preparation unread)
 
   -- what the state and the half have in common
   with_old : IsHonest old.disk → DeviceInvariantWith old hidden.merge hidden.preparation
@@ -378,9 +411,9 @@ module _ (old : StateView) (hidden : PrivateState) (has : IsState old hidden) (w
       → IsPreparedFrom old.geometry contents preparation
 
   pub read_on_so : {T : Type 0} {result : Result T SealedError} → LooksAtHalf result old.disk disk → (stopped : Bool) → (stopped ≡ false → old.stopped ≡ false) → (preparation : PreparationView)
-      → ReadsOn preparation → IsState (record old { disk = disk; stopped = stopped }) (record hidden { preparation = preparation })
+      → ReadsOn preparation → IsState (looked_at old disk stopped preparation) (record hidden { preparation = preparation })
   read_on_so looks stopped going preparation reads_on =
-      looked_state old hidden has disk (looked_so looks) (checking Sealed may_old.sealed (λ (is : Sealed ≡ Ready). cc)) stopped going preparation
+      looked_state old hidden has disk (looked_so looks) (checking Sealed may_old.sealed (λ (is : Sealed ≡ Ready). cc)) stopped going (calls_left preparation) preparation
       (λ with honest is contents of. subst (λ (c : SealedContents). IsPreparedFrom old.geometry c preparation) (sym (of may_old.sealed))
       (reads_on honest (sealed_contents with.sound.behind)
       (subst (λ (h : Half). HasSealed old.geometry h (sealed_contents with.sound.behind) (reads_of old.disk)) (sym side_is) (has_sealed old with.sound may_old.sealed (whole honest)))
@@ -389,13 +422,13 @@ module _ (old : StateView) (hidden : PrivateState) (has : IsState old hidden) (w
   -- and an honest device has no damaged half
   pub read_damaged_so : {T : Type 0} (e : SealedError) → e ≡ half.Damaged → LooksAtHalf (error_of T e) old.disk disk
       → (e ≡ half.Damaged → IsHonest old.disk → (contents : SealedContents) → HasSealed old.geometry side contents (reads_of old.disk) → ¬ IsPreparedFrom old.geometry contents hidden.preparation)
-      → PreparesCheckpoint (Err Damaged) view (record old { disk = disk; stopped = true })
-  read_damaged_so {T} e is looks_so refused = subst (λ (v : StateView). PreparesCheckpoint (Err Damaged) v (record old { disk = disk; stopped = true })) view_is (
+      → (preparation : PreparationView) → IsUnread preparation → PreparesCheckpoint (Err Damaged) view (looked_at old disk true preparation)
+  read_damaged_so {T} e is looks_so refused preparation unread = subst (λ (v : StateView). PreparesCheckpoint (Err Damaged) v (looked_at old disk true preparation)) view_is (
     may_old,
     λ honest. refused is honest (contents_now honest) (has_now honest) (from_now honest),
     looked_so looks,
     looks.faults,
-    refl,
+    looked_is old disk true preparation unread,
   )
     where
       looks : LooksAtHalf (error_of T half.Damaged) old.disk disk

@@ -8,7 +8,7 @@ use Rattle.group_phases.specs.declared.phases.Flush.TheVariants.{Resting}
 use Rattle.group_phases.specs.declared.phases.Check.{Check}
 use Rattle.group_phases.specs.declared.phases.Check.TheVariants.{Ready, Sealed}
 use Rattle.group_core.specs.declared.bookkeeping.Turn.{Turn}
-use Rattle.group_core.specs.StateView.{StateView}
+use Rattle.group_core.specs.StateView.{StateView, all_unprepared}
 
 -- The value that a store represents.
 abbrev pub value_of_store : StoreView → StoreValue (List RowView)
@@ -54,6 +54,7 @@ started store home stopped = record {
   version = store.head.version;
   checkpoint = [];
   written = 0;
+  unprepared = all_unprepared;
   stopped = stopped;
 }
 

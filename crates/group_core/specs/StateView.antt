@@ -7,6 +7,7 @@ use Rattle.sector_dev.specs.Disk.{Disk}
 use Rattle.store_layout.specs.declared.half.Half.{Half}
 use Rattle.store_layout.specs.Layout.{Geometry}
 use Rattle.store_layout.specs.Opening.{StoreValue}
+use Rattle.ckpt_stream.specs.Pieces.{all_pieces}
 use Rattle.group_phases.specs.declared.phases.Flush.{Flush}
 use Rattle.group_phases.specs.declared.phases.Check.{Check}
 use Rattle.group_core.specs.declared.bookkeeping.Turn.{Turn}
@@ -53,5 +54,12 @@ pub record StateView : Type 0 where
   pub checkpoint : List ℕ
   -- The number of sectors of that checkpoint that are written.
   pub written : ℕ
+  -- A bound on the calls of `prepare` that are still to come until all pieces of the sealed half are
+  -- prepared: 0 once they are.
+  pub unprepared : ℕ
   -- Whether the state has stopped, which is final.
   pub stopped : Bool
+
+-- The bound on the calls of `prepare` where nothing is prepared.
+abbrev pub all_unprepared : ℕ
+all_unprepared = all_pieces

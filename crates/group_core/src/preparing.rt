@@ -1,7 +1,7 @@
 //! Preparing a checkpoint: the sealed half is read in pieces before its checkpoint is begun.
 
 ghost use Rattle.group_core.specs.Stops.{StepLeaves};
-ghost use Rattle.group_core.specs.Beginning.{PreparesCheckpoint};
+ghost use Rattle.group_core.specs.Beginning.{IsPrepared, PreparesCheckpoint};
 
 use crate::beginning::BeginError;
 use crate::showcase::Showcase;
@@ -20,11 +20,11 @@ pub enum Prepared {
 
 impl<D: Device, S: Showcase> State<D, S> {
     /// Reads the next piece of the sealed half, which is 256 sectors or, in the journal, as much
-    /// more as the last group of the piece has, and keeps what `begin` needs of it. What is
-    /// prepared, and whether anything is, makes no difference to what `begin` plans: it reads what
-    /// is not prepared. The call only reads the device, and other steps may come between two of
-    /// these calls. It is refused as `begin` is, in the same order. Where memory is refused, the
-    /// state may drop what was prepared.
+    /// more as the last group of the piece has, and keeps what `begin` needs of it. After a
+    /// bounded number of calls all of that half is prepared. What is prepared, and whether anything
+    /// is, makes no difference to what `begin` plans: it reads what is not prepared. The call only
+    /// reads the device, and other steps may come between two of these calls. It is refused as
+    /// `begin` is, in the same order. Where memory is refused, what was prepared is dropped.
     pub fn prepare(&mut self) -> Result<Prepared, BeginError>
         ensures step { PreparesCheckpoint result self.old self.new }
         ensures any_moment { StepLeaves self.old self.new }
@@ -49,7 +49,9 @@ impl<D: Device, S: Showcase> State<D, S> {
     }
 
     /// How much of the sealed half is prepared.
-    fn prepared(&self) -> Prepared {
+    fn prepared(&self) -> Prepared
+        ensures { IsPrepared result self.now.unprepared }
+    {
         if self.preparation.is_whole() {
             Prepared::Whole
         } else {

@@ -77,6 +77,7 @@ pub struct State<D: Device, S: Showcase> {
 impl<D: Device, S: Showcase> Model for State<D, S> {
     ghost use Rattle.store_layout.specs.Geometry.{geometry_view};
     ghost use Rattle.ckpt_stream.specs.Merge.{encoding_if_any};
+    ghost use Rattle.ckpt_stream.specs.Preparation.{calls_left};
     ghost use Rattle.group_core.specs.StateView.{StateView};
     ghost use Rattle.group_core.specs.Invariant.{IsState};
 
@@ -101,6 +102,7 @@ impl<D: Device, S: Showcase> Model for State<D, S> {
       version = s.version;
       checkpoint = encoding_if_any s.merge;
       written = s.written;
+      unprepared = calls_left s.preparation;
       stopped = s.stopped;
     } };
 
@@ -123,6 +125,7 @@ impl<D: Device, S: Showcase> Model for State<D, S> {
       version = s.version;
       checkpoint = encoding_if_any s.merge;
       written = s.written;
+      unprepared = calls_left s.preparation;
       stopped = s.stopped;
     }) (record { staged = s.staged.items; staged_next = s.staged_next.items; tip = s.tip; place = s.place; owed = S.owed s.show; merge = s.merge; preparation = s.preparation }) };
 }

@@ -19,7 +19,7 @@ use Rattle.group_recovery.specs.declared.holding.HeldGroup.TheVariants as group
 use Rattle.group_recovery.specs.declared.holding.HeldPlan.{HeldPlan}
 use Rattle.group_recovery.specs.declared.holding.HeldPlan.TheVariants as plan
 use Rattle.group_core.specs.declared.ticket.Ticket.{Ticket}
-use Rattle.group_core.specs.StateView.{StateView}
+use Rattle.group_core.specs.StateView.{StateView, all_unprepared}
 use Rattle.group_core.specs.Steps.{IsFlushTurn, IsCheckTurn, IsPlanTurn, is_whole, spent, chunk_written}
 use Rattle.group_core.specs.Staging.{Takes, staged_by}
 use Rattle.group_core.specs.Following.{followed_by}
@@ -204,9 +204,9 @@ module _ (old : StateView) where
   follow_rest reply.NoValue new step = subst (FlushRest old) (sym step.1) flush_same
   follow_rest _ new step = absurd step
 
-  check_touched : (disk : Disk) (phase : Check) (turn : Turn) (bytes : List ℕ) (written epoch version : ℕ) (stopped : Bool) → (old.check ≡ check.Ready → phase ≡ check.Ready)
-      → CheckRest old (record old { disk = disk; check = phase; plan = turn; checkpoint = bytes; written = written; epoch = epoch; version = version; stopped = stopped })
-  check_touched disk phase turn bytes written epoch version stopped ready = record {
+  check_touched : (disk : Disk) (phase : Check) (turn : Turn) (bytes : List ℕ) (written unprepared epoch version : ℕ) (stopped : Bool) → (old.check ≡ check.Ready → phase ≡ check.Ready)
+      → CheckRest old (record old { disk = disk; check = phase; plan = turn; checkpoint = bytes; written = written; unprepared = unprepared; epoch = epoch; version = version; stopped = stopped })
+  check_touched disk phase turn bytes written unprepared epoch version stopped ready = record {
     still = record { value = refl; pending = refl; geometry = refl };
     tickets = record { home = refl; next = refl; kept = refl };
     group = record { home = refl; flush = refl; group = refl };
@@ -214,16 +214,16 @@ module _ (old : StateView) where
   }
 
   check_same : CheckRest old old
-  check_same = check_touched old.disk old.check old.plan old.checkpoint old.written old.epoch old.version old.stopped (λ is. is)
+  check_same = check_touched old.disk old.check old.plan old.checkpoint old.written old.unprepared old.epoch old.version old.stopped (λ is. is)
 
   pub check_rest : (has : Type 0) → (has → old.check ≢ check.Ready) → (phase : Check) (turn : Turn) (written epoch version : ℕ) (failed : Check) (reply : Reply) (new : StateView)
       → CheckEvent has (record old { check = phase; plan = turn; written = written; epoch = epoch; version = version }) failed reply old new → CheckRest old new
   check_rest has busy phase turn written epoch version failed reply.Done new step =
-      subst (CheckRest old) (sym step.3) (check_touched new.disk phase turn old.checkpoint written epoch version old.stopped (λ is. absurd (busy step.0 is)))
+      subst (CheckRest old) (sym step.3) (check_touched new.disk phase turn old.checkpoint written old.unprepared epoch version old.stopped (λ is. absurd (busy step.0 is)))
   check_rest has busy phase turn written epoch version failed (reply.StepRefused why.Stopped) new step =
-      subst (CheckRest old) (sym step.2) (check_touched old.disk old.check (spent old.plan) old.checkpoint old.written old.epoch old.version old.stopped (λ is. is))
+      subst (CheckRest old) (sym step.2) (check_touched old.disk old.check (spent old.plan) old.checkpoint old.written old.unprepared old.epoch old.version old.stopped (λ is. is))
   check_rest has busy phase turn written epoch version failed (reply.StepRefused why.Fault) new step =
-      subst (CheckRest old) (sym step.3) (check_touched new.disk failed (spent old.plan) old.checkpoint old.written old.epoch old.version true (λ is. absurd (busy step.0 is)))
+      subst (CheckRest old) (sym step.3) (check_touched new.disk failed (spent old.plan) old.checkpoint old.written old.unprepared old.epoch old.version true (λ is. absurd (busy step.0 is)))
   check_rest has busy phase turn written epoch version failed reply.NoValue new step = subst (CheckRest old) (sym step.1) check_same
   check_rest has busy phase turn written epoch version failed _ new step = absurd step
 
@@ -235,7 +235,7 @@ module _ (old : StateView) where
 
   pub chunk_rest : (reply : Reply) (new : StateView) → ChunkEvent reply old new → CheckRest old new
   chunk_rest (reply.StepRefused why.Damaged) new step =
-      subst (CheckRest old) (sym step.4) (check_touched new.disk old.check (spent old.plan) old.checkpoint old.written old.epoch old.version true (λ is. is))
+      subst (CheckRest old) (sym step.4) (check_touched new.disk old.check (spent old.plan) old.checkpoint old.written old.unprepared old.epoch old.version true (λ is. is))
   chunk_rest reply.Done new step = chunk_on reply.Done new step
   chunk_rest (reply.StepRefused why.Stopped) new step = chunk_on (reply.StepRefused why.Stopped) new step
   chunk_rest (reply.StepRefused why.Fault) new step = chunk_on (reply.StepRefused why.Fault) new step
@@ -249,37 +249,37 @@ module _ (old : StateView) where
   begin_rest reply.Done new step =
       let made = step.1 in
       let may = made.0 in
-      subst (CheckRest old) (sym made.4) (check_touched new.disk check.Planned (plan_begun old.plan) new.checkpoint 0 old.epoch old.version old.stopped (λ is. absurd (let sealed = may.sealed in cc)))
+      subst (CheckRest old) (sym made.4) (check_touched new.disk check.Planned (plan_begun old.plan) new.checkpoint 0 all_unprepared old.epoch old.version old.stopped (λ is. absurd (let sealed = may.sealed in cc)))
   begin_rest (reply.BeginRefused begin.Stopped) new step = subst (CheckRest old) (sym step.1) check_same
   begin_rest (reply.BeginRefused begin.InFlight) new step = subst (CheckRest old) (sym step.2) check_same
   begin_rest (reply.BeginRefused begin.NotSealed) new step = subst (CheckRest old) (sym step.3) check_same
   begin_rest (reply.BeginRefused begin.Exhausted) new step = subst (CheckRest old) (sym step.4) check_same
   begin_rest (reply.BeginRefused begin.Fault) new step =
-      subst (CheckRest old) (sym step.3) (check_touched new.disk old.check old.plan old.checkpoint old.written old.epoch old.version true (λ is. is))
+      subst (CheckRest old) (sym step.3) (check_touched new.disk old.check old.plan old.checkpoint old.written all_unprepared old.epoch old.version true (λ is. is))
   begin_rest (reply.BeginRefused begin.NoMemory) new step =
-      subst (CheckRest old) (sym step.3) (check_touched new.disk old.check old.plan old.checkpoint old.written old.epoch old.version old.stopped (λ is. is))
+      subst (CheckRest old) (sym step.3) (check_touched new.disk old.check old.plan old.checkpoint old.written all_unprepared old.epoch old.version old.stopped (λ is. is))
   begin_rest (reply.BeginRefused begin.Damaged) new step =
-      subst (CheckRest old) (sym step.4) (check_touched new.disk old.check old.plan old.checkpoint old.written old.epoch old.version true (λ is. is))
+      subst (CheckRest old) (sym step.4) (check_touched new.disk old.check old.plan old.checkpoint old.written all_unprepared old.epoch old.version true (λ is. is))
   begin_rest _ new step = absurd step
 
   pub prepare_rest : (reply : Reply) (new : StateView) → PrepareEvent reply old new → CheckRest old new
   prepare_rest (reply.Prepared prepared) new step =
-      subst (CheckRest old) (sym step.3) (check_touched new.disk old.check old.plan old.checkpoint old.written old.epoch old.version old.stopped (λ is. is))
+      subst (CheckRest old) (sym step.3) (check_touched new.disk old.check old.plan old.checkpoint old.written new.unprepared old.epoch old.version old.stopped (λ is. is))
   prepare_rest (reply.BeginRefused e) new step = begin_rest (reply.BeginRefused e) new step
   prepare_rest _ new step = absurd step
 
-  plan_untouched : (disk : Disk) (stopped : Bool) → PlanStays old (record old { disk = disk; stopped = stopped })
-  plan_untouched disk stopped = record { home = refl; check = refl; plan = refl; checkpoint = refl; written = refl }
+  plan_untouched : (disk : Disk) (unprepared : ℕ) (stopped : Bool) → PlanStays old (record old { disk = disk; unprepared = unprepared; stopped = stopped })
+  plan_untouched disk unprepared stopped = record { home = refl; check = refl; plan = refl; checkpoint = refl; written = refl }
 
   pub prepare_stays : (reply : Reply) (new : StateView) → PrepareEvent reply old new → PlanStays old new
-  prepare_stays (reply.Prepared prepared) new step = subst (PlanStays old) (sym step.3) (plan_untouched new.disk old.stopped)
-  prepare_stays (reply.BeginRefused begin.Stopped) new step = subst (PlanStays old) (sym step.1) (plan_untouched old.disk old.stopped)
-  prepare_stays (reply.BeginRefused begin.InFlight) new step = subst (PlanStays old) (sym step.2) (plan_untouched old.disk old.stopped)
-  prepare_stays (reply.BeginRefused begin.NotSealed) new step = subst (PlanStays old) (sym step.3) (plan_untouched old.disk old.stopped)
-  prepare_stays (reply.BeginRefused begin.Exhausted) new step = subst (PlanStays old) (sym step.4) (plan_untouched old.disk old.stopped)
-  prepare_stays (reply.BeginRefused begin.Fault) new step = subst (PlanStays old) (sym step.3) (plan_untouched new.disk true)
-  prepare_stays (reply.BeginRefused begin.NoMemory) new step = subst (PlanStays old) (sym step.3) (plan_untouched new.disk old.stopped)
-  prepare_stays (reply.BeginRefused begin.Damaged) new step = subst (PlanStays old) (sym step.4) (plan_untouched new.disk true)
+  prepare_stays (reply.Prepared prepared) new step = subst (PlanStays old) (sym step.3) (plan_untouched new.disk new.unprepared old.stopped)
+  prepare_stays (reply.BeginRefused begin.Stopped) new step = subst (PlanStays old) (sym step.1) (plan_untouched old.disk old.unprepared old.stopped)
+  prepare_stays (reply.BeginRefused begin.InFlight) new step = subst (PlanStays old) (sym step.2) (plan_untouched old.disk old.unprepared old.stopped)
+  prepare_stays (reply.BeginRefused begin.NotSealed) new step = subst (PlanStays old) (sym step.3) (plan_untouched old.disk old.unprepared old.stopped)
+  prepare_stays (reply.BeginRefused begin.Exhausted) new step = subst (PlanStays old) (sym step.4) (plan_untouched old.disk old.unprepared old.stopped)
+  prepare_stays (reply.BeginRefused begin.Fault) new step = subst (PlanStays old) (sym step.3) (plan_untouched new.disk all_unprepared true)
+  prepare_stays (reply.BeginRefused begin.NoMemory) new step = subst (PlanStays old) (sym step.3) (plan_untouched new.disk all_unprepared old.stopped)
+  prepare_stays (reply.BeginRefused begin.Damaged) new step = subst (PlanStays old) (sym step.4) (plan_untouched new.disk all_unprepared true)
   prepare_stays _ new step = absurd step
 
 -- the values that a run holds, by what an event leaves

@@ -1,5 +1,5 @@
 -- The states between two calls. For make_room.
-use Rattle.std.proofs.Common.{◌≡◌, ◌⊎◌, inl, inr, ◌<◌, refl, sym, ap, subst, ◌∙◌, arith}
+use Rattle.std.proofs.Common.{◌≡◌, ◌⊎◌, inl, inr, ◌<◌, refl, sym, ap, subst, ◌∙◌, arith, ℕ}
 use Rattle.store_layout.specs.Group.{last_place}
 use Rattle.sector_dev.specs.Disk.{Disk}
 use Rattle.group_phases.specs.declared.phases.Check.{Check}
@@ -53,29 +53,29 @@ room_made old new steady (inr (sealed, folded)) =
         );
       };
       ready = ap (λ (v : StateView). v.check) is;
-      state = subst (λ (v : StateView). v ≡ record old { disk = v.disk; check = Ready; plan = v.plan; epoch = v.epoch; version = v.version; checkpoint = v.checkpoint; written = v.written }) (sym is) refl;
+      state = subst (λ (v : StateView). v ≡ record old { disk = v.disk; check = Ready; plan = v.plan; epoch = v.epoch; version = v.version; checkpoint = v.checkpoint; written = v.written; unprepared = v.unprepared }) (sym is) refl;
     }
 
-rests_on : (check : Check) (old : StateView) (disk : Disk) → CheckRests check old → CheckRests check (record old { disk = disk })
-rests_on Ready old disk rests = rests
-rests_on Sealed old disk rests = rests
-rests_on Planned old disk rests = rests
-rests_on Laid old disk rests = rests
-rests_on Switched old disk rests = rests
-rests_on SwitchFailed old disk rests = rests
-rests_on Live old disk rests = rests
-rests_on Closing old disk rests = rests
-rests_on CloseFailed old disk rests = rests
+rests_on : (check : Check) (old : StateView) (disk : Disk) (unprepared : ℕ) → CheckRests check old → CheckRests check (record old { disk = disk; unprepared = unprepared })
+rests_on Ready old disk unprepared rests = rests
+rests_on Sealed old disk unprepared rests = rests
+rests_on Planned old disk unprepared rests = rests
+rests_on Laid old disk unprepared rests = rests
+rests_on Switched old disk unprepared rests = rests
+rests_on SwitchFailed old disk unprepared rests = rests
+rests_on Live old disk unprepared rests = rests
+rests_on Closing old disk unprepared rests = rests
+rests_on CloseFailed old disk unprepared rests = rests
 
 -- and so it does where its device was read
-pub looked_at : (old new : StateView) → IsSteady old → new ≡ record old { disk = new.disk } → OnlyDeviceWasRead old new
+pub looked_at : (old new : StateView) → IsSteady old → new ≡ record old { disk = new.disk; unprepared = new.unprepared } → OnlyDeviceWasRead old new
 looked_at old new steady is = record {
   steady = subst IsSteady (sym is) (record {
     geometry = steady.geometry;
     version = steady.version;
     going = steady.going;
     plan = steady.plan;
-    check = rests_on old.check old new.disk steady.check;
+    check = rests_on old.check old new.disk new.unprepared steady.check;
   });
   state = is;
 }

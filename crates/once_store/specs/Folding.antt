@@ -30,6 +30,7 @@ pub record IsFolded (old new : StateView) : Type 0 where
     version = latest;
     checkpoint = new.checkpoint;
     written = new.written;
+    unprepared = new.unprepared;
   }
 
 -- A checkpoint may be made: no plan is out, and either no journal is sealed, or one is and an epoch
@@ -64,9 +65,10 @@ pub record IsRoomMade (old new : StateView) : Type 0 where
     version = new.version;
     checkpoint = new.checkpoint;
     written = new.written;
+    unprepared = new.unprepared;
   }
 
--- The device was read, and nothing else has changed.
+-- The device was read, and what was prepared may be dropped. Nothing else has changed.
 pub record OnlyDeviceWasRead (old new : StateView) : Type 0 where
   pub steady : IsSteady new
-  pub state : new ≡ record old { disk = new.disk }
+  pub state : new ≡ record old { disk = new.disk; unprepared = new.unprepared }

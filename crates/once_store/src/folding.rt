@@ -27,7 +27,7 @@ pub(crate) fn make_room(state: &mut MemoryState) -> Result<(), AllocError>
 fn fold(state: &mut MemoryState) -> Result<(), AllocError>
     requires may { MayFold state.old }
     ensures folded { OnOk result (IsReadyOrFolded state.old state.new) }
-    ensures same { OnErr result (state.new ≡ record state.old { disk = state.new.disk }) }
+    ensures same { OnErr result (state.new ≡ record state.old { disk = state.new.disk; unprepared = state.new.unprepared }) }
 {
     byte_lists::padded_sectors();
     match state.begin() {

@@ -1,6 +1,7 @@
 use Rattle.std.proofs.Common.{◌≤◌, not, [], refl, ◌∙◌, ap, subst, arith}
 use Rattle.sector_dev.specs.Disk.{Disk, IsHonest, IsWhole}
 use Rattle.store_layout.specs.Group.{last_place}
+use Rattle.ckpt_stream.specs.HalfRead.{pieces_to_come}
 use Rattle.group_phases.specs.declared.phases.Flush.TheVariants.{Resting}
 use Rattle.group_core.specs.Starting.{check_in, no_turn}
 use Rattle.group_core.proofs.Start.{not_false, opens_so, started_so}
@@ -31,6 +32,7 @@ invariant_of-result g c =
       version = c.version-version.ensures.version i;
       checkpoint = [];
       written = 0;
+      unprepared = ap pieces_to_come c.new-5.ensures.unread i;
       stopped = not c.goes_on-stopped.result;
     })
     parts.ensures.rows c.place-place.ensures c.requires.paid refl c.new-5.ensures.from
