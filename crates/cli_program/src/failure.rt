@@ -1,7 +1,8 @@
 //! Why the words of a command line are not carried out, with what a user has to know of it.
 
 ghost use Rattle.std.specs.Prelude.{◌≡◌};
-ghost use Rattle.cli_program.specs.Failures.{ended_by};
+ghost use Rattle.std.specs.IoError.{error_kind};
+ghost use Rattle.cli_program.specs.Failures.{ended_by, or_memory};
 
 use crate::ending::Ended;
 use cli_once::Fault;
@@ -47,14 +48,26 @@ impl Failure<'_> {
         match self {
             Failure::Core(_, error) => Ended::Session(Fault::Text(*error)),
             Failure::Key => Ended::Session(Fault::Hex),
-            Failure::Address(_, _) | Failure::Listen(_, _) => Ended::Net,
-            Failure::File(_, _) => Ended::Store(StoreFault::File),
+            Failure::Address(_, _) => Ended::Net,
+            Failure::Listen(_, error) => or_for_memory(error, Ended::Net),
+            Failure::File(_, error) => or_for_memory(error, Ended::Store(StoreFault::File)),
             Failure::Store(_, fault) => Ended::Store(*fault),
             Failure::Server(error) => Ended::from(*error),
             Failure::Session(fault) => Ended::Session(*fault),
             Failure::Memory => Ended::Session(Fault::Memory),
             Failure::Output => Ended::Session(Fault::Output),
         }
+    }
+}
+
+/// How the program ends where the system refuses a file or an address: as for any other want of
+/// memory, or as for another refusal.
+fn or_for_memory(error: &io::Error, other: Ended) -> Ended
+    ensures { result ≡ or_memory (error_kind error.now) other }
+{
+    match error.kind() {
+        ErrorKind::OutOfMemory => Ended::Session(Fault::Memory),
+        _ => other,
     }
 }
 
