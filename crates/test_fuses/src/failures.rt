@@ -205,20 +205,33 @@ fn assert_next(rt: &impl TestHost, lines: &[Line], next: usize, number: usize) {
     assert_same(rt, &is_next, &true, &(next, number));
 }
 
-/// What a run left on a device: the image, and the place to which it opens, which is in these
-/// bounds.
+/// What a run left on a device.
+struct Image {
+    /// The bytes of the script's sectors.
+    bytes: Vec<u8>,
+    /// The place to which the device opened.
+    place: u64,
+    /// The device, as opening it left it.
+    device: MemDevice,
+}
+
+/// What a run left on a device, which opens to a place in these bounds.
 fn opened_image(
     rt: &impl TestHost,
     alloc: Global,
     script: &Script,
     device: MemDevice,
     bounds: (u64, u64),
-) -> (Vec<u8>, u64, MemDevice) {
+) -> Image {
     let mut device = device;
-    let image = bytes_of(rt, alloc, &mut device, script.sectors());
+    let bytes = bytes_of(rt, alloc, &mut device, script.sectors());
     let store = opened(rt, alloc, device);
     let (place, device) = fronted(rt, alloc, script, store, bounds);
-    (image, place, device)
+    Image {
+        bytes,
+        place,
+        device,
+    }
 }
 
 /// Has a script's run fail at its calls of the device that the script has tried, one after the
@@ -242,20 +255,23 @@ pub fn failing_runs<F: Failure>(
         let failing = failure.over(restored(rt, device, &script.image), number);
         let (left, rest) = failing_run(rt, alloc, script, failure, failing);
         next = next_event(rt, &script.lines, next, left.ending);
-        let bounds = left.bounds();
-        let (image, place);
-        (image, place, device) = opened_image(rt, alloc, script, rest, bounds);
+        let Image {
+            bytes,
+            place,
+            device: memory,
+        } = opened_image(rt, alloc, script, rest, left.bounds());
+        device = memory;
         if left.ending == Ending::Whole {
             return (runs, again);
         }
         runs = runs.saturating_add(1);
-        if image.as_slice() == last.as_slice() {
+        if bytes.as_slice() == last.as_slice() {
             continue;
         }
         let failures;
-        (failures, device) = failing_openings(rt, alloc, script, failure, device, (&image, place));
+        (failures, device) = failing_openings(rt, alloc, script, failure, device, (&bytes, place));
         again = again.saturating_add(failures);
-        last = image;
+        last = bytes;
     }
     rt.fail("the run makes no end")
 }

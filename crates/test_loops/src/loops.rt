@@ -72,11 +72,17 @@ pub fn redeem_all<R: Wait + TestHost>(
 }
 
 /// What comes of a run.
-type Counts = (u64, u64, u64);
+#[derive(Clone, Copy, Debug, PartialEq, Eq)]
+struct Counts {
+    /// How many commands are committed.
+    committed: u64,
+    /// Of how many commands it is not known whether they are.
+    unknown: u64,
+    /// How many calls were made from the one on before which the state stopped.
+    late: u64,
+}
 
-/// Runs both loops over a state that stops before a call: how many commands are committed, and of
-/// how many that is not known, once all tickets are redeemed; and how many calls there were from
-/// that one on.
+/// Runs both loops over a state that stops before a call, and then redeems all tickets.
 fn stopped_at<R: Wait + Abort + Copy + Drop>(
     rt: R,
     alloc: Global,
@@ -93,7 +99,12 @@ fn stopped_at<R: Wait + Abort + Copy + Drop>(
     checkpointer_loop(&rt, &fake, &Silent);
     let (committed, unknown) = redeem_all(&rt, &fake, tickets);
     let late = calls.wrapping_sub(number).wrapping_add(1);
-    (fake.into_device(), (committed, unknown, late))
+    let counts = Counts {
+        committed,
+        unknown,
+        late,
+    };
+    (fake.into_device(), counts)
 }
 
 /// Eight calls commit the first group: the fifth stages the second group to follow it, the next two
@@ -101,7 +112,7 @@ fn stopped_at<R: Wait + Abort + Copy + Drop>(
 /// group, which no group follows. Publishing goes on where the state has stopped. The loop ends
 /// with the next staging: with the call of this number, where that is one.
 fn counts_at(number: u64) -> Counts {
-    let calls = if number == 1 || 13 <= number {
+    let late = if number == 1 || 13 <= number {
         1
     } else if number == 5 || number == 8 || number == 10 {
         // A refusal to follow is passed on to the sync of the gate, and the group that followed a
@@ -110,12 +121,17 @@ fn counts_at(number: u64) -> Counts {
     } else {
         2
     };
-    if number <= 7 {
-        (0, 40, calls)
+    let (committed, unknown) = if number <= 7 {
+        (0, 40)
     } else if number <= 11 {
-        (32, 8, calls)
+        (32, 8)
     } else {
-        (40, 0, calls)
+        (40, 0)
+    };
+    Counts {
+        committed,
+        unknown,
+        late,
     }
 }
 
@@ -162,15 +178,46 @@ pub fn pieces_of<R: Wait + Abort + Copy + Drop>(
     panic!(&rt; "the pieces make no end")
 }
 
-/// What a store is found to be: how many rows it has, its place, the epoch of its half, and whether
-/// that half's journal is sealed.
-type Found = (usize, u64, u64, bool);
+/// What a store is found to be.
+#[derive(Clone, Copy, Debug, PartialEq, Eq)]
+struct Found {
+    /// How many rows it has.
+    rows: usize,
+    /// The place to which it is opened.
+    place: u64,
+    /// The epoch of its half.
+    epoch: u64,
+    /// Whether that half's journal is sealed.
+    is_sealed: bool,
+}
+
+/// A store of one row whose first journal was sealed after the registration of that row.
+const ONE_ROW: Found = Found {
+    rows: 1,
+    place: 1,
+    epoch: 1,
+    is_sealed: true,
+};
+
+/// A store of no rows whose first journal was sealed after as many groups of one purge as it has
+/// room for.
+const FULL_JOURNAL: Found = Found {
+    rows: 0,
+    place: GROUPS,
+    epoch: 1,
+    is_sealed: true,
+};
 
 /// What a device opens to.
 fn found_on(rt: &Host<impl Abort>, alloc: Global, device: MemDevice) -> (MemDevice, Found) {
     let store = opened(rt, alloc, device);
     let Contents { rows, place, .. } = contents_of(&store);
-    let found = (rows, place, store.epoch(), store.is_sealed());
+    let found = Found {
+        rows,
+        place,
+        epoch: store.epoch(),
+        is_sealed: store.is_sealed(),
+    };
     (store.into_device(), found)
 }
 
@@ -195,26 +242,32 @@ fn folded_at<R: Wait + Abort + Copy + Drop>(
     found_on(&host, alloc, fake.into_device())
 }
 
-/// What is found of a store of these rows whose journal was sealed at a place. Seven calls make a
-/// checkpoint, after this many have prepared it: after the fourth one, which writes the gate of the
-/// new half, the device opens with that half.
-fn found_at((rows, place): (usize, u64), pieces: u64, number: u64, is_committed: bool) -> Found {
-    let place = place.wrapping_add(u64::from(is_committed));
+/// What a store is found to be that was sealed before. Seven calls make a checkpoint, after this
+/// many have prepared it: after the fourth one, which writes the gate of the new half, the device
+/// opens with that half.
+fn found_at(sealed: Found, pieces: u64, number: u64, is_committed: bool) -> Found {
+    let place = sealed.place.wrapping_add(u64::from(is_committed));
     if number <= pieces.wrapping_add(4) {
-        (rows, place, 1, true)
+        Found { place, ..sealed }
     } else {
-        (rows, place, 2, false)
+        Found {
+            rows: sealed.rows,
+            place,
+            epoch: 2,
+            is_sealed: false,
+        }
     }
 }
 
 /// Has the checkpointer's loop stopped before each of the calls that prepare a checkpoint, and
-/// before this number of calls after them, over a device with a sealed journal: before and after a
-/// purge is committed, or by turns before the last of the former calls and those after them.
+/// before this number of calls after them, over a device with a sealed journal, which opens to
+/// this: before and after a purge is committed, or by turns before the last of the former calls and
+/// those after them.
 fn fold_all<R: Wait + Abort + Copy + Drop>(
     rt: R,
     alloc: Global,
     device: MemDevice,
-    pair: (usize, u64),
+    sealed: Found,
     stops: u64,
     by_turns: bool,
 ) {
@@ -230,7 +283,7 @@ fn fold_all<R: Wait + Abort + Copy + Drop>(
             let found;
             device = restored(&host, device, &image);
             (device, found) = folded_at(rt, alloc, device, number, is_committed);
-            let wanted = found_at(pair, pieces, number, is_committed);
+            let wanted = found_at(sealed, pieces, number, is_committed);
             assert_eq!(&rt; found, wanted, "{number} {is_committed}");
         }
     }
@@ -240,8 +293,8 @@ fn fold_all<R: Wait + Abort + Copy + Drop>(
 fn checkpointer_ends(rt: HostRuntime) -> Result<(), Fail> {
     let host = Host(&rt);
     let alloc = rt.alloc();
-    fold_all(&rt, alloc, sealed_row(&host, alloc), (1, 1), STOPS, false);
+    fold_all(&rt, alloc, sealed_row(&host, alloc), ONE_ROW, STOPS, false);
     // A full journal takes long to read.
-    fold_all(&rt, alloc, full_device(&rt, alloc), (0, GROUPS), 8, true);
+    fold_all(&rt, alloc, full_device(&rt, alloc), FULL_JOURNAL, 8, true);
     Ok(())
 }

@@ -36,9 +36,18 @@ impl<R: Wait> Watch for Kept<R> {
     }
 }
 
-/// How many stagings and publishings are refused memory, before the call of which number the state
-/// stops, and what is noted.
-type Row = (u64, u64, u64, &'static [Notice]);
+/// A run of the flusher's loop, and what it notes.
+#[derive(Clone, Copy)]
+struct FlusherRun {
+    /// How many stagings are refused memory.
+    stagings: u64,
+    /// How many publishings are refused memory.
+    publishings: u64,
+    /// The number of the call before which the state stops, the first one being number 1.
+    stop: u64,
+    /// What is noted, in order.
+    noted: &'static [Notice],
+}
 
 /// Memory is refused, and given again.
 const ONCE: &[Notice] = &[Notice::NoMemory, Notice::MemoryGiven];
@@ -52,35 +61,47 @@ const TWICE: &[Notice] = &[
 ];
 
 /// One purge. Seven calls commit it, and the eighth finds nothing to stage.
-const ALONE: [Row; 8] = [
-    (0, 0, 9, &[]),
-    (1, 0, 9, ONCE),
-    (5, 0, 9, ONCE),
-    (0, 5, 9, ONCE),
-    (2, 2, 9, TWICE),
+#[rattlefmt::skip]
+const ALONE: [FlusherRun; 8] = [
+    FlusherRun { stagings: 0, publishings: 0, stop: 9, noted: &[] },
+    FlusherRun { stagings: 1, publishings: 0, stop: 9, noted: ONCE },
+    FlusherRun { stagings: 5, publishings: 0, stop: 9, noted: ONCE },
+    FlusherRun { stagings: 0, publishings: 5, stop: 9, noted: ONCE },
+    FlusherRun { stagings: 2, publishings: 2, stop: 9, noted: TWICE },
     // The state stops before the purge is staged, before it is written, and before it is published,
     // which goes on.
-    (3, 0, 1, &[Notice::NoMemory]),
-    (3, 3, 2, ONCE),
-    (0, 3, 7, ONCE),
+    FlusherRun { stagings: 3, publishings: 0, stop: 1, noted: &[Notice::NoMemory] },
+    FlusherRun { stagings: 3, publishings: 3, stop: 2, noted: ONCE },
+    FlusherRun { stagings: 0, publishings: 3, stop: 7, noted: ONCE },
 ];
 
 /// Two groups, of which the second one follows. The eighth call publishes the first one, and the
 /// twelfth the second one.
-const FOLLOWED: [Row; 4] = [
-    (0, 0, 14, &[]),
-    (0, 1, 14, ONCE),
-    (0, 5, 14, ONCE),
-    (4, 4, 14, TWICE),
+#[rattlefmt::skip]
+const FOLLOWED: [FlusherRun; 4] = [
+    FlusherRun { stagings: 0, publishings: 0, stop: 14, noted: &[] },
+    FlusherRun { stagings: 0, publishings: 1, stop: 14, noted: ONCE },
+    FlusherRun { stagings: 0, publishings: 5, stop: 14, noted: ONCE },
+    FlusherRun { stagings: 4, publishings: 4, stop: 14, noted: TWICE },
 ];
 
-/// A sealed journal: before the call of which number the state stops, counted after those that
-/// prepare the checkpoint, and what is noted. Seven calls make a checkpoint.
-const SEALED: [(u64, &[Notice]); 4] = [
-    (1, &[]),
-    (2, &[Notice::CheckpointBegun]),
-    (7, &[Notice::CheckpointBegun]),
-    (8, &[Notice::CheckpointBegun, Notice::CheckpointDone]),
+/// A run of the checkpointer's loop, and what it notes.
+#[derive(Clone, Copy)]
+struct CheckpointerRun {
+    /// The number of the call before which the state stops, the first one after those that prepare
+    /// the checkpoint being number 1.
+    stop: u64,
+    /// What is noted, in order.
+    noted: &'static [Notice],
+}
+
+/// A sealed journal. Seven calls make a checkpoint.
+#[rattlefmt::skip]
+const SEALED: [CheckpointerRun; 4] = [
+    CheckpointerRun { stop: 1, noted: &[] },
+    CheckpointerRun { stop: 2, noted: &[Notice::CheckpointBegun] },
+    CheckpointerRun { stop: 7, noted: &[Notice::CheckpointBegun] },
+    CheckpointerRun { stop: 8, noted: &[Notice::CheckpointBegun, Notice::CheckpointDone] },
 ];
 
 /// Sees what was noted.
@@ -91,66 +112,67 @@ fn assert_kept<R: Wait + Abort + Drop>(kept: Kept<R>, wanted: &[Notice]) {
 }
 
 /// Runs the flusher's loop over one purge.
-fn assert_alone<R: Wait + Abort + Copy + Drop>(rt: R, alloc: Global, row: Row) {
-    let (stagings, publishings, number, wanted) = row;
+fn assert_alone<R: Wait + Abort + Copy + Drop>(rt: R, alloc: Global, run: FlusherRun) {
     let host = Host(rt);
     let fake = Fake::new(host, alloc, formatted(&host, alloc, LEAST));
     let kept = Kept::new(rt, alloc);
     let ticket = submit(&host, &fake, &mut Unwatched);
-    fake.stop_before(number);
-    flusher_loop(&rt, &Scarce::new(&fake, stagings, publishings), &kept);
+    fake.stop_before(run.stop);
+    flusher_loop(
+        &rt,
+        &Scarce::new(&fake, run.stagings, run.publishings),
+        &kept,
+    );
     spend(&host, &fake, &mut Unwatched, ticket);
-    assert_kept(kept, wanted);
+    assert_kept(kept, run.noted);
     let _device = fake.into_device();
 }
 
 /// Runs it over two groups.
-fn assert_followed<R: Wait + Abort + Copy + Drop>(rt: R, alloc: Global, row: Row) {
-    let (stagings, publishings, number, wanted) = row;
+fn assert_followed<R: Wait + Abort + Copy + Drop>(rt: R, alloc: Global, run: FlusherRun) {
     let host = Host(rt);
     let fake = Fake::new(host, alloc, formatted(&host, alloc, LEAST));
     let kept = Kept::new(rt, alloc);
     let tickets = submit_all(&rt, alloc, &fake);
-    fake.stop_before(number);
-    flusher_loop(&rt, &Scarce::new(&fake, stagings, publishings), &kept);
+    fake.stop_before(run.stop);
+    flusher_loop(
+        &rt,
+        &Scarce::new(&fake, run.stagings, run.publishings),
+        &kept,
+    );
     let (committed, unknown) = redeem_all(&rt, &fake, tickets);
     assert_eq!(&rt; (committed, unknown), (40, 0));
-    assert_kept(kept, wanted);
+    assert_kept(kept, run.noted);
     let _device = fake.into_device();
 }
 
 /// Runs the checkpointer's loop over a sealed journal.
-fn assert_sealed<R: Wait + Abort + Copy + Drop>(
-    rt: R,
-    alloc: Global,
-    number: u64,
-    wanted: &[Notice],
-) {
+fn assert_sealed<R: Wait + Abort + Copy + Drop>(rt: R, alloc: Global, run: CheckpointerRun) {
     let host = Host(rt);
     let (device, pieces) = pieces_of(rt, alloc, sealed_row(&host, alloc));
     let fake = Fake::new(host, alloc, device);
     let kept = Kept::new(rt, alloc);
-    fake.stop_before(number.wrapping_add(pieces));
+    fake.stop_before(run.stop.wrapping_add(pieces));
     checkpointer_loop(&rt, &fake, &kept);
-    assert_kept(kept, wanted);
+    assert_kept(kept, run.noted);
     let _device = fake.into_device();
 }
 
 #[test]
 fn flusher_notes_memory(rt: HostRuntime) -> Result<(), Fail> {
-    for row in ALONE {
-        assert_alone(&rt, rt.alloc(), row);
+    for run in ALONE {
+        assert_alone(&rt, rt.alloc(), run);
     }
-    for row in FOLLOWED {
-        assert_followed(&rt, rt.alloc(), row);
+    for run in FOLLOWED {
+        assert_followed(&rt, rt.alloc(), run);
     }
     Ok(())
 }
 
 #[test]
 fn checkpointer_notes_checkpoints(rt: HostRuntime) -> Result<(), Fail> {
-    for (number, wanted) in SEALED {
-        assert_sealed(&rt, rt.alloc(), number, wanted);
+    for run in SEALED {
+        assert_sealed(&rt, rt.alloc(), run);
     }
     Ok(())
 }

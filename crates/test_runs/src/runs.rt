@@ -155,21 +155,32 @@ const TOLD: [&[Line]; 8] = [
     ],
 ];
 
-/// For each number of events, and those above the one before it: the place to which the device
-/// opens after them, and the interfaces by which the segments of its rows are left, a bit for each.
-const PLACES: [(usize, u64, u64); 5] = [
-    (28, 1, 0b10),
-    (42, 2, 0b110),
-    (55, 4, 0b1100),
-    (91, 6, 0b1110),
-    (115, 7, 0b1110),
+/// What the device opens to after a number of events.
+#[derive(Clone, Copy)]
+struct OpensTo {
+    /// The greatest number of events after which it does so.
+    most: usize,
+    /// The place to which it opens.
+    place: u64,
+    /// The interfaces by which the segments of its rows are left, a bit for each.
+    rows: u64,
+}
+
+/// Each row holds for the numbers of events above those of the row before it.
+#[rattlefmt::skip]
+const PLACES: [OpensTo; 5] = [
+    OpensTo { most: 28, place: 1, rows: 0b10 },
+    OpensTo { most: 42, place: 2, rows: 0b110 },
+    OpensTo { most: 55, place: 4, rows: 0b1100 },
+    OpensTo { most: 91, place: 6, rows: 0b1110 },
+    OpensTo { most: 115, place: 7, rows: 0b1110 },
 ];
 
-/// What the device opens to after this number of events.
+/// The place to which the device opens after this number of events, and its rows.
 fn place_behind(count: usize) -> (u64, u64) {
-    for (most, place, rows) in PLACES {
-        if count <= most {
-            return (place, rows);
+    for row in PLACES {
+        if count <= row.most {
+            return (row.place, row.rows);
         }
     }
     (0, 0)

@@ -38,26 +38,24 @@ enum Act {
     Remove,
 }
 
-/// Commands, what each does, and how many segments the lookup finds after it.
-const ACTS: [(Act, Outcome, usize); 4] = [
-    (
-        Act::Register,
-        Outcome {
-            inserted: 1,
-            ..NOTHING
-        },
-        1,
-    ),
-    (Act::Register, Outcome { kept: 1, ..NOTHING }, 1),
-    (Act::Purge, NOTHING, 1),
-    (
-        Act::Remove,
-        Outcome {
-            purged: 1,
-            ..NOTHING
-        },
-        0,
-    ),
+/// A command, and what comes of it.
+#[derive(Clone, Copy)]
+struct Answered {
+    /// The command.
+    act: Act,
+    /// What it does.
+    outcome: Outcome,
+    /// How many segments the lookup finds after it.
+    after: usize,
+}
+
+/// The commands in their order.
+#[rattlefmt::skip]
+const ACTS: [Answered; 4] = [
+    Answered { act: Act::Register, outcome: Outcome { inserted: 1, ..NOTHING }, after: 1 },
+    Answered { act: Act::Register, outcome: Outcome { kept: 1, ..NOTHING }, after: 1 },
+    Answered { act: Act::Purge, outcome: NOTHING, after: 1 },
+    Answered { act: Act::Remove, outcome: Outcome { purged: 1, ..NOTHING }, after: 0 },
 ];
 
 /// The bodies of a registration and of the lookup of its segment.
@@ -141,11 +139,11 @@ fn assert_ack(rt: &impl Abort, ack: Ack, wanted: (u64, Outcome)) {
 fn call(rt: &impl Abort, alloc: Global, service: &mut impl Service, bodies: Bodies<'_>) {
     let mut before = 0;
     assert_found(rt, alloc, service, bodies, before);
-    for (place, (act, outcome, after)) in ACTS.iter().enumerate() {
-        let ack = answer_again(rt, alloc, service, bodies, (*act, before));
-        assert_ack(rt, ack, (place as u64, *outcome));
-        assert_found(rt, alloc, service, bodies, *after);
-        before = *after;
+    for (place, row) in ACTS.iter().enumerate() {
+        let ack = answer_again(rt, alloc, service, bodies, (row.act, before));
+        assert_ack(rt, ack, (place as u64, row.outcome));
+        assert_found(rt, alloc, service, bodies, row.after);
+        before = row.after;
     }
 }
 

@@ -11,21 +11,33 @@ use test_group_scripts::stores::{
 };
 use test_group_scripts::work::{Paid, Work, work_of};
 
-/// A version, how many commands a group takes at most, and how the payloads of two groups begin: of
-/// this number of purges, whose records have 13 bytes each, and of one more.
-const VERSIONS: [(u32, usize, [u8; 16], [u8; 16]); 2] = [
-    (
-        1,
-        8,
-        [1, 8, 0, 0, 0, 0, 0, 104, 0, 0, 0, 0, 0, 0, 0, 0],
-        [1, 1, 0, 0, 0, 0, 0, 13, 0, 0, 0, 0, 0, 0, 0, 8],
-    ),
-    (
-        2,
-        32,
-        [1, 32, 0, 0, 0, 0, 1, 160, 0, 0, 0, 0, 0, 0, 0, 0],
-        [1, 1, 0, 0, 0, 0, 0, 13, 0, 0, 0, 0, 0, 0, 0, 32],
-    ),
+/// What a group of a version takes, and how the payloads of two groups begin. The record of a purge
+/// has 13 bytes.
+#[derive(Clone, Copy)]
+struct Version {
+    /// The number of the version.
+    number: u32,
+    /// How many commands a group takes at most.
+    most: usize,
+    /// The first bytes of the payload of this number of purges.
+    first: [u8; 16],
+    /// The first bytes of the payload of one more purge, in the next group.
+    second: [u8; 16],
+}
+
+const VERSIONS: [Version; 2] = [
+    Version {
+        number: 1,
+        most: 8,
+        first: [1, 8, 0, 0, 0, 0, 0, 104, 0, 0, 0, 0, 0, 0, 0, 0],
+        second: [1, 1, 0, 0, 0, 0, 0, 13, 0, 0, 0, 0, 0, 0, 0, 8],
+    },
+    Version {
+        number: 2,
+        most: 32,
+        first: [1, 32, 0, 0, 0, 0, 1, 160, 0, 0, 0, 0, 0, 0, 0, 0],
+        second: [1, 1, 0, 0, 0, 0, 0, 13, 0, 0, 0, 0, 0, 0, 0, 32],
+    },
 ];
 
 /// A new store of this version.
@@ -77,31 +89,25 @@ fn assert_begins(rt: &Host<impl Abort>, device: &mut MemDevice, at: u64, wanted:
     assert!(rt.0; sector.starts_with(wanted), "{at}");
 }
 
-/// Sees that this number of purges is in one group and one more is in another, and how their
-/// payloads begin.
-fn assert_groups(
-    rt: &Host<impl Abort>,
-    alloc: Global,
-    version: u32,
-    (most, first, second): (usize, &[u8; 16], &[u8; 16]),
-    newest_first: bool,
-) {
-    let store = opened(rt, alloc, store_of(rt, alloc, version));
+/// Sees that as many purges as a group takes are in one group and one more is in another, and how
+/// their payloads begin.
+fn assert_groups(rt: &Host<impl Abort>, alloc: Global, version: &Version, newest_first: bool) {
+    let most = version.most;
+    let store = opened(rt, alloc, store_of(rt, alloc, version.number));
     let work = two_groups(rt, work_of(rt, alloc, store), most, newest_first);
     let wanted = Contents::empty_at((most as u64).saturating_add(1));
     let mut device = work.ends(rt, wanted);
-    assert_begins(rt, &mut device, 5, first);
-    assert_begins(rt, &mut device, 7, second);
+    assert_begins(rt, &mut device, 5, &version.first);
+    assert_begins(rt, &mut device, 7, &version.second);
     let _device = assert_opens_to(rt, alloc, device, wanted);
 }
 
 #[test]
 fn groups_of_thirty_two(rt: HostRuntime) -> Result<(), Fail> {
     let host = Host(&rt);
-    for (version, most, first, second) in &VERSIONS {
+    for version in &VERSIONS {
         for newest_first in [false, true] {
-            let groups = (*most, first, second);
-            assert_groups(&host, rt.alloc(), *version, groups, newest_first);
+            assert_groups(&host, rt.alloc(), version, newest_first);
         }
     }
     Ok(())

@@ -106,14 +106,19 @@ fn written(rt: &Host<impl Abort>, work: Work<FaultDevice>) -> (Failed, MemDevice
     (Failed::None, work.ends(rt, LARGE_CONTENTS).into_mem())
 }
 
-/// How many calls of `prepare`, `begin` and `write_chunk` fail in turn. Each time the device opens
-/// to the same.
-fn failures(
-    rt: &Host<impl Abort>,
-    alloc: Global,
-    device: MemDevice,
-    is_prepared: bool,
-) -> (u64, u64, u64) {
+/// How many calls of a state fail, each of them in a run of its own.
+#[derive(Clone, Copy, Debug, PartialEq, Eq)]
+struct Calls {
+    /// How many calls of `prepare` fail.
+    prepares: u64,
+    /// How many calls of `begin` fail.
+    begins: u64,
+    /// How many calls of `write_chunk` fail.
+    chunks: u64,
+}
+
+/// How many calls fail in turn. Each time the device opens to the same.
+fn failures(rt: &Host<impl Abort>, alloc: Global, device: MemDevice, is_prepared: bool) -> Calls {
     let mut device = device;
     let mut prepares = 0u64;
     let mut begins = 0u64;
@@ -127,7 +132,13 @@ fn failures(
             Failed::Prepare => prepares = prepares.saturating_add(1),
             Failed::Begin => begins = begins.saturating_add(1),
             Failed::Chunk => chunks = chunks.saturating_add(1),
-            Failed::None => return (prepares, begins, chunks),
+            Failed::None => {
+                return Calls {
+                    prepares,
+                    begins,
+                    chunks,
+                };
+            }
         }
     }
     rt.fail("the calls make no end")
@@ -136,10 +147,18 @@ fn failures(
 /// Of `begin`: the front, a group's gate, its first sector and its payload, the gate and the sector
 /// of the seal, the old area in three pieces, and then two pieces of it again for the first 256
 /// sectors. Of two chunks: two writes, and one piece of the old area between them.
-const FAILED: (u64, u64, u64) = (0, 11, 3);
+const FAILED: Calls = Calls {
+    prepares: 0,
+    begins: 11,
+    chunks: 3,
+};
 
 /// Where all pieces are prepared, `begin` makes only the last two of these calls.
-const FAILED_PREPARED: (u64, u64, u64) = (9, 2, 3);
+const FAILED_PREPARED: Calls = Calls {
+    prepares: 9,
+    begins: 2,
+    chunks: 3,
+};
 
 #[test]
 fn each_failed_read_stops(rt: HostRuntime) -> Result<(), Fail> {

@@ -6,7 +6,7 @@ use crate::large_rows::{LARGE_CONTENTS, large_half};
 use crate::sealed::{SECTORS, sectors_from};
 use crate::watched::{Change, Watched};
 use group_core::{BeginError, StepError};
-use sector_dev::MemDevice;
+use sector_dev::{MemDevice, SECTOR};
 use std::alloc::Global;
 use std::process::Abort;
 use std::test::Fail;
@@ -59,25 +59,32 @@ fn bytes_after_a_lie(rt: &Host<impl Abort>, alloc: Global, honest: u64) -> Vec<u
     sectors_from(rt, alloc, &mut memory, 0, SECTORS as usize)
 }
 
-/// Sees whether bytes differ from others in this number of sectors from one on.
-fn assert_differ(
-    rt: &Host<impl Abort>,
-    one: &[u8],
-    other: &[u8],
-    (from, count, wanted): (usize, usize, bool),
-) {
-    let first = from.saturating_mul(512);
-    let size = count.saturating_mul(512);
+/// Sectors of a device, and whether they are other ones after a lie.
+#[derive(Clone, Copy)]
+struct Span {
+    /// The number of the first sector.
+    from: usize,
+    /// How many sectors there are.
+    count: usize,
+    /// Whether a byte of them is another one then.
+    differ: bool,
+}
+
+/// Sees whether bytes differ from others in these sectors.
+fn assert_differ(rt: &Host<impl Abort>, one: &[u8], other: &[u8], span: Span) {
+    let first = span.from.saturating_mul(SECTOR);
+    let size = span.count.saturating_mul(SECTOR);
     let mut both = one.iter().zip(other).skip(first).take(size);
     let differ = both.any(|(one, other)| one != other);
-    assert_same(rt, &differ, &wanted, &from);
+    assert_same(rt, &differ, &span.differ, &span.from);
 }
 
 /// Only the first chunk may have changed.
-const SECTORS_THAT_DIFFER: [(usize, usize, bool); 3] = [
-    (0, 1702, false),
-    (1702, 256, true),
-    (1958, 1445, false),
+#[rattlefmt::skip]
+const SECTORS_THAT_DIFFER: [Span; 3] = [
+    Span { from: 0, count: 1702, differ: false },
+    Span { from: 1702, count: 256, differ: true },
+    Span { from: 1958, count: 1445, differ: false },
 ];
 
 #[test]
@@ -87,8 +94,8 @@ fn lies_are_noticed(rt: HostRuntime) -> Result<(), Fail> {
     let lied = bytes_after_a_lie(&host, rt.alloc(), reads);
     let mut before = large_half(&host, rt.alloc());
     let before = sectors_from(&host, rt.alloc(), &mut before, 0, SECTORS as usize);
-    for sectors in SECTORS_THAT_DIFFER {
-        assert_differ(&host, &before, &lied, sectors);
+    for span in SECTORS_THAT_DIFFER {
+        assert_differ(&host, &before, &lied, span);
     }
     Ok(())
 }

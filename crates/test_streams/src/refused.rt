@@ -17,11 +17,29 @@ use test_group_scripts::stores::opened;
 use test_group_scripts::work::{Told, Work, work_of};
 use test_support::{TestHost, assert_same, assert_true};
 
-/// The numbers of a state, its two buffers, and how many calls have changed its device.
-fn seen(work: &Work<Watched<MemDevice>>) -> (Numbers, (usize, usize), usize) {
+/// What is seen of a state.
+#[derive(Clone, Copy, Debug, PartialEq, Eq)]
+struct View {
+    /// The numbers of the state.
+    numbers: Numbers,
+    /// The length in bytes of its window into the old area.
+    window: usize,
+    /// The length in bytes of its buffer of what is made and not written.
+    made: usize,
+    /// How many calls have changed its device.
+    changes: usize,
+}
+
+/// What is seen of a state now.
+fn seen(work: &Work<Watched<MemDevice>>) -> View {
     let state = &work.state;
-    let changes = state.device().changes().len();
-    (state.numbers(), state.buffer_lens(), changes)
+    let (window, made) = state.buffer_lens();
+    View {
+        numbers: state.numbers(),
+        window,
+        made,
+        changes: state.device().changes().len(),
+    }
 }
 
 /// Prepares a piece, and once more where memory was refused, which changed nothing: whether all
