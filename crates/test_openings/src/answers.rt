@@ -2,6 +2,7 @@
 
 use sector_dev::{Device, MemDevice};
 use std::alloc::Global;
+use std::process::Abort;
 use store_open::{OpenError, Store, open};
 
 /// What a store represents: how many rows, their bytes, and its place.
@@ -56,6 +57,12 @@ pub(crate) fn state_of<D: Device>(store: &Store<D>) -> State {
         is_sealed: store.is_sealed(),
         is_broken: store.is_broken(),
     }
+}
+
+/// Sees what a store represents, and which state it is in.
+pub(crate) fn assert_store<D: Device>(rt: &impl Abort, store: &Store<D>, held: Held, state: State) {
+    assert_eq!(rt; held_by(store), held);
+    assert_eq!(rt; state_of(store), state);
 }
 
 /// Why a device is not opened: the number of the error, and the number of the reason within it,

@@ -6,6 +6,7 @@ use crate::answers::{
 use crate::stopped::{HELD, stopped_store};
 use crate::stores::{change, put, read_sector};
 use sector_dev::{Device, MemDevice, SECTOR};
+use std::alloc::Global;
 use std::test::Fail;
 
 /// What a byte is changed by, bit for bit.
@@ -123,6 +124,22 @@ const CHANGES: [Span; 51] = [
     Span { name: "rest of the last gate", sector: 525, from: 1, end: 4, answers: &[SAME] },
 ];
 
+/// What opening a store answers.
+#[derive(Clone, Copy, Debug)]
+struct Told {
+    /// With one byte changed.
+    changed: Answer,
+    /// With that byte put right again.
+    again: Answer,
+}
+
+impl Span {
+    /// Whether opening answers so where a byte of this span is changed.
+    fn is_told(&self, told: Told) -> bool {
+        self.answers.contains(&told.changed) && told.again == SAME
+    }
+}
+
 /// Restores a sector and all gates.
 fn put_right(device: &mut MemDevice, at: u64, sector: &[u8]) -> Result<(), Fail> {
     for gate in [3, 4, 6, 523] {
@@ -136,27 +153,38 @@ fn put_right(device: &mut MemDevice, at: u64, sector: &[u8]) -> Result<(), Fail>
     Ok(())
 }
 
+/// Changes a byte of a sector by a mask, and opens the store before and after it is put right.
+fn told_of(
+    alloc: Global,
+    device: MemDevice,
+    at: u64,
+    offset: usize,
+    mask: u8,
+) -> Result<(MemDevice, Told), Fail> {
+    let mut device = device;
+    let sector = read_sector(&mut device, at).unwrap_or([0; SECTOR]);
+    let byte = sector.get(offset).copied().unwrap_or(0);
+    change(&mut device, at, offset, &[byte ^ mask])?;
+    let (changed, mut device) = answer_of(alloc, device);
+    put_right(&mut device, at, &sector)?;
+    let (again, device) = answer_of(alloc, device);
+    Ok((device, Told { changed, again }))
+}
+
 #[test]
 fn two_thousand_images_are_told(rt: HostRuntime) -> Result<(), Fail> {
     let mut device = stopped_store(rt.alloc(), false)?;
     let mut images = 0u64;
     for span in &CHANGES {
-        let (name, at) = (span.name, span.sector);
-        let sector = read_sector(&mut device, at).unwrap_or([0; SECTOR]);
-        let bytes = sector.iter().enumerate();
-        for (offset, byte) in bytes.take(span.end).skip(span.from) {
+        for offset in span.from..span.end {
             for mask in MASKS {
-                change(&mut device, at, offset, &[byte ^ mask])?;
-                let (answer, changed) = answer_of(rt.alloc(), device);
+                let told;
+                (device, told) = told_of(rt.alloc(), device, span.sector, offset, mask)?;
                 assert!(rt;
-                    span.answers.contains(&answer),
-                    "{name}: {at} {offset} {mask} {answer:?}"
+                    span.is_told(told),
+                    "{}: {offset} {mask} {told:?}",
+                    span.name
                 );
-                device = changed;
-                put_right(&mut device, at, &sector)?;
-                let (again, whole) = answer_of(rt.alloc(), device);
-                assert_eq!(rt; again, SAME, "{name}: {at} {offset} {mask}");
-                device = whole;
                 images = images.saturating_add(1);
             }
         }

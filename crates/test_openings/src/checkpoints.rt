@@ -1,11 +1,13 @@
 //! Checkpoints at rest: the bytes, each refusal, and a stop or a fault at every call.
 
-use crate::answers::{Held, State, held_by, state_of, usable};
+use crate::answers::{Held, State, assert_store, held_by, state_of, usable};
 use crate::stores::{PLAIN, SECTORS, Worked, new_store, opened, read_sector, worked_store};
-use sector_dev::{FaultDevice, FuseDevice, SECTOR, Tear};
+use sector_dev::{FaultDevice, FuseDevice, MemDevice, SECTOR, Tear};
+use std::alloc::Global;
+use std::process::Abort;
 use std::test::Fail;
 use store_layout::Half;
-use store_open::{StoreError, open};
+use store_open::{Store, StoreError, open};
 
 /// How many calls of the device a checkpoint makes: three writes, and a sync after each.
 const CALLS: u64 = 6;
@@ -63,22 +65,31 @@ fn a_new_store_has_these_bytes_then(rt: HostRuntime) -> Result<(), Fail> {
     Ok(())
 }
 
+/// Makes a checkpoint of a store of this epoch whose tail is in this half: the device.
+fn checkpointed(
+    rt: &impl Abort,
+    alloc: Global,
+    device: MemDevice,
+    epoch: u64,
+    half: Half,
+) -> Result<MemDevice, Fail> {
+    let mut store = opened(alloc, device)?;
+    assert_store(rt, &store, HELD, usable(epoch, 2));
+    assert_eq!(rt; store.tail_half(), half);
+    assert_eq!(rt; store.checkpoint(), Ok(()));
+    assert_store(rt, &store, HELD, usable(epoch.saturating_add(1), 2));
+    assert_eq!(rt; (store.tail_half(), store.tail_gate()), (half.other(), 0));
+    assert_eq!(rt; store.sealed_len(), 279);
+    Ok(store.into_device())
+}
+
 #[test]
 fn rows_are_kept_by_one_after_another(rt: HostRuntime) -> Result<(), Fail> {
     let mut device = worked_store(rt.alloc(), PLAIN)?;
     let mut half = Half::First;
     for epoch in 7..12 {
-        let mut store = opened(rt.alloc(), device)?;
-        assert_eq!(rt; held_by(&store), HELD);
-        assert_eq!(rt; state_of(&store), usable(epoch, 2));
-        assert_eq!(rt; store.tail_half(), half);
-        assert_eq!(rt; store.checkpoint(), Ok(()));
+        device = checkpointed(&rt, rt.alloc(), device, epoch, half)?;
         half = half.other();
-        assert_eq!(rt; held_by(&store), HELD);
-        assert_eq!(rt; state_of(&store), usable(epoch + 1, 2));
-        assert_eq!(rt; (store.tail_half(), store.tail_gate()), (half, 0));
-        assert_eq!(rt; store.sealed_len(), 279);
-        device = store.into_device();
     }
     let store = opened(rt.alloc(), device)?;
     assert_eq!(rt; held_by(&store), HELD);
@@ -129,19 +140,54 @@ const REFUSED: [Refused; 3] = [
         error: StoreError::Unfit },
 ];
 
+/// Sees that a checkpoint is refused twice, and that the store stays as it is.
+fn assert_refused(rt: &impl Abort, store: &mut Store<MemDevice>, row: &Refused) {
+    let (held, state) = (held_by(store), state_of(store));
+    assert_eq!(rt; held.rows, row.rows, "{}", row.name);
+    for _again in 0..2 {
+        assert_eq!(rt; store.checkpoint(), Err(row.error), "{}", row.name);
+        assert_store(rt, store, held, state);
+    }
+}
+
 #[test]
 fn stores_are_refused_in_order(rt: HostRuntime) -> Result<(), Fail> {
     for row in &REFUSED {
         let mut store = opened(rt.alloc(), worked_store(rt.alloc(), row.worked)?)?;
-        let (held, state) = (held_by(&store), state_of(&store));
-        assert_eq!(rt; held.rows, row.rows, "{}", row.name);
-        for _again in 0..2 {
-            assert_eq!(rt; store.checkpoint(), Err(row.error), "{}", row.name);
-            assert_eq!(rt; held_by(&store), held, "{}", row.name);
-            assert_eq!(rt; state_of(&store), state, "{}", row.name);
-        }
+        assert_refused(&rt, &mut store, row);
         let _device = store.into_device();
     }
+    Ok(())
+}
+
+/// Sees that a store of which a call fails is broken, and that its device opens to the same, of
+/// which a checkpoint is made: whether a call of the checkpoint fails.
+fn assert_breaks(
+    rt: &impl Abort,
+    alloc: Global,
+    store: Store<FaultDevice>,
+    number: u64,
+) -> Result<bool, Fail> {
+    let mut store = store;
+    let answer = store.checkpoint();
+    if answer == Ok(()) {
+        let _device = store.into_device();
+        return Ok(false);
+    }
+    assert_eq!(rt; answer, Err(StoreError::Fault), "{number}");
+    assert_store(rt, &store, HELD, BROKEN);
+    assert_eq!(rt; store.checkpoint(), Err(StoreError::Broken), "{number}");
+    assert_checkpoint(rt, alloc, store.into_device().into_mem())?;
+    Ok(true)
+}
+
+/// Sees what a device opens to, and that a checkpoint of it is made.
+fn assert_checkpoint(rt: &impl Abort, alloc: Global, device: MemDevice) -> Result<(), Fail> {
+    let mut store = opened(alloc, device)?;
+    assert_eq!(rt; held_by(&store), HELD);
+    assert_eq!(rt; store.checkpoint(), Ok(()));
+    assert_eq!(rt; held_by(&store), HELD);
+    let _device = store.into_device();
     Ok(())
 }
 
@@ -150,23 +196,13 @@ fn a_fault_at_any_call_breaks_the_store(rt: HostRuntime) -> Result<(), Fail> {
     let mut faults = 0u64;
     for number in 0..MANY {
         let device = FaultDevice::new(worked_store(rt.alloc(), PLAIN)?, number);
-        let Ok(mut store) = open(rt.alloc(), device) else {
+        let Ok(store) = open(rt.alloc(), device) else {
             continue;
         };
-        let answer = store.checkpoint();
-        if answer == Ok(()) {
-            let _device = store.into_device();
+        if !assert_breaks(&rt, rt.alloc(), store, number)? {
             break;
         }
         faults = faults.saturating_add(1);
-        assert_eq!(rt; answer, Err(StoreError::Fault), "{number}");
-        assert_eq!(rt; held_by(&store), HELD, "{number}");
-        assert_eq!(rt; state_of(&store), BROKEN, "{number}");
-        assert_eq!(rt; store.checkpoint(), Err(StoreError::Broken), "{number}");
-        let mut store = opened(rt.alloc(), store.into_device().into_mem())?;
-        assert_eq!(rt; held_by(&store), HELD, "{number}");
-        assert_eq!(rt; store.checkpoint(), Ok(()), "{number}");
-        let _device = store.into_device();
     }
     assert_eq!(rt; faults, CALLS);
     Ok(())
@@ -186,11 +222,7 @@ fn a_stop_at_any_call_keeps_rows_and_place(rt: HostRuntime) -> Result<(), Fail> 
                 continue;
             };
             let answer = store.checkpoint();
-            let mut again = opened(rt.alloc(), store.into_device().into_mem())?;
-            assert_eq!(rt; held_by(&again), HELD, "{calls} {keep} {fill}");
-            assert_eq!(rt; again.checkpoint(), Ok(()), "{calls} {keep} {fill}");
-            assert_eq!(rt; held_by(&again), HELD, "{calls} {keep} {fill}");
-            let _device = again.into_device();
+            assert_checkpoint(&rt, rt.alloc(), store.into_device().into_mem())?;
             if answer == Ok(()) {
                 break;
             }

@@ -6,6 +6,7 @@ use crate::answers::{
     PAST_END, SAME_EPOCH, SEALED_NEWER, answer_of, held_by, state_of, usable,
 };
 use crate::stores::{REGISTER, change, new_store, opened, put};
+use sector_dev::MemDevice;
 use std::alloc::Global;
 use std::process::Abort;
 use std::test::Fail;
@@ -278,26 +279,43 @@ const ELEVEN: Held = Held {
 /// By which interface the first AS of each segment is left, in the order of the ids.
 const BY_ID: [u8; 10] = [7, 2, 6, 5, 10, 1, 9, 3, 8, 4];
 
-// Ten rows of 93 bytes are the most that an area of two sectors has room for; the journal registers
-// one more.
-#[test]
-fn fold_larger_than_area(rt: HostRuntime) -> Result<(), Fail> {
-    let mut device = new_store(rt.alloc())?;
-    let mut bytes = Vec::with_capacity(rt.alloc(), 1024)?;
+/// Adds the checkpoint of ten rows.
+fn add_ten(bytes: &mut Vec<u8>) -> Result<(), Fail> {
     bytes.extend_from_slice(AREA)?;
     bytes.extend_from_slice(&[0, 0, 0, 0, 0, 0, 0, 0, 0, 0, 3, 0xa2, 0, 0, 0, 10])?;
     for egress in BY_ID {
         bytes.extend_from_slice(&[2, 0, 0, 0, 88])?;
         bytes.extend_from_slice(&leaving_by(egress))?;
     }
-    put(&mut device, 1, &bytes)?;
+    Ok(())
+}
+
+/// Writes a checkpoint of ten rows, and a journal that registers one more, with room for their
+/// bytes.
+fn put_eleven(device: &mut MemDevice, bytes: &mut Vec<u8>) -> Result<(), Fail> {
+    add_ten(bytes)?;
+    put(device, 1, bytes)?;
     bytes.clear();
     bytes.extend_from_slice(&[1, 1, 0, 0, 0, 0, 0, 99, 0, 0, 0, 0, 0, 0, 0, 0])?;
     bytes.extend_from_slice(&REGISTER)?;
     bytes.extend_from_slice(&leaving_by(11))?;
-    put(&mut device, 5, &bytes)?;
-    put(&mut device, 4, OPEN)?;
-    let mut store = opened(rt.alloc(), device)?;
+    put(device, 5, bytes)?;
+    put(device, 4, OPEN)
+}
+
+/// A store of eleven rows.
+fn eleven_rows(alloc: Global) -> Result<MemDevice, Fail> {
+    let mut device = new_store(alloc)?;
+    let mut bytes = Vec::with_capacity(alloc, 1024)?;
+    put_eleven(&mut device, &mut bytes)?;
+    Ok(device)
+}
+
+// Ten rows of 93 bytes are the most that an area of two sectors has room for; the journal registers
+// one more.
+#[test]
+fn fold_larger_than_area(rt: HostRuntime) -> Result<(), Fail> {
+    let mut store = opened(rt.alloc(), eleven_rows(rt.alloc())?)?;
     assert_eq!(rt; held_by(&store), ELEVEN);
     assert_eq!(rt; store.sealed_len(), 1023);
     assert_eq!(rt; store.checkpoint(), Err(StoreError::Unfit));

@@ -104,10 +104,8 @@ pub(crate) fn new_store(alloc: Global) -> Result<MemDevice, Fail> {
     Ok(device)
 }
 
-/// A store with three rows, of 93 bytes each, at place 259. It takes memory twice.
-pub(crate) fn worked_store(alloc: Global, worked: Worked) -> Result<MemDevice, Fail> {
-    let mut device = new_store(alloc)?;
-    let mut bytes = Vec::with_capacity(alloc, 1536)?;
+/// Adds the bytes of the first half's checkpoint: its front, and three rows of one segment.
+fn add_area(bytes: &mut Vec<u8>, worked: Worked) -> Result<(), Fail> {
     bytes.extend_from_slice(&FRONT)?;
     for kind in [1, 2, 3] {
         bytes.extend_from_slice(&[kind, 0, 0, 0, 88])?;
@@ -120,24 +118,44 @@ pub(crate) fn worked_store(alloc: Global, worked: Worked) -> Result<MemDevice, F
     {
         *byte = *wanted;
     }
-    put(&mut device, 1, &bytes)?;
-    bytes.clear();
-    if worked.twelve {
-        bytes.extend_from_slice(&TWELVE)?;
-        for egress in 2..14 {
-            bytes.extend_from_slice(&REGISTER)?;
-            bytes.extend_from_slice(&leaving_by(egress))?;
-        }
-    } else {
+    Ok(())
+}
+
+/// Adds the payload of the journal's group.
+fn add_group(bytes: &mut Vec<u8>, worked: Worked) -> Result<(), Fail> {
+    if !worked.twelve {
         bytes.extend_from_slice(&PURGE)?;
+        return Ok(());
     }
-    put(&mut device, 5, &bytes)?;
+    bytes.extend_from_slice(&TWELVE)?;
+    for egress in 2..14 {
+        bytes.extend_from_slice(&REGISTER)?;
+        bytes.extend_from_slice(&leaving_by(egress))?;
+    }
+    Ok(())
+}
+
+/// Writes what is in the first half of a store, with room for its bytes.
+fn put_worked(device: &mut MemDevice, bytes: &mut Vec<u8>, worked: Worked) -> Result<(), Fail> {
+    add_area(bytes, worked)?;
+    put(device, 1, bytes)?;
+    bytes.clear();
+    add_group(bytes, worked)?;
+    put(device, 5, bytes)?;
     if worked.sealed {
-        put(&mut device, 7, &SEAL)?;
-        put(&mut device, 6, &[0xa7])?;
+        put(device, 7, &SEAL)?;
+        put(device, 6, &[0xa7])?;
     }
-    put(&mut device, 4, &[0xa7])?;
+    put(device, 4, &[0xa7])?;
     device.sync()?;
+    Ok(())
+}
+
+/// A store with three rows, of 93 bytes each, at place 259. It takes memory twice.
+pub(crate) fn worked_store(alloc: Global, worked: Worked) -> Result<MemDevice, Fail> {
+    let mut device = new_store(alloc)?;
+    let mut bytes = Vec::with_capacity(alloc, 1536)?;
+    put_worked(&mut device, &mut bytes, worked)?;
     Ok(device)
 }
 

@@ -18,17 +18,18 @@ mod words;
 use crate::given::{ADDRESS, Bound, Given};
 use crate::images::Change;
 use crate::output::Output;
-use crate::parts::{Before, PARTS};
+use crate::parts::{Before, Line, PARTS};
 use crate::peers::meet;
 use byte_lists::SECTOR;
 use cli_program::carry_out;
 use std::collections::VecDeque;
 use std::fs::{File, OpenOptions};
-use std::io::Write;
+use std::io::{Print, Stdout, Write};
 use std::net::{TcpListener, TcpStream};
 use std::os::unix::fs::FileExt;
 use std::rt::Files;
-use std::sync::Arc;
+use std::sync::{Arc, Wait};
+use std::time::Clock;
 use std::{fs, io, thread};
 
 /// The file of a store, and the one that is made of it.
@@ -46,11 +47,11 @@ fn main(rt: HostRuntime) -> io::Result<()> {
         let _lock = prepared(&rt, &part.before)?;
         for (line, texts) in part.lines {
             println!(rt; "$ {line}")?;
-            let words = words_of(&rt, line, &bound)?;
-            let input = joined(&rt, texts)?;
-            let output = Output::new(&rt, rt.stdout(), &part.before)?;
-            let is_stuck = matches!(part.before, Before::NoLog);
-            let given = Given::new(rt, words, &bound, is_stuck)?;
+            let GivenLine {
+                given,
+                input,
+                output,
+            } = asked(rt, rt.stdout(), &bound, &part.before, (*line, *texts))?;
             let (status, met) = thread::join(
                 &rt,
                 || {
@@ -62,12 +63,48 @@ fn main(rt: HostRuntime) -> io::Result<()> {
                 },
                 || meet(&rt, rt.alloc(), &bound, &part.peers),
             );
-            print!(rt; "{}", given.said()?)?;
-            println!(rt; "status {status}")?;
-            print!(rt; "{}", met?)?;
+            print_end(&rt, &given, status, met)?;
         }
     }
     Ok(())
+}
+
+/// A command line that is carried out: its system, its input and its output.
+struct GivenLine<R> {
+    given: Given<R>,
+    input: VecDeque<u8>,
+    output: Output,
+}
+
+/// The system, the input and the output of a line.
+fn asked<R: AllocGlobal + Files<File = File> + Wait + Clock + Drop>(
+    rt: R,
+    standard: Stdout,
+    bound: &Arc<Bound>,
+    before: &Before,
+    (line, texts): Line,
+) -> io::Result<GivenLine<R>> {
+    let words = words_of(&rt, line, bound)?;
+    let input = joined(&rt, texts)?;
+    let output = Output::new(&rt, standard, before)?;
+    let given = Given::new(rt, words, bound, matches!(before, Before::NoLog))?;
+    Ok(GivenLine {
+        given,
+        input,
+        output,
+    })
+}
+
+/// Prints what a line has said on standard error, its status, and what its peers were replied.
+fn print_end<R: AllocGlobal + Print + Wait + Clock + Drop>(
+    rt: &R,
+    given: &Given<R>,
+    status: u8,
+    met: io::Result<String>,
+) -> io::Result<()> {
+    print!(rt; "{}", given.said()?)?;
+    println!(rt; "status {status}")?;
+    print!(rt; "{}", met?)
 }
 
 /// The words of a line, with the address in the place of `ADDRESS`.
