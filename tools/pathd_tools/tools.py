@@ -62,6 +62,7 @@ LOAD = [
 ]
 
 OTHERS = [
+    Tool("gate-time", "gate_time", "runs the gate, and prints the seconds of each crate's proof, edits and tests"),
     Tool("need", "need", "what the tools need and is missing on this machine"),
     Tool("all", "everything", "the checks of pages, and those of the program that need packages"),
 ]
