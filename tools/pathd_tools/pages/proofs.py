@@ -17,6 +17,8 @@ from pathd_tools.pages.source import CRATES, TOP
 from pathd_tools.toolbox import parser
 
 HEADER = "| claim | contract | edit |"
+# An edit of the gate, or in parentheses one beside it.
+EDIT = r"(?:`[^`]+`|\(`[^`]+`\))"
 CRATE_HEADER = "| claim | contract |"
 
 
@@ -73,13 +75,14 @@ def problems(cells: list[str]) -> list[str]:
         crate, path, *clauses = text.split()
         *names, name = path.split("::")
         found += lacks(file_of(crate, names), name, clauses)
-    for text in re.findall(r"`([^`]+)`", edit):
+    for opened, text in re.findall(r"(\(?)`([^`]+)`", edit):
         where, _, word = text.rpartition("/")
-        if not (CRATES / (where or crate) / "must-fail" / f"{word}.edit").is_file():
-            found.append(f"no edit {text}")
+        folder = "more-edits" if opened else "must-fail"
+        if not (CRATES / (where or crate) / folder / f"{word}.edit").is_file():
+            found.append(f"no edit {text} in {folder}/")
     if not re.fullmatch(r"`[^`]+`(?:, `[^`]+`)*", contract):
         found.append(f"the column of contracts has another form: {contract}")
-    if not re.fullmatch(r"-|`[^`]+`(?:, `[^`]+`)*", edit):
+    if not re.fullmatch(rf"-|{EDIT}(?:, {EDIT})*", edit):
         found.append(f"the column of edits has another form: {edit}")
     return found
 
