@@ -5,8 +5,7 @@ functions whose modules took longest.
     gate-time show FOLDER [..]          prints the tables of one run, or of several together
     gate-time edits FOLDER [..]         hands what the prover said of each edit to `edits --write`
 
-What an earlier run has passed is not proved again: for a whole run begin on a machine where nothing
-is kept, or have `rt ci --anew`. The seconds of a program are those that the system counts when the
+What an earlier run on this machine has passed is not proved again, but by `--anew`. The seconds of a program are those that the system counts when the
 program ends. A function's seconds are the times between the modules that the prover has written,
 which other programs lengthen.
 """
@@ -32,12 +31,12 @@ MODULES = Path("/tmp")
 PARTS = re.compile(r"\.(?:Lts|Proof|Tie|Reads|Layout|Kinds|Code|Mir|Goals|Answers|Invariants|Met|Named|View|Statement|Instances|TheLinks)\b.*")
 
 
-def run(folder: Path, crates: list[str]) -> int:
+def run(folder: Path, words: list[str]) -> int:
     """Runs the gate, and watches the provers that it starts."""
     folder.mkdir(parents=True)
-    words = {**os.environ, "PYTHONPATH": str(HOOK), "PATHD_GATE_TIME": str(folder.resolve())}
+    named = {**os.environ, "PYTHONPATH": str(HOOK), "PATHD_GATE_TIME": str(folder.resolve())}
     with open(folder / "output", "w", encoding="utf-8") as output:
-        gate = subprocess.Popen(["rt", "ci", *crates], cwd=TOP, env=words, stdout=output, stderr=subprocess.STDOUT)
+        gate = subprocess.Popen(["rt", "ci", *words], cwd=TOP, env=named, stdout=output, stderr=subprocess.STDOUT)
         seen: dict[str, dict] = {}
         while gate.poll() is None:
             look(seen, folder)
@@ -138,9 +137,10 @@ def main(words: list[str]) -> int:
     options.add_argument("what", choices=("run", "show", "edits"))
     options.add_argument("folder", type=Path)
     options.add_argument("more", nargs="*", metavar="CRATE or FOLDER", help="the crates of `run`, or more folders")
+    options.add_argument("--anew", action="store_true", help="prove and try again what an earlier run has passed")
     options.add_argument("--functions", type=int, default=30, metavar="N", help="how many functions `show` prints")
-    asked = options.parse_args(words)
+    asked = options.parse_intermixed_args(words)
     if asked.what == "run":
-        return run(asked.folder, asked.more)
+        return run(asked.folder, [*(["--anew"] if asked.anew else []), *asked.more])
     folders = [asked.folder, *map(Path, asked.more)]
     return show(folders, asked.functions) if asked.what == "show" else hand_edits_on(folders)
