@@ -1,10 +1,8 @@
-//! Tests of `group_recovery`: the reply to each event, lists of events that are cut in two, the
-//! ends of runs, and what is left where memory is refused.
+//! Tests of whole runs: `group_recovery`'s lists of events, and a run of `prefix_recovery` that is
+//! traced.
 #![tactic(auto)]
 
 #[cfg(test)]
-mod host;
-#[cfg(test)]
-mod refused_runs;
-#[cfg(test)]
 mod runs;
+#[cfg(test)]
+mod traces;

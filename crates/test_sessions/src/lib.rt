@@ -1,16 +1,14 @@
-//! Tests of `session_core`, a module for each subject. They check what no contract states: values
-//! from outside, that calls succeed where memory suffices, and the state where memory is refused.
+//! Tests of sessions: `session_core` alone, over a store in memory as `once` answers them, over a
+//! connection in memory, and over a hub.
 #![tactic(auto)]
 
 #[cfg(test)]
 mod ahead;
 #[cfg(test)]
-mod commands;
+mod connections;
 #[cfg(test)]
-mod framers;
+mod once;
 #[cfg(test)]
-mod laws;
+mod service;
 #[cfg(test)]
-mod same;
-#[cfg(test)]
-mod worked;
+mod sessions;

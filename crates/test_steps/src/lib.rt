@@ -1,23 +1,10 @@
-//! Tests of the steps of `group_core`, a module for each subject. They see what no clause says:
-//! that calls succeed, the bytes that groups, seals and checkpoints leave on a device, and what a
-//! stop or a fault at a call leaves.
+//! Tests of the steps of `group_core`: those that succeed, those that are refused, and those of
+//! checkpoints over areas of several pieces.
 #![tactic(auto)]
 
 #[cfg(test)]
-mod following;
+mod refused_steps;
 #[cfg(test)]
-mod groups;
+mod steps;
 #[cfg(test)]
-mod host;
-#[cfg(test)]
-mod journals;
-#[cfg(test)]
-mod limits;
-#[cfg(test)]
-mod reopening;
-#[cfg(test)]
-mod rounds;
-#[cfg(test)]
-mod starting;
-#[cfg(test)]
-mod stops;
+mod streams;

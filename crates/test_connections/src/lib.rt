@@ -1,8 +1,0 @@
-//! Tests of `paced_stream`: sessions over a connection in memory whose calls move bytes in pieces,
-//! are interrupted and time out. The frames are those of the worked session.
-#![tactic(auto)]
-
-#[cfg(test)]
-mod memory;
-#[cfg(test)]
-mod sessions;

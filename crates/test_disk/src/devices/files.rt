@@ -1,0 +1,88 @@
+//! A device over a file in memory.
+use crate::devices::calls::{CALLS, assert_answer, assert_call, assert_calls, assert_sectors};
+use crate::devices::same::assert_same;
+use sector_dev::{CountedFile, Device, FileDevice, MemDevice, MemFile, SECTOR};
+use std::alloc::Global;
+use std::process::Abort;
+use std::test::Fail;
+
+// A device over these bytes, of which one transfer moves at most `at_most`.
+fn device_of(
+    alloc: Global,
+    bytes: Vec<u8>,
+    at_most: usize,
+) -> Result<FileDevice<CountedFile<MemFile>>, Fail> {
+    let file = CountedFile::new(alloc, MemFile::new(bytes, at_most))?;
+    Ok(FileDevice::new(file)?)
+}
+
+// Makes all calls, and checks the contents of the sectors then.
+fn assert_written<D: Device>(rt: &impl Abort, device: &mut D, at_most: usize) {
+    assert_calls(rt, device, &at_most);
+    let wanted = [(7, 7), (0x33, 0x33), (0x22, 0x22), (0x22, 0x22)];
+    assert_sectors(rt, device, wanted, &at_most);
+    assert_same(rt, &device.faults(), &0, &at_most);
+}
+
+#[test]
+fn short_transfers_are_made_whole(rt: HostRuntime) -> Result<(), Fail> {
+    for at_most in [1, 100, 512, 4096] {
+        // Four sectors and a part of one.
+        let bytes = vec![in rt.alloc(); 7; 2100]?;
+        let mut device = device_of(rt.alloc(), bytes, at_most)?;
+        assert_written(&rt, &mut device, at_most);
+    }
+    Ok(())
+}
+
+// Whether each call succeeds, and the number of faults then: a sync moves no bytes.
+const MOVES: [(bool, u64); 6] = [
+    (false, 1),
+    (true, 1),
+    (false, 2),
+    (false, 3),
+    (false, 4),
+    (true, 4),
+];
+
+#[test]
+fn a_file_that_moves_nothing_is_a_fault(rt: HostRuntime) -> Result<(), Fail> {
+    let bytes = vec![in rt.alloc(); 7; 2048]?;
+    let mut device = device_of(rt.alloc(), bytes, 0)?;
+    for (number, wanted) in MOVES.iter().enumerate() {
+        assert_call(&rt, &mut device, number as u64, *wanted, &number);
+    }
+    Ok(())
+}
+
+// Checks that a sector of two devices has the same bytes.
+fn assert_same_sector<A: Device, B: Device>(rt: &impl Abort, one: &mut A, other: &mut B, at: u64) {
+    let (mut first, mut second) = ([0; SECTOR], [1; SECTOR]);
+    assert!(rt; at < 4);
+    assert_eq!(rt; (one.sectors(), other.sectors()), (4, 4));
+    assert!(rt; one.read(at, &mut first).is_ok() && other.read(at, &mut second).is_ok());
+    assert_eq!(rt; first.as_slice(), second.as_slice(), "{at}");
+}
+
+// Makes a call of two devices, and checks that it succeeds and that all sectors are the same then.
+fn assert_agree<A: Device, B: Device>(rt: &impl Abort, one: &mut A, other: &mut B, number: u64) {
+    assert_answer(rt, one, number, true, &number);
+    assert_answer(rt, other, number, true, &number);
+    for at in 0..4 {
+        assert_same_sector(rt, one, other, at);
+    }
+    assert_eq!(rt; (one.faults(), other.faults()), (0, 0));
+}
+
+#[test]
+fn a_device_over_a_file_agrees_with_one_in_memory(rt: HostRuntime) -> Result<(), Fail> {
+    for at_most in [100, 4096] {
+        let zeros = vec![in rt.alloc(); 0; 2048]?;
+        let mut device = device_of(rt.alloc(), zeros, at_most)?;
+        let mut memory = MemDevice::new(rt.alloc(), 4)?;
+        for number in 0..CALLS {
+            assert_agree(&rt, &mut device, &mut memory, number);
+        }
+    }
+    Ok(())
+}

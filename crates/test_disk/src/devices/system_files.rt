@@ -1,0 +1,125 @@
+//! A device over a file of the system.
+use crate::devices::calls::{assert_call, assert_calls, assert_sectors};
+use crate::devices::same::assert_same;
+use sector_dev::{Device, FileDevice, SECTOR, SystemFile};
+use std::fs;
+use std::fs::OpenOptions;
+use std::process::Abort;
+use std::rt::Files;
+use std::test::Fail;
+
+// Makes an empty folder.
+fn make_folder<R: Files + Alloc>(rt: &R, folder: &str) -> Result<(), Fail> {
+    let _ = fs::remove_dir_all(rt, folder);
+    Ok(fs::create_dir(rt, folder)?)
+}
+
+// Makes a folder with one file of this number of sevens.
+fn make_file<R: Files + Alloc>(rt: &R, folder: &str, path: &str, len: usize) -> Result<(), Fail> {
+    make_folder(rt, folder)?;
+    let sevens = vec![in rt.alloc(); 7; len]?;
+    Ok(fs::write(rt, path, sevens.as_slice())?)
+}
+
+// A device over the file of this path.
+fn device_over(
+    rt: &HostRuntime,
+    path: &str,
+    options: &OpenOptions,
+) -> Result<FileDevice<SystemFile>, Fail> {
+    let file = options.open(rt, path)?;
+    Ok(FileDevice::new(SystemFile::new(rt.alloc(), file)?)?)
+}
+
+// A device over the file of this path, which is opened for reading and writing.
+fn open_device(rt: &HostRuntime, path: &str) -> Result<FileDevice<SystemFile>, Fail> {
+    device_over(rt, path, OpenOptions::new().read(true).write(true))
+}
+
+// Makes all calls, and checks that no call of the system fails.
+fn assert_written(rt: &impl Abort, mut device: FileDevice<SystemFile>) {
+    assert_calls(rt, &mut device, &"a file");
+    assert_eq!(rt; device.into_file().failures(), 0);
+}
+
+// Checks that a file has the bytes that the calls write, and its sevens.
+fn assert_kept(rt: &impl Abort, bytes: &[u8]) {
+    assert_eq!(rt; bytes.len(), 2100);
+    for (i, byte) in bytes.iter().enumerate() {
+        let wanted = match i / SECTOR {
+            1 => 0x33,
+            2 | 3 => 0x22,
+            _ => 7,
+        };
+        assert_same(rt, byte, &wanted, &i);
+    }
+}
+
+#[test]
+fn a_file_keeps_what_was_written(rt: HostRuntime) -> Result<(), Fail> {
+    let folder = "device_tests_kept";
+    let path = "device_tests_kept/device";
+    make_file(&rt, folder, path, 2100)?;
+    assert_written(&rt, open_device(&rt, path)?);
+    assert_kept(&rt, &fs::read(&rt, path)?);
+    fs::remove_dir_all(&rt, folder)?;
+    Ok(())
+}
+
+// Cuts the file of this path short.
+fn cut(rt: &HostRuntime, path: &str) -> Result<(), Fail> {
+    let file = OpenOptions::new().write(true).open(rt, path)?;
+    Ok(file.set_len(600)?)
+}
+
+// Checks that reads of a device of four sectors fail, two of them in all.
+fn assert_cut(rt: &impl Abort, mut device: FileDevice<SystemFile>) {
+    for faults in [1, 2] {
+        assert_call(rt, &mut device, 2, (false, faults), &faults);
+    }
+    assert_eq!(rt; device.sectors(), 4);
+    assert_eq!(rt; device.into_file().failures(), 2);
+}
+
+#[test]
+fn a_file_cut_short_is_a_fault(rt: HostRuntime) -> Result<(), Fail> {
+    let folder = "device_tests_cut";
+    let path = "device_tests_cut/device";
+    make_file(&rt, folder, path, 2048)?;
+    let mut device = open_device(&rt, path)?;
+    assert_sectors(&rt, &mut device, [(7, 7); 4], &"before the cut");
+    cut(&rt, path)?;
+    assert_cut(&rt, device);
+    fs::remove_dir_all(&rt, folder)?;
+    Ok(())
+}
+
+// Whether each call succeeds, and the number of faults then: the writes fail.
+const REFUSED: [(bool, u64); 6] = [
+    (false, 1),
+    (true, 1),
+    (true, 1),
+    (false, 2),
+    (false, 3),
+    (true, 3),
+];
+
+// Makes all calls, and checks that the writes fail, and change nothing.
+fn assert_refused(rt: &impl Abort, mut device: FileDevice<SystemFile>) {
+    for (number, wanted) in REFUSED.iter().enumerate() {
+        assert_call(rt, &mut device, number as u64, *wanted, &number);
+    }
+    assert_sectors(rt, &mut device, [(7, 7); 4], &"after the calls");
+    assert_eq!(rt; device.into_file().failures(), 3);
+}
+
+// A file that is open for reading only: its writes fail.
+#[test]
+fn a_write_that_the_system_refuses_is_a_fault(rt: HostRuntime) -> Result<(), Fail> {
+    let folder = "device_tests_refused";
+    let path = "device_tests_refused/device";
+    make_file(&rt, folder, path, 2048)?;
+    assert_refused(&rt, device_over(&rt, path, OpenOptions::new().read(true))?);
+    fs::remove_dir_all(&rt, folder)?;
+    Ok(())
+}

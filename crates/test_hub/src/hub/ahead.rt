@@ -1,0 +1,118 @@
+//! Commands that are handed in before the answer to the first is waited for.
+
+use crate::hub::crews::{Errand, Guests, crewed};
+use crate::hub::host::Host;
+use group_core::SubmitError;
+use path_db::Command;
+use path_hub::{Hub, HubClaim, HubError, HubJob, HubName, with_hub};
+use sector_dev::Device;
+use std::alloc::Global;
+use std::process::Abort;
+use std::sync::Wait;
+use std::sync::atomic::{AtomicU64, Ordering};
+use std::test::Fail;
+use std::time::Clock;
+use test_hub_scripts::acts::{Unwatched, flush};
+use test_hub_scripts::stores::{Contents, assert_opens_to, ended, new_store};
+
+/// How many purges are handed in ahead: more than a group has.
+const AHEAD: u64 = 40;
+
+/// Hands purges in, drops the first claims, and waits for the answers to the others. Counts the
+/// answers whose place is that of the claim's number.
+#[derive(Drop)]
+struct HandsIn {
+    alloc: Global,
+    settled: AtomicU64,
+}
+
+impl HandsIn {
+    fn claims<D: Device, N: HubName, R: Wait + Clock>(
+        &self,
+        hub: &Hub<D, N, R>,
+    ) -> Option<Vec<HubClaim<N>>> {
+        let mut claims = Vec::with_capacity(self.alloc, AHEAD as usize).ok()?;
+        for _ in 0..AHEAD {
+            let _dropped = hub.hand_in(Command::Purge(0)).ok()?;
+        }
+        for _ in 0..AHEAD {
+            claims.push(hub.hand_in(Command::Purge(0)).ok()?).ok()?;
+        }
+        Some(claims)
+    }
+}
+
+impl Errand for HandsIn {
+    fn run<D: Device, N: HubName, R: Wait + Clock + Abort>(&self, hub: &Hub<D, N, R>, _guest: u64) {
+        let Some(claims) = self.claims(hub) else {
+            return;
+        };
+        for claim in claims {
+            let number = claim.number();
+            let Ok(receipt) = hub.settle(claim) else {
+                return;
+            };
+            if receipt.place() == number {
+                self.settled.fetch_add(1, Ordering::SeqCst);
+            }
+        }
+    }
+}
+
+#[test]
+fn commands_handed_in_ahead(rt: HostRuntime) -> Result<(), Fail> {
+    let host = Host(&rt);
+    let alloc = rt.alloc();
+    let hands_in = HandsIn {
+        alloc,
+        settled: AtomicU64::new(0),
+    };
+    let guests = Guests::new(1, hands_in);
+    let device = crewed(&rt, alloc, new_store(&host, alloc), &guests);
+    assert_eq!(rt; guests.errand.settled.load(Ordering::SeqCst), AHEAD);
+    let _device = assert_opens_to(&host, alloc, device, Contents::empty_at(80));
+    Ok(())
+}
+
+/// Hands purges in at a hub that has no threads: one of them is committed, the next one is under
+/// way when the state is stopped, and the last one comes after that.
+#[derive(Clone, Copy)]
+struct Stops;
+
+/// Hands a purge in, which is not refused.
+fn handed_in<D: Device, N: HubName, R: Wait + Clock + Abort>(hub: &Hub<D, N, R>) -> HubClaim<N> {
+    match hub.hand_in(Command::Purge(0)) {
+        Ok(claim) => claim,
+        Err(e) => panic!(hub.handle(); "{e:?}"),
+    }
+}
+
+impl<D: Device, R: Wait + Clock + Abort> HubJob<D, R> for Stops {
+    type Out = (Option<u64>, [Option<HubError>; 2]);
+
+    fn run<N: HubName>(self, hub: &Hub<D, N, R>) -> (Option<u64>, [Option<HubError>; 2]) {
+        let rt = hub.handle();
+        let first = handed_in(hub);
+        flush(&Host(rt), hub, &mut Unwatched);
+        let second = handed_in(hub);
+        hub.stop();
+        let third = hub.hand_in(Command::Purge(0)).err();
+        let place = hub.settle(first).ok().map(|receipt| receipt.place());
+        (place, [hub.settle(second).err(), third])
+    }
+}
+
+#[test]
+fn stop_answers_what_is_under_way(rt: HostRuntime) -> Result<(), Fail> {
+    let host = Host(&rt);
+    let alloc = rt.alloc();
+    let store = new_store(&host, alloc);
+    let (place, refused) = ended(&host, with_hub(&rt, alloc, store, 1, Stops));
+    assert_eq!(rt; place, Some(0));
+    let wanted = [
+        Some(HubError::Stopped(1)),
+        Some(HubError::Submit(SubmitError::Stopped)),
+    ];
+    assert_eq!(rt; refused, wanted);
+    Ok(())
+}

@@ -1,0 +1,52 @@
+//! A hub whose state was stopped at a stranger.
+
+use crate::hub::crews::{Errand, Guests, crewed};
+use crate::hub::host::Host;
+use group_core::SubmitError;
+use path_db::Command;
+use path_hub::{Hub, HubError, HubName, Steps};
+use sector_dev::Device;
+use std::alloc::Global;
+use std::process::Abort;
+use std::sync::Wait;
+use std::test::Fail;
+use std::time::Clock;
+use test_hub_scripts::acts::{Unwatched, spend, submit};
+use test_hub_scripts::fakes::Fake;
+use test_hub_scripts::stores::{Contents, LEAST, assert_opens_to, formatted, new_store};
+
+/// Gives up a value of another state at a hub, as an actor does with a stranger, and registers a
+/// command then.
+#[derive(Drop)]
+struct GivesUp {
+    alloc: Global,
+}
+
+impl Errand for GivesUp {
+    fn run<D: Device, N: HubName, R: Wait + Clock + Abort>(&self, hub: &Hub<D, N, R>, _guest: u64) {
+        let rt = hub.handle();
+        let host = Host(rt);
+        let fake = Fake::new(host, self.alloc, formatted(&host, self.alloc, LEAST));
+        let ticket = submit(&host, &fake, &mut Unwatched);
+        match fake.stage() {
+            Ok(staged) => hub.give_up(staged),
+            Err(refused) => panic!(rt; "{refused:?}"),
+        }
+        fake.halt();
+        spend(&host, &fake, &mut Unwatched, ticket);
+        fake.end();
+        let refused = hub.register(Command::Purge(0)).err();
+        assert_eq!(rt; refused, Some(HubError::Submit(SubmitError::Stopped)));
+    }
+}
+
+#[test]
+fn crews_hear_of_a_stranger(rt: HostRuntime) -> Result<(), Fail> {
+    let host = Host(&rt);
+    let alloc = rt.alloc();
+    let guests = Guests::new(1, GivesUp { alloc });
+    let device = crewed(&rt, alloc, new_store(&host, alloc), &guests);
+    assert_eq!(rt; guests.strangers(), 1);
+    let _device = assert_opens_to(&host, alloc, device, Contents::empty_at(0));
+    Ok(())
+}

@@ -1,0 +1,75 @@
+//! A receipt that a reader has learnt is shown by the reader's next lookup.
+
+use crate::hub::crews::{Errand, Guests, crewed};
+use crate::hub::host::Host;
+use path_hub::{Hub, HubName, HubReader};
+use sector_dev::Device;
+use std::alloc::Global;
+use std::process::Abort;
+use std::sync::Wait;
+use std::sync::atomic::{AtomicU64, Ordering};
+use std::test::Fail;
+use std::time::Clock;
+use test_hub_scripts::stores::{Contents, assert_opens_to, new_store, query, register};
+
+/// How many segments are registered.
+const SEGMENTS: u8 = 4;
+
+/// Registers segments one after the other, learns each receipt, and looks all segments up. Counts
+/// the lookups that showed as many as were registered, up to one that did not.
+#[derive(Drop)]
+struct Learns {
+    alloc: Global,
+    shown: AtomicU64,
+}
+
+impl Errand for Learns {
+    fn run<D: Device, N: HubName, R: Wait + Clock + Abort>(&self, hub: &Hub<D, N, R>, _guest: u64) {
+        let Ok(mut reader) = hub.reader() else {
+            return;
+        };
+        for egress in 1..=SEGMENTS {
+            if shown_after(self.alloc, hub, &mut reader, egress) != Some(usize::from(egress)) {
+                return;
+            }
+            self.shown.fetch_add(1, Ordering::SeqCst);
+        }
+        hub.give_back(reader);
+    }
+}
+
+/// Registers the segment that is left by an interface, and learns the receipt: how many segments
+/// are shown then.
+fn shown_after<D: Device, N: HubName, R: Wait + Clock>(
+    alloc: Global,
+    hub: &Hub<D, N, R>,
+    reader: &mut HubReader<N>,
+    egress: u8,
+) -> Option<usize> {
+    let mut receipt = hub.register(register(alloc, 0x10, egress)?).ok()?;
+    reader.learn(&mut receipt);
+    Some(reader.lookup(&query(), 0).ok()?.len())
+}
+
+#[test]
+fn learnt_receipt_is_shown(rt: HostRuntime) -> Result<(), Fail> {
+    let host = Host(&rt);
+    let store = new_store(&host, rt.alloc());
+    let learns = Learns {
+        alloc: rt.alloc(),
+        shown: AtomicU64::new(0),
+    };
+    let guests = Guests::new(1, learns);
+    let device = crewed(&rt, rt.alloc(), store, &guests);
+    assert_eq!(rt;
+        guests.errand.shown.load(Ordering::SeqCst),
+        u64::from(SEGMENTS)
+    );
+    let wanted = Contents {
+        rows: 4,
+        bytes: 4 * 93,
+        place: 4,
+    };
+    let _device = assert_opens_to(&host, rt.alloc(), device, wanted);
+    Ok(())
+}

@@ -1,0 +1,68 @@
+//! Six hundred purges, one after the other.
+
+use crate::hub::crews::{Errand, Guests, crewed};
+use crate::hub::host::Host;
+use path_db::Command;
+use path_hub::{Hub, HubName};
+use sector_dev::Device;
+use std::process::Abort;
+use std::sync::Wait;
+use std::sync::atomic::{AtomicBool, AtomicU64, Ordering};
+use std::test::Fail;
+use std::time::Clock;
+use test_hub_scripts::stores::{Contents, assert_contents, contents_of, new_store, opened};
+
+/// How many commands are registered. A journal of 516 sectors has room for 257 groups of one purge,
+/// and the second seal waits for the checkpoint after the first one.
+const PURGES: u64 = 600;
+
+/// How many journals are sealed by then.
+const SEALS: u64 = 2;
+
+/// Registers purges, and counts those whose receipts have the next place, up to one that has not.
+/// Then it looks at what the hub has counted.
+#[derive(Drop)]
+struct Purges {
+    placed: AtomicU64,
+    is_counted: AtomicBool,
+}
+
+impl Errand for Purges {
+    fn run<D: Device, N: HubName, R: Wait + Clock + Abort>(&self, hub: &Hub<D, N, R>, _guest: u64) {
+        for place in 0..PURGES {
+            match hub.register(Command::Purge(0)) {
+                Ok(receipt) if receipt.place() == place => {}
+                _ => return,
+            }
+            self.placed.fetch_add(1, Ordering::SeqCst);
+        }
+        let (numbers, completed) = hub.numbers();
+        let is_counted = numbers.place == PURGES
+            && numbers.pending == 0
+            && completed.groups == PURGES
+            && completed.commits.count == PURGES
+            && completed.seals == SEALS
+            && completed.checkpoints >= 1;
+        self.is_counted.store(is_counted, Ordering::SeqCst);
+    }
+}
+
+#[test]
+fn six_hundred_purges(rt: HostRuntime) -> Result<(), Fail> {
+    let host = Host(&rt);
+    let store = new_store(&host, rt.alloc());
+    let purges = Purges {
+        placed: AtomicU64::new(0),
+        is_counted: AtomicBool::new(false),
+    };
+    let guests = Guests::new(1, purges);
+    let device = crewed(&rt, rt.alloc(), store, &guests);
+    assert_eq!(rt; guests.errand.placed.load(Ordering::SeqCst), PURGES);
+    assert!(rt; guests.errand.is_counted.load(Ordering::SeqCst));
+    let store = opened(&host, rt.alloc(), device);
+    assert_contents(&host, contents_of(&store), Contents::empty_at(PURGES));
+    // The first half's checkpoint has epoch 1, and each further one has the next.
+    assert!(rt; 2 <= store.epoch());
+    let _device = store.into_device();
+    Ok(())
+}

@@ -1,0 +1,45 @@
+//! A hub has 64 readers.
+
+use crate::hub::host::Host;
+use path_hub::{Hub, HubError, HubJob, HubName, HubReader, with_hub};
+use sector_dev::Device;
+use std::alloc::Global;
+use std::sync::Wait;
+use std::test::Fail;
+use std::time::Clock;
+use test_hub_scripts::stores::{ended, new_store};
+
+/// Takes readers out until there is none, and gives one back. Comes to how many there were, and
+/// whether there is one then.
+#[derive(Drop)]
+struct TakesAll {
+    alloc: Global,
+}
+
+impl<D: Device, R: Wait + Clock> HubJob<D, R> for TakesAll {
+    type Out = Option<(usize, bool)>;
+
+    fn run<N: HubName>(self, hub: &Hub<D, N, R>) -> Option<(usize, bool)> {
+        let mut out: Vec<HubReader<N>> = Vec::new(self.alloc);
+        for _ in 0..65 {
+            match hub.reader() {
+                Ok(reader) => out.push(reader).ok()?,
+                Err(HubError::NoReader) => break,
+                Err(_) => return None,
+            }
+        }
+        let count = out.len();
+        hub.give_back(out.pop()?);
+        Some((count, hub.reader().is_ok()))
+    }
+}
+
+#[test]
+fn sixty_four_readers(rt: HostRuntime) -> Result<(), Fail> {
+    let host = Host(&rt);
+    let alloc = rt.alloc();
+    let store = new_store(&host, alloc);
+    let seen = ended(&host, with_hub(&rt, alloc, store, 1, TakesAll { alloc }));
+    assert_eq!(rt; seen, Some((64, true)));
+    Ok(())
+}

@@ -1,0 +1,290 @@
+//! Want of memory. The tests are run with each of their allocations refused in turn: a call that is
+//! refused changes nothing, and succeeds when it is made again.
+
+use crate::hub::crews::{Errand, Guests};
+use crate::hub::host::Host;
+use group_core::{Durable, PublishError, StageError, Staged, StepError, SubmitError, Ticket};
+use path_db::Command;
+use path_hub::{Hub, HubError, HubJob, HubName, HubNote, HubReader, Steps, with_crew, with_hub};
+use sector_dev::{Device, MemDevice};
+use std::alloc::Global;
+use std::process::Abort;
+use std::sync::Wait;
+use std::sync::atomic::{AtomicU64, Ordering};
+use std::test::Fail;
+use std::thread::Threads;
+use std::time::Clock;
+use store_open::Store;
+use test_hub_scripts::acts::{Unwatched, keep};
+use test_hub_scripts::stores::{
+    Contents, assert_contents, assert_opens_to, contents_of, one_row, opened, query, receipt_of,
+    register,
+};
+
+/// What the store has at first: one row, at place 1.
+const FIRST: Contents = Contents {
+    rows: 1,
+    bytes: 93,
+    place: 1,
+};
+
+/// That store.
+fn first_store(rt: &Host<impl Abort>, alloc: Global) -> Store<MemDevice> {
+    opened(rt, alloc, one_row(rt, alloc))
+}
+
+/// The command that registers the segment left by an interface.
+fn command_of(rt: &impl Abort, alloc: Global, egress: u8) -> Command {
+    let made = match register(alloc, 0x10, egress) {
+        None => register(alloc, 0x10, egress),
+        made => made,
+    };
+    match made {
+        Some(command) => command,
+        None => panic!(rt; "out of memory"),
+    }
+}
+
+/// Submits a command, and once more where memory is refused.
+fn submit_again<S: Steps>(rt: &impl Abort, steps: &S, command: Command) -> Ticket {
+    let answer = match steps.submit(command) {
+        Err((back, SubmitError::NoMemory)) => steps.submit(back),
+        answer => answer,
+    };
+    match answer {
+        Ok(ticket) => ticket,
+        Err((_command, refusal)) => panic!(rt; "{refusal:?}"),
+    }
+}
+
+/// Stages a group, and tries once more where memory is refused.
+fn stage_again<S: Steps>(rt: &impl Abort, steps: &S) -> Staged {
+    let answer = match steps.stage() {
+        Err(StageError::NoMemory) => steps.stage(),
+        answer => answer,
+    };
+    match answer {
+        Ok(staged) => staged,
+        Err(refusal) => panic!(rt; "{refusal:?}"),
+    }
+}
+
+/// The value that a step leads to.
+fn made<T, P>(rt: &impl Abort, next: Result<T, StepError<P>>) -> T {
+    match next {
+        Ok(value) => value,
+        Err(_refused) => panic!(rt; "a step was refused"),
+    }
+}
+
+/// Takes a group through the flusher's steps up to the last one.
+fn durable_of<S: Steps>(rt: &impl Abort, steps: &S) -> Durable {
+    let staged = stage_again(rt, steps);
+    let written = made(rt, steps.write_group(staged));
+    let stable = made(rt, steps.sync_group(written));
+    let opened = made(rt, steps.open_gate(stable));
+    made(rt, steps.sync_gate(opened))
+}
+
+/// Publishes a group: the value, where memory is refused.
+fn published<S: Steps>(rt: &impl Abort, steps: &S, value: Durable) -> Option<Durable> {
+    match steps.publish(value) {
+        Ok(()) => None,
+        Err(PublishError::NoMemory(back)) => Some(back),
+        Err(PublishError::Stranger(_back)) => panic!(rt; "a stranger"),
+    }
+}
+
+/// How many segments a reader shows. It looks once more where memory is refused.
+fn shown_again<N: HubName>(rt: &impl Abort, reader: &mut HubReader<N>) -> usize {
+    let answer = match reader.lookup(&query(), 0) {
+        Err(HubError::NoMemory) => reader.lookup(&query(), 0),
+        answer => answer,
+    };
+    match answer {
+        Ok(found) => found.len(),
+        Err(e) => panic!(rt; "{e:?}"),
+    }
+}
+
+/// Sees how many segments a reader shows.
+fn assert_shown<N: HubName>(rt: &impl Abort, reader: &mut HubReader<N>, wanted: usize) {
+    let count = shown_again(rt, reader);
+    assert_eq!(rt; count, wanted);
+}
+
+/// Publishes a group that a reader does not show before, and once more where memory is refused.
+fn publish_again<D: Device, N: HubName, R: Wait + Clock + Abort>(
+    hub: &Hub<D, N, R>,
+    reader: &mut HubReader<N>,
+    value: Durable,
+    ticket: Ticket,
+) -> Ticket {
+    let rt = hub.handle();
+    let Some(back) = published(rt, hub, value) else {
+        return ticket;
+    };
+    assert_shown(rt, reader, 1);
+    let ticket = keep(&Host(rt), hub, &mut Unwatched, ticket);
+    if let Some(_back) = published(rt, hub, back) {
+        panic!(rt; "out of memory");
+    }
+    ticket
+}
+
+/// Learns a ticket's receipt: the place of its command.
+fn learn<N: HubName, S: Steps<Note = HubNote<N>>>(
+    rt: &impl Abort,
+    steps: &S,
+    reader: &mut HubReader<N>,
+    ticket: Ticket,
+) -> u64 {
+    let Some(mut receipt) = receipt_of(&Host(rt), steps, ticket) else {
+        panic!(rt; "not committed");
+    };
+    if let Some(note) = receipt.take_note() {
+        reader.learn_note(note);
+    }
+    receipt.place()
+}
+
+/// Registers two segments more in one group and one thread, with lookups between the calls. Comes
+/// to their places.
+#[derive(Drop)]
+struct Adds {
+    alloc: Global,
+}
+
+impl<D: Device, R: Wait + Clock + Abort> HubJob<D, R> for Adds {
+    type Out = (u64, u64);
+
+    fn run<N: HubName>(self, hub: &Hub<D, N, R>) -> (u64, u64) {
+        let rt = hub.handle();
+        let Ok(mut reader) = hub.reader() else {
+            panic!(rt; "no reader");
+        };
+        assert_shown(rt, &mut reader, 1);
+        let second = submit_again(rt, hub, command_of(rt, self.alloc, 2));
+        let third = submit_again(rt, hub, command_of(rt, self.alloc, 3));
+        let durable = durable_of(rt, hub);
+        assert_shown(rt, &mut reader, 1);
+        let second = publish_again(hub, &mut reader, durable, second);
+        assert_shown(rt, &mut reader, 3);
+        let second = learn(rt, hub, &mut reader, second);
+        let third = learn(rt, hub, &mut reader, third);
+        assert_shown(rt, &mut reader, 3);
+        hub.give_back(reader);
+        (second, third)
+    }
+}
+
+/// Sees that a hub was refused for want of memory, and that the store is as it was: the store that
+/// its device opens to.
+fn assert_kept<D: Device>(
+    rt: &Host<impl Abort>,
+    alloc: Global,
+    store: Store<D>,
+    e: HubError,
+) -> Store<D> {
+    assert!(rt.0;
+        matches!(e, HubError::NoMemory | HubError::NoReader),
+        "{e:?}"
+    );
+    assert_contents(rt, contents_of(&store), FIRST);
+    let store = opened(rt, alloc, store.into_device());
+    assert_contents(rt, contents_of(&store), FIRST);
+    store
+}
+
+#[test]
+fn refused_calls_may_be_made_again(rt: HostRuntime) -> Result<(), Fail> {
+    let host = Host(&rt);
+    let alloc = rt.alloc();
+    let store = first_store(&host, alloc);
+    let again = match with_hub(&rt, alloc, store, 1, Adds { alloc }) {
+        Err((store, adds, e)) => {
+            let store = assert_kept(&host, alloc, store, e);
+            with_hub(&rt, alloc, store, 1, adds)
+        }
+        done => done,
+    };
+    match again {
+        Ok((places, _device, _left)) => assert_eq!(rt; places, (1, 2)),
+        Err((_store, _adds, e)) => panic!(rt; "{e:?}"),
+    }
+    Ok(())
+}
+
+/// Registers a segment, each guest another one, and looks it up. Counts the guests who did.
+#[derive(Drop)]
+struct Joins {
+    alloc: Global,
+    done: AtomicU64,
+}
+
+impl Errand for Joins {
+    fn run<D: Device, N: HubName, R: Wait + Clock + Abort>(&self, hub: &Hub<D, N, R>, guest: u64) {
+        let rt = hub.handle();
+        let Ok(mut reader) = hub.reader() else {
+            return;
+        };
+        let egress = if guest == 0 { 2 } else { 3 };
+        let ticket = submit_again(rt, hub, command_of(rt, self.alloc, egress));
+        learn(rt, hub, &mut reader, ticket);
+        let count = shown_again(rt, &mut reader);
+        assert!(rt; 2 <= count && count <= 3, "{count}");
+        hub.give_back(reader);
+        self.done.fetch_add(1, Ordering::SeqCst);
+    }
+}
+
+/// A hub with two guests, and once more where memory is refused for it: the device, and how many
+/// guests there were.
+fn joined<R: Wait + Clock + Threads + Abort + Copy + Drop + Send + Sync>(
+    rt: R,
+    alloc: Global,
+    guests: &Guests<Joins>,
+) -> (MemDevice, u64) {
+    let host = Host(rt);
+    let (device, _left, first) = with_crew(rt, alloc, first_store(&host, alloc), 1, guests);
+    let e = match first {
+        Ok(attended) => return (device, attended),
+        Err(e) => e,
+    };
+    let store = assert_kept(&host, alloc, opened(&host, alloc, device), e);
+    let (device, _left, again) = with_crew(rt, alloc, store, 1, guests);
+    match again {
+        Ok(attended) => (device, attended),
+        Err(e) => panic!(&rt; "{e:?}"),
+    }
+}
+
+#[test]
+fn refused_crews_may_come_again(rt: HostRuntime) -> Result<(), Fail> {
+    let host = Host(&rt);
+    let alloc = rt.alloc();
+    let joins = Joins {
+        alloc,
+        done: AtomicU64::new(0),
+    };
+    let guests = Guests::new(2, joins);
+    let (device, attended) = joined(&rt, alloc, &guests);
+    // Where no thread was given for a guest, the other one was there.
+    assert_eq!(rt; attended.wrapping_add(guests.missed()), 2);
+    assert_eq!(rt; guests.errand.done.load(Ordering::SeqCst), attended);
+    let wanted = if attended == 2 {
+        Contents {
+            rows: 3,
+            bytes: 3 * 93,
+            place: 3,
+        }
+    } else {
+        Contents {
+            rows: 2,
+            bytes: 2 * 93,
+            place: 2,
+        }
+    };
+    let _device = assert_opens_to(&host, alloc, device, wanted);
+    Ok(())
+}

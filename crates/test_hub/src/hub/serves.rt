@@ -1,0 +1,87 @@
+//! Guests who register and look up beside each other.
+
+use crate::hub::crews::{Errand, Guests, crewed};
+use crate::hub::host::Host;
+use path_hub::{Hub, HubName, HubReader};
+use sector_dev::Device;
+use std::alloc::Global;
+use std::process::Abort;
+use std::sync::Wait;
+use std::sync::atomic::{AtomicU64, Ordering};
+use std::test::Fail;
+use std::time::Clock;
+use test_hub_scripts::stores::{
+    Contents, WIDE, assert_opens_to, formatted, opened, query_from, register,
+};
+
+/// How many guests there are.
+const GUESTS: u64 = 16;
+
+/// How many segments each of them registers.
+const SEGMENTS: u8 = 8;
+
+/// The least that the first AS of a guest's segments has beyond 1-ff00:0:100.
+const ORIGIN: u64 = 0x20;
+
+/// Registers segments of an AS that is the guest's own, and looks them up after each. Counts the
+/// lookups that showed as many as were registered by then, up to one that did not.
+#[derive(Drop)]
+struct Serves {
+    alloc: Global,
+    shown: AtomicU64,
+}
+
+impl Serves {
+    /// Registers one segment, and learns the receipt: how many are shown then.
+    fn shown_after<D: Device, N: HubName, R: Wait + Clock>(
+        &self,
+        hub: &Hub<D, N, R>,
+        reader: &mut HubReader<N>,
+        origin: u8,
+        egress: u8,
+    ) -> Option<usize> {
+        let mut receipt = hub.register(register(self.alloc, origin, egress)?).ok()?;
+        reader.learn(&mut receipt);
+        Some(reader.lookup(&query_from(origin), 0).ok()?.len())
+    }
+}
+
+impl Errand for Serves {
+    fn run<D: Device, N: HubName, R: Wait + Clock + Abort>(&self, hub: &Hub<D, N, R>, guest: u64) {
+        let Ok(origin) = u8::try_from(ORIGIN.saturating_add(guest)) else {
+            return;
+        };
+        let Ok(mut reader) = hub.reader() else {
+            return;
+        };
+        for egress in 1..=SEGMENTS {
+            let shown = self.shown_after(hub, &mut reader, origin, egress);
+            if shown != Some(usize::from(egress)) {
+                return;
+            }
+            self.shown.fetch_add(1, Ordering::SeqCst);
+        }
+        hub.give_back(reader);
+    }
+}
+
+#[test]
+fn crew_serves_all(rt: HostRuntime) -> Result<(), Fail> {
+    let host = Host(&rt);
+    let alloc = rt.alloc();
+    let store = opened(&host, alloc, formatted(&host, alloc, WIDE));
+    let serves = Serves {
+        alloc,
+        shown: AtomicU64::new(0),
+    };
+    let guests = Guests::new(GUESTS, serves);
+    let device = crewed(&rt, alloc, store, &guests);
+    assert_eq!(rt; guests.errand.shown.load(Ordering::SeqCst), 128);
+    let wanted = Contents {
+        rows: 128,
+        bytes: 128 * 93,
+        place: 128,
+    };
+    let _device = assert_opens_to(&host, alloc, device, wanted);
+    Ok(())
+}

@@ -1,0 +1,252 @@
+//! What is answered once the state has stopped.
+
+use crate::hub::crews::{Errand, Guests, crewed, nap};
+use crate::hub::host::Host;
+use group_core::SubmitError;
+use path_db::Command;
+use path_hub::{Awaited, Hub, HubError, HubName, HubReader, Steps};
+use sector_dev::{Device, FaultDevice, MemDevice};
+use std::alloc::Global;
+use std::process::Abort;
+use std::sync::{Mutex, Wait};
+use std::test::Fail;
+use std::thread::Threads;
+use std::time::Clock;
+use store_open::{Store, open};
+use test_hub_scripts::acts::{Unwatched, fill};
+use test_hub_scripts::fakes::Fake;
+use test_hub_scripts::stores::{
+    Contents, LEAST, assert_opens_to, change, contents_of, formatted, opened, query, register,
+    sealed_row,
+};
+
+/// A store whose journals are full, at place 514, and that has no epoch left for a checkpoint: a
+/// further command is accepted, and never committed.
+fn full_store<R: Wait + Abort + Copy + Drop>(rt: R, alloc: Global) -> Store<MemDevice> {
+    let host = Host(rt);
+    let mut device = formatted(&host, alloc, LEAST);
+    // The epoch of the first half's checkpoint.
+    change(&mut device, 1, 8, &[0xff; 8]);
+    let fake = Fake::new(host, alloc, device);
+    fill(&host, &fake, &mut Unwatched);
+    opened(&host, alloc, fake.into_device())
+}
+
+/// How long a command is waited for, in naps.
+const MOST_NAPS: u64 = 6000;
+
+/// The first guest registers a command twice; the second one stops the state once the command is
+/// accepted.
+#[derive(Drop)]
+struct Waits {
+    answers: Mutex<[Option<HubError>; 2]>,
+}
+
+/// Stops the state once there was a change for the flusher.
+fn stop_soon<D: Device, N: HubName, R: Wait + Clock>(hub: &Hub<D, N, R>) {
+    for _ in 0..MOST_NAPS {
+        if hub.changes(Awaited::Work) > 0 {
+            break;
+        }
+        nap(hub.handle());
+    }
+    nap(hub.handle());
+    hub.stop();
+}
+
+impl Errand for Waits {
+    fn run<D: Device, N: HubName, R: Wait + Clock + Abort>(&self, hub: &Hub<D, N, R>, guest: u64) {
+        if guest > 0 {
+            stop_soon(hub);
+            return;
+        }
+        let first = hub.register(Command::Purge(0)).err();
+        let second = hub.register(Command::Purge(0)).err();
+        *self.answers.lock(hub.handle()) = [first, second];
+    }
+}
+
+#[test]
+fn register_in_a_state_that_stops(rt: HostRuntime) -> Result<(), Fail> {
+    let host = Host(&rt);
+    let alloc = rt.alloc();
+    let waits = Waits {
+        answers: Mutex::new([None, None]),
+    };
+    let guests = Guests::new(2, waits);
+    let device = crewed(&rt, alloc, full_store(&rt, alloc), &guests);
+    let wanted = [
+        Some(HubError::Stopped(514)),
+        Some(HubError::Submit(SubmitError::Stopped)),
+    ];
+    assert_eq!(rt; *guests.errand.answers.lock(&rt), wanted);
+    let _device = assert_opens_to(&host, alloc, device, Contents::empty_at(514));
+    Ok(())
+}
+
+/// How many calls of the device are tried.
+const MANY: u64 = 1000;
+
+/// How many calls of the device it takes to open a store.
+fn calls_to_open(rt: &impl Abort, alloc: Global, device: MemDevice) -> u64 {
+    let mut device = device;
+    for number in 0..MANY {
+        match open(alloc, FaultDevice::new(device, number)) {
+            Ok(store) => {
+                let _device = store.into_device();
+                return number;
+            }
+            Err((failing, _e)) => device = failing.into_mem(),
+        }
+    }
+    panic!(rt; "opening makes no end")
+}
+
+/// A new store on a device that fails in the sync of the second group's gate: each group takes a
+/// write and a sync, and these of its gate.
+fn failing_store(rt: &Host<impl Abort>, alloc: Global) -> Store<FaultDevice> {
+    let number = calls_to_open(&rt.0, alloc, formatted(rt, alloc, LEAST)).saturating_add(7);
+    let device = formatted(rt, alloc, LEAST);
+    opened(rt, alloc, FaultDevice::new(device, number))
+}
+
+/// What a guest sees of a device that fails in the second group: how many segments are shown before
+/// that, and after that to two readers; and what the second and the third command are answered.
+type Seen = ([usize; 3], [Option<HubError>; 2]);
+
+/// Registers three segments, of which the second one meets the fault.
+#[derive(Drop)]
+struct Meets {
+    alloc: Global,
+    seen: Mutex<Option<Seen>>,
+}
+
+/// How many segments a reader shows.
+fn shown<N: HubName>(reader: &mut HubReader<N>) -> Option<usize> {
+    Some(reader.lookup(&query(), 0).ok()?.len())
+}
+
+impl Meets {
+    fn seen<D: Device, N: HubName, R: Wait + Clock>(&self, hub: &Hub<D, N, R>) -> Option<Seen> {
+        let mut reader = hub.reader().ok()?;
+        let mut other = hub.reader().ok()?;
+        let mut receipt = hub.register(register(self.alloc, 0x10, 1)?).ok()?;
+        reader.learn(&mut receipt);
+        let before = shown(&mut reader)?;
+        let second = hub.register(register(self.alloc, 0x10, 2)?).err();
+        let after = shown(&mut reader)?;
+        let elsewhere = shown(&mut other)?;
+        let third = hub.register(register(self.alloc, 0x10, 3)?).err();
+        hub.give_back(reader);
+        hub.give_back(other);
+        Some(([before, after, elsewhere], [second, third]))
+    }
+}
+
+impl Errand for Meets {
+    fn run<D: Device, N: HubName, R: Wait + Clock + Abort>(&self, hub: &Hub<D, N, R>, _guest: u64) {
+        let seen = self.seen(hub);
+        *self.seen.lock(hub.handle()) = seen;
+    }
+}
+
+#[test]
+fn failed_gate_sync_stops(rt: HostRuntime) -> Result<(), Fail> {
+    let host = Host(&rt);
+    let alloc = rt.alloc();
+    let meets = Meets {
+        alloc,
+        seen: Mutex::new(None),
+    };
+    let guests = Guests::new(1, meets);
+    let device = crewed(&rt, alloc, failing_store(&host, alloc), &guests);
+    let answers = [
+        Some(HubError::Stopped(1)),
+        Some(HubError::Submit(SubmitError::Stopped)),
+    ];
+    assert_eq!(rt; *guests.errand.seen.lock(&rt), Some(([1, 1, 1], answers)));
+    // The gate was written, though its sync failed: that command was kept.
+    let wanted = Contents {
+        rows: 2,
+        bytes: 2 * 93,
+        place: 2,
+    };
+    let _device = assert_opens_to(&host, alloc, device.into_mem(), wanted);
+    Ok(())
+}
+
+/// How many calls of the device the actors make at most until a checkpoint has ended and a few
+/// purges are committed.
+const ACTORS_CALLS: u64 = 30;
+
+/// Purges until the state has stopped, and looks up with two readers before that and after it.
+/// Comes to how many segments each lookup showed.
+#[derive(Drop)]
+struct Purges {
+    shown: Mutex<Option<[usize; 4]>>,
+}
+
+/// Purges until the state has stopped, which it does within these calls of the device.
+fn purge_until_stopped<D: Device, N: HubName, R: Wait + Clock>(hub: &Hub<D, N, R>) -> Option<()> {
+    for _ in 0..ACTORS_CALLS {
+        if hub.register(Command::Purge(0)).is_err() {
+            return Some(());
+        }
+    }
+    None
+}
+
+impl Purges {
+    fn shown<D: Device, N: HubName, R: Wait + Clock>(hub: &Hub<D, N, R>) -> Option<[usize; 4]> {
+        let mut reader = hub.reader().ok()?;
+        let mut other = hub.reader().ok()?;
+        let first = shown(&mut reader)?;
+        purge_until_stopped(hub)?;
+        let again = shown(&mut reader)?;
+        let elsewhere = shown(&mut other)?;
+        let last = shown(&mut reader)?;
+        hub.give_back(reader);
+        hub.give_back(other);
+        Some([first, again, elsewhere, last])
+    }
+}
+
+impl Errand for Purges {
+    fn run<D: Device, N: HubName, R: Wait + Clock + Abort>(&self, hub: &Hub<D, N, R>, _guest: u64) {
+        let shown = Purges::shown(hub);
+        *self.shown.lock(hub.handle()) = shown;
+    }
+}
+
+/// Sees that readers go on where the call of this number fails, on a device of a store whose
+/// journal is sealed.
+fn assert_readers_go_on<R: Wait + Clock + Threads + Abort + Copy + Drop + Send + Sync>(
+    rt: R,
+    alloc: Global,
+    number: u64,
+) {
+    let host = Host(rt);
+    let failing = FaultDevice::new(sealed_row(&host, alloc), number);
+    let purges = Purges {
+        shown: Mutex::new(None),
+    };
+    let guests = Guests::new(1, purges);
+    let device = crewed(rt, alloc, opened(&host, alloc, failing), &guests);
+    assert_eq!(&rt; *guests.errand.shown.lock(&rt), Some([1; 4]), "{number}");
+    let store = opened(&host, alloc, device.into_mem());
+    assert_eq!(&rt; contents_of(&store).rows, 1, "{number}");
+    let _device = store.into_device();
+}
+
+// The calls of the flusher's steps and of a whole checkpoint, in whichever order the two actors
+// make them.
+#[test]
+fn readers_go_on_after_each_failed_call(rt: HostRuntime) -> Result<(), Fail> {
+    let host = Host(&rt);
+    let alloc = rt.alloc();
+    let first = calls_to_open(&rt, alloc, sealed_row(&host, alloc));
+    for number in 0..ACTORS_CALLS {
+        assert_readers_go_on(&rt, alloc, first.saturating_add(number));
+    }
+    Ok(())
+}

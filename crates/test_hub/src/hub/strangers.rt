@@ -1,0 +1,147 @@
+//! Tickets of another hub, and commands that are not accepted.
+
+use crate::hub::host::Host;
+use group_core::{Redeemed, SubmitError, Ticket};
+use path_db::Command;
+use path_hub::{Hub, HubError, HubJob, HubName, Steps, with_hub};
+use sector_dev::Device;
+use std::alloc::Global;
+use std::process::Abort;
+use std::sync::Wait;
+use std::test::Fail;
+use std::time::Clock;
+use test_hub_scripts::acts::{Unwatched, keep, spend, submit};
+use test_hub_scripts::stores::{ended, new_store};
+
+/// Redeems another hub's ticket while a ticket of this one has the same place. Comes to that
+/// ticket.
+struct Redeems {
+    ticket: Ticket,
+}
+
+impl<D: Device, R: Wait + Clock + Abort> HubJob<D, R> for Redeems {
+    type Out = Ticket;
+
+    fn run<N: HubName>(self, hub: &Hub<D, N, R>) -> Ticket {
+        let Redeems { ticket } = self;
+        let rt = hub.handle();
+        let host = Host(rt);
+        let own = submit(&host, hub, &mut Unwatched);
+        assert_eq!(rt; own.place(), ticket.place());
+        let back = match hub.redeem(ticket) {
+            Redeemed::Stranger(back) => back,
+            Redeemed::Waiting(_back) => panic!(rt; "no stranger"),
+            Redeemed::Committed(_) | Redeemed::Unknown(_) => panic!(rt; "redeemed"),
+        };
+        hub.stop();
+        spend(&host, hub, &mut Unwatched, own);
+        back
+    }
+}
+
+/// Has a ticket redeemed at a hub of another home.
+#[derive(Drop)]
+struct Visits {
+    alloc: Global,
+}
+
+impl<D: Device, R: Wait + Clock + Abort + Copy> HubJob<D, R> for Visits {
+    type Out = ();
+
+    fn run<N: HubName>(self, hub: &Hub<D, N, R>) {
+        let rt = hub.handle();
+        let host = Host(rt);
+        let ticket = submit(&host, hub, &mut Unwatched);
+        let store = new_store(&host, self.alloc);
+        let ticket = match with_hub(*rt, self.alloc, store, 2, Redeems { ticket }) {
+            Ok((ticket, _device, _left)) => ticket,
+            Err((_store, _job, e)) => panic!(rt; "{e:?}"),
+        };
+        let ticket = keep(&host, hub, &mut Unwatched, ticket);
+        hub.stop();
+        spend(&host, hub, &mut Unwatched, ticket);
+    }
+}
+
+#[test]
+fn strangers(rt: HostRuntime) -> Result<(), Fail> {
+    let host = Host(&rt);
+    let alloc = rt.alloc();
+    let store = new_store(&host, alloc);
+    ended(&host, with_hub(&rt, alloc, store, 1, Visits { alloc }));
+    Ok(())
+}
+
+/// How many commands may be pending.
+const MOST_PENDING: u64 = 256;
+
+/// Submits as many commands as may be pending, and a few more, before and after the state is
+/// stopped.
+#[derive(Drop)]
+struct Fills {
+    alloc: Global,
+}
+
+/// Sees that a command is not accepted, whether it is waited for or not.
+fn assert_refused<D: Device, N: HubName, R: Wait + Clock + Abort>(
+    hub: &Hub<D, N, R>,
+    wanted: SubmitError,
+) {
+    let rt = hub.handle();
+    match hub.submit(Command::Purge(0)) {
+        Ok(_ticket) => panic!(rt; "accepted"),
+        Err((_command, refusal)) => assert_eq!(rt; refusal, wanted),
+    }
+    assert_eq!(rt;
+        hub.register(Command::Purge(0)).err(),
+        Some(HubError::Submit(wanted))
+    );
+}
+
+/// As many tickets as may be given before any is redeemed.
+fn tickets_of<S: Steps>(rt: &Host<impl Abort>, alloc: Global, steps: &S) -> Vec<Ticket> {
+    let Ok(mut tickets) = Vec::with_capacity(alloc, MOST_PENDING as usize) else {
+        panic!(rt.0; "out of memory");
+    };
+    for _ in 0..MOST_PENDING {
+        if let Err(_ticket) = tickets.push(submit(rt, steps, &mut Unwatched)) {
+            panic!(rt.0; "out of memory");
+        }
+    }
+    tickets
+}
+
+impl<D: Device, R: Wait + Clock + Abort> HubJob<D, R> for Fills {
+    type Out = ();
+
+    fn run<N: HubName>(self, hub: &Hub<D, N, R>) {
+        let rt = hub.handle();
+        let mut tickets = tickets_of(&Host(rt), self.alloc, hub);
+        assert_refused(hub, SubmitError::Busy);
+        hub.stop();
+        assert_refused(hub, SubmitError::Stopped);
+        for _ in 0..MOST_PENDING {
+            let Some(ticket) = tickets.pop() else {
+                break;
+            };
+            let place = ticket.place();
+            match hub.redeem(ticket) {
+                Redeemed::Unknown(unknown) => assert_eq!(rt; unknown, place),
+                Redeemed::Committed(_receipt) => panic!(rt; "committed"),
+                Redeemed::Waiting(_back) => panic!(rt; "a ticket waits"),
+                Redeemed::Stranger(_back) => panic!(rt; "a stranger"),
+            }
+        }
+        assert!(rt; tickets.is_empty());
+        tickets.destroy_empty();
+    }
+}
+
+#[test]
+fn full_tails_are_busy(rt: HostRuntime) -> Result<(), Fail> {
+    let host = Host(&rt);
+    let alloc = rt.alloc();
+    let store = new_store(&host, alloc);
+    ended(&host, with_hub(&rt, alloc, store, 1, Fills { alloc }));
+    Ok(())
+}

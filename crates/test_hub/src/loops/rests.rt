@@ -1,0 +1,268 @@
+//! Which calls are counted as changes, and which rests a change ends.
+
+use crate::loops::host::Host;
+use path_hub::{Awaited, Hub, HubJob, HubName, Steps, with_hub};
+use sector_dev::Device;
+use std::alloc::Global;
+use std::process::Abort;
+use std::sync::Wait;
+use std::test::Fail;
+use std::time::{Clock, Duration, Instant};
+use test_hub_scripts::acts::{
+    Answer, GROUPS, Unwatched, Watch, commit, commit_all, flush, fold, seal, spend, submit,
+};
+use test_hub_scripts::stores::{ended, new_store};
+
+/// How many changes there were of each kind after each call, beyond those that there were at first:
+/// of the outcomes, of that of one place, and of that of the next place.
+#[derive(Drop)]
+struct Grown {
+    work: Vec<u64>,
+    seal: Vec<u64>,
+    outcome: Vec<u64>,
+    next: Vec<u64>,
+}
+
+/// Counts the changes of a state after each call.
+struct Counts<'a, S> {
+    steps: &'a S,
+    place: u64,
+    first: [u64; 4],
+    grown: Grown,
+}
+
+/// How many changes there were of each kind: of the outcomes, of that of this place, and of that of
+/// the next place.
+fn changes<S: Steps>(steps: &S, place: u64) -> [u64; 4] {
+    [
+        steps.changes(Awaited::Work),
+        steps.changes(Awaited::Seal),
+        steps.changes(Awaited::Outcome(place)),
+        steps.changes(Awaited::Outcome(place.wrapping_add(1))),
+    ]
+}
+
+impl<'a, S: Steps> Counts<'a, S> {
+    /// Counts from now on.
+    fn new(alloc: Global, steps: &'a S, place: u64) -> Counts<'a, S> {
+        Counts {
+            steps,
+            place,
+            first: changes(steps, place),
+            grown: Grown {
+                work: Vec::new(alloc),
+                seal: Vec::new(alloc),
+                outcome: Vec::new(alloc),
+                next: Vec::new(alloc),
+            },
+        }
+    }
+
+    /// What was counted.
+    fn end(self) -> Grown {
+        let Counts {
+            steps: _steps,
+            place: _place,
+            first: _first,
+            grown,
+        } = self;
+        grown
+    }
+}
+
+impl<S: Steps> Watch for Counts<'_, S> {
+    fn see(&mut self, _answer: Answer) {
+        let [work, seal, outcome, next] = changes(self.steps, self.place);
+        let _ = self.grown.work.push(work.wrapping_sub(self.first[0]));
+        let _ = self.grown.seal.push(seal.wrapping_sub(self.first[1]));
+        let _ = self.grown.outcome.push(outcome.wrapping_sub(self.first[2]));
+        let _ = self.grown.next.push(next.wrapping_sub(self.first[3]));
+    }
+}
+
+/// Sees how a kind of changes grew.
+fn assert_grown(rt: &Host<impl Abort>, kind: &str, grown: &[u64], wanted: &[u64]) {
+    assert!(rt.0; *grown == *wanted, "{kind} {grown:?}");
+}
+
+/// A purge is submitted, staged, written, synced, its gate opened and synced, published, and
+/// redeemed.
+fn assert_group<S: Steps>(rt: &Host<impl Abort>, alloc: Global, steps: &S) {
+    let mut counts = Counts::new(alloc, steps, GROUPS - 1);
+    commit(rt, steps, &mut counts);
+    let Grown {
+        work,
+        seal,
+        outcome,
+        next,
+    } = counts.end();
+    assert_grown(rt, "work", &work, &[1, 1, 1, 1, 1, 1, 1, 1]);
+    assert_grown(rt, "seal", &seal, &[0, 0, 0, 0, 0, 0, 0, 0]);
+    assert_grown(rt, "outcome", &outcome, &[0, 0, 0, 0, 0, 0, 1, 1]);
+    assert_grown(rt, "next", &next, &[0; 8]);
+}
+
+/// The same calls, where a seal is published: the purge waits, and is committed then.
+fn assert_seal<S: Steps>(rt: &Host<impl Abort>, alloc: Global, steps: &S) {
+    let mut counts = Counts::new(alloc, steps, GROUPS);
+    let ticket = seal(rt, steps, &mut counts);
+    let Grown {
+        work,
+        seal,
+        outcome,
+        next: _next,
+    } = counts.end();
+    assert_grown(rt, "work", &work, &[1, 1, 1, 1, 1, 1, 1, 1]);
+    assert_grown(rt, "seal", &seal, &[0, 0, 0, 0, 0, 0, 1, 1]);
+    assert_grown(rt, "outcome", &outcome, &[0; 8]);
+    flush(rt, steps, &mut Unwatched);
+    spend(rt, steps, &mut Unwatched, ticket);
+}
+
+/// A checkpoint is prepared, begun, written, synced, its gate opened and synced, the old half
+/// closed and synced, with a staging that is refused between two of these calls.
+fn assert_fold<S: Steps>(rt: &Host<impl Abort>, alloc: Global, steps: &S) {
+    let mut counts = Counts::new(alloc, steps, GROUPS + 1);
+    fold(rt, steps, &mut counts);
+    let Grown {
+        work,
+        seal,
+        outcome,
+        next: _next,
+    } = counts.end();
+    assert_grown(
+        rt,
+        "work",
+        &work,
+        &[0, 0, 0, 0, 0, 0, 0, 0, 0, 0, 0, 0, 0, 0, 1],
+    );
+    assert_grown(rt, "seal", &seal, &[0; 15]);
+    assert_grown(rt, "outcome", &outcome, &[0; 15]);
+}
+
+/// The state is stopped.
+fn assert_halt<S: Steps>(rt: &Host<impl Abort>, alloc: Global, steps: &S) {
+    let mut counts = Counts::new(alloc, steps, GROUPS + 1);
+    steps.halt();
+    counts.see(Answer::Done);
+    let Grown {
+        work,
+        seal,
+        outcome,
+        next,
+    } = counts.end();
+    assert_grown(rt, "work", &work, &[1]);
+    assert_grown(rt, "seal", &seal, &[1]);
+    assert_grown(rt, "outcome", &outcome, &[1]);
+    assert_grown(rt, "next", &next, &[1]);
+}
+
+/// Counts the changes that calls make.
+#[derive(Drop)]
+struct Makes {
+    alloc: Global,
+}
+
+impl<D: Device, R: Wait + Clock + Abort> HubJob<D, R> for Makes {
+    type Out = ();
+
+    fn run<N: HubName>(self, hub: &Hub<D, N, R>) {
+        let host = Host(hub.handle());
+        commit_all(&host, hub, &mut Unwatched, GROUPS - 1);
+        assert_group(&host, self.alloc, hub);
+        assert_seal(&host, self.alloc, hub);
+        assert_fold(&host, self.alloc, hub);
+        assert_halt(&host, self.alloc, hub);
+    }
+}
+
+#[test]
+fn changes_are_counted(rt: HostRuntime) -> Result<(), Fail> {
+    let host = Host(&rt);
+    let alloc = rt.alloc();
+    let store = new_store(&host, alloc);
+    ended(&host, with_hub(&rt, alloc, store, 1, Makes { alloc }));
+    Ok(())
+}
+
+/// How long this number of rests takes.
+fn time_of<S: Steps, R: Clock + Abort>(
+    rt: &R,
+    steps: &S,
+    awaited: Awaited,
+    seen: u64,
+    count: u64,
+) -> Duration {
+    let Ok(start) = Instant::now(rt) else {
+        panic!(rt; "no clock");
+    };
+    for _ in 0..count {
+        steps.rest(awaited, seen);
+    }
+    match start.elapsed(rt) {
+        Ok(spent) => spent,
+        Err(_) => panic!(rt; "no clock"),
+    }
+}
+
+/// Sees that a rest ends at once where there was a change since the count was read: a thousand
+/// rests would take ten seconds else.
+fn assert_prompt<S: Steps, R: Clock + Abort>(rt: &R, steps: &S, awaited: Awaited, seen: u64) {
+    let spent = time_of(rt, steps, awaited, seen, 1000);
+    assert!(rt; spent < Duration::from_secs(5), "{spent:?}");
+}
+
+/// Sees that a rest ends by itself where there was no change: one takes ten milliseconds.
+fn assert_slow<S: Steps, R: Clock + Abort>(rt: &R, steps: &S, awaited: Awaited) {
+    let spent = time_of(rt, steps, awaited, steps.changes(awaited), 20);
+    assert!(rt; Duration::from_millis(100) <= spent, "{spent:?}");
+}
+
+/// Rests after changes of each kind, and after none.
+#[derive(Drop)]
+struct Rests;
+
+impl<D: Device, R: Wait + Clock + Abort> HubJob<D, R> for Rests {
+    type Out = ();
+
+    fn run<N: HubName>(self, hub: &Hub<D, N, R>) {
+        let Rests = self;
+        let rt = hub.handle();
+        let host = Host(rt);
+        commit_all(&host, hub, &mut Unwatched, GROUPS - 1);
+        let mine = Awaited::Outcome(GROUPS - 1);
+        let next = Awaited::Outcome(GROUPS);
+        let [work, _seal, outcome, _next] = changes(hub, GROUPS - 1);
+        let ticket = submit(&host, hub, &mut Unwatched);
+        assert_prompt(rt, hub, Awaited::Work, work);
+        flush(&host, hub, &mut Unwatched);
+        assert_prompt(rt, hub, mine, outcome);
+        spend(&host, hub, &mut Unwatched, ticket);
+        for awaited in [Awaited::Work, Awaited::Seal, mine, next] {
+            assert_slow(rt, hub, awaited);
+        }
+        let sealed = hub.changes(Awaited::Seal);
+        let ticket = seal(&host, hub, &mut Unwatched);
+        assert_prompt(rt, hub, Awaited::Seal, sealed);
+        flush(&host, hub, &mut Unwatched);
+        spend(&host, hub, &mut Unwatched, ticket);
+        let work = hub.changes(Awaited::Work);
+        fold(&host, hub, &mut Unwatched);
+        assert_prompt(rt, hub, Awaited::Work, work);
+        let [work, sealed, outcome, after] = changes(hub, GROUPS - 1);
+        hub.halt();
+        assert_prompt(rt, hub, Awaited::Work, work);
+        assert_prompt(rt, hub, Awaited::Seal, sealed);
+        assert_prompt(rt, hub, mine, outcome);
+        assert_prompt(rt, hub, next, after);
+    }
+}
+
+#[test]
+fn rest_sees_earlier_changes(rt: HostRuntime) -> Result<(), Fail> {
+    let host = Host(&rt);
+    let alloc = rt.alloc();
+    let store = new_store(&host, alloc);
+    ended(&host, with_hub(&rt, alloc, store, 1, Rests));
+    Ok(())
+}

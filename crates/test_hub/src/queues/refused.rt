@@ -1,0 +1,166 @@
+//! Want of memory while commands are handed in ahead. The tests are run with each of their
+//! allocations refused in turn: a command that is refused takes no place, and is accepted when it
+//! is handed in again.
+
+use crate::queues::crews::{Errand, Guests, nap};
+use crate::queues::host::Host;
+use crate::queues::said::{Handed, Said, hand_in, room, settle};
+use group_core::SubmitError;
+use path_db::Command;
+use path_hub::{Hub, HubError, HubName, with_crew};
+use sector_dev::{Device, HeldDevice, MemDevice};
+use std::alloc::Global;
+use std::process::Abort;
+use std::sync::Wait;
+use std::sync::atomic::{AtomicU64, Ordering};
+use std::test::Fail;
+use std::thread::Threads;
+use std::time::Clock;
+use store_open::Store;
+use test_hub_scripts::doors::{Door, Holds, Latch};
+use test_hub_scripts::stores::{
+    Contents, LEAST, assert_contents, assert_opens_to, contents_of, formatted, opened,
+};
+
+/// How many commands are handed in while a sync is held: the queue grows several times.
+const AHEAD: u64 = 100;
+
+/// How many naps the sync is held for at least, where not all commands are handed in: a command
+/// that is refused waits for the state's lock, which the sync has.
+const NAPS: u64 = 10;
+
+/// How many naps the second guest waits for a sync to be held.
+const MOST_NAPS: u64 = 400;
+
+/// The first guest hands a purge in, waits until its sync is held, hands more in, and sees that
+/// they are committed in their order. The second guest lets the sync go on where it has to.
+#[derive(Drop)]
+struct Grows<'a> {
+    alloc: Global,
+    door: &'a Door,
+    handed: AtomicU64,
+    settled: AtomicU64,
+}
+
+/// Hands a purge in, and once more where memory is refused.
+fn hand_in_again<D: Device, N: HubName, R: Wait + Clock + Abort>(hub: &Hub<D, N, R>) -> Handed<N> {
+    match hand_in(hub, Command::Purge(0)) {
+        Err(Said::Refused(SubmitError::NoMemory)) => hand_in(hub, Command::Purge(0)),
+        handed => handed,
+    }
+}
+
+impl Grows<'_> {
+    /// Hands all purges in.
+    fn hand_in<D: Device, N: HubName, R: Wait + Clock + Abort>(
+        &self,
+        hub: &Hub<D, N, R>,
+    ) -> Vec<Handed<N>> {
+        let rt = hub.handle();
+        let mut all = room(rt, self.alloc, AHEAD + 1);
+        assert!(rt; all.push(hand_in_again(hub)).is_ok());
+        assert!(rt; self.door.is_held_soon(rt), "no sync is held");
+        for _ in 0..AHEAD {
+            assert!(rt; all.push(hand_in_again(hub)).is_ok());
+            self.handed.fetch_add(1, Ordering::SeqCst);
+        }
+        self.door.open(rt);
+        all
+    }
+
+    /// Hands all purges in, and sees that they are committed.
+    fn settle_all<D: Device, N: HubName, R: Wait + Clock + Abort>(&self, hub: &Hub<D, N, R>) {
+        let mut place = 0;
+        for handed in self.hand_in(hub) {
+            let (said, _outcome) = settle(hub, handed);
+            assert_eq!(hub.handle(); said, Said::Committed(place));
+            place = place.saturating_add(1);
+        }
+        self.settled.store(place, Ordering::SeqCst);
+    }
+
+    /// Opens the door once all purges are handed in, or after some naps.
+    fn go_on<R: Wait + Clock>(&self, rt: &R) {
+        for _ in 0..MOST_NAPS {
+            if self.door.latch(rt) == Latch::Held {
+                break;
+            }
+            nap(rt);
+        }
+        for _ in 0..NAPS {
+            if self.handed.load(Ordering::SeqCst) == AHEAD {
+                break;
+            }
+            nap(rt);
+        }
+        self.door.open(rt);
+    }
+}
+
+impl Errand for Grows<'_> {
+    fn run<D: Device, N: HubName, R: Wait + Clock + Abort>(&self, hub: &Hub<D, N, R>, guest: u64) {
+        if guest == 0 {
+            self.settle_all(hub);
+        } else {
+            self.go_on(hub.handle());
+        }
+    }
+}
+
+/// A new store whose syncs pass a door.
+fn held_store<R: Wait + Clock + Abort + Copy>(
+    rt: R,
+    alloc: Global,
+    door: &Door,
+    device: MemDevice,
+) -> Store<HeldDevice<MemDevice, Holds<'_, R>>> {
+    opened(
+        &Host(rt),
+        alloc,
+        HeldDevice::new(device, Holds { rt, door }),
+    )
+}
+
+/// A hub with both guests, and once more where memory is refused for it: the device.
+fn grown<R: Wait + Clock + Threads + Abort + Copy + Drop + Send + Sync>(
+    rt: R,
+    alloc: Global,
+    guests: &Guests<Grows<'_>>,
+) -> MemDevice {
+    let host = Host(rt);
+    let door = guests.errand.door;
+    let store = held_store(rt, alloc, door, formatted(&host, alloc, LEAST));
+    door.arm(&rt);
+    let (device, _left, first) = with_crew(rt, alloc, store, 1, guests);
+    let (device, _gate) = device.into_parts();
+    let Err(refused) = first else {
+        return device;
+    };
+    assert!(&rt; matches!(refused, HubError::NoMemory | HubError::NoReader));
+    let store = held_store(rt, alloc, door, device);
+    assert_contents(&host, contents_of(&store), Contents::empty_at(0));
+    door.arm(&rt);
+    let (device, _left, again) = with_crew(rt, alloc, store, 1, guests);
+    assert_eq!(&rt; again, Ok(2));
+    device.into_parts().0
+}
+
+#[test]
+fn refused_commands_may_be_handed_in_again(rt: HostRuntime) -> Result<(), Fail> {
+    let host = Host(&rt);
+    let alloc = rt.alloc();
+    let door = Door::new(Latch::Open);
+    let grows = Grows {
+        alloc,
+        door: &door,
+        handed: AtomicU64::new(0),
+        settled: AtomicU64::new(0),
+    };
+    let guests = Guests::new(2, grows);
+    let device = grown(&rt, alloc, &guests);
+    let settled = guests.errand.settled.load(Ordering::SeqCst);
+    // Where no thread was given for the first guest, nobody has handed a purge in.
+    assert!(rt; settled == AHEAD + 1 || (settled == 0 && guests.missed() == 1));
+    let _device = assert_opens_to(&host, alloc, device, Contents::empty_at(settled));
+    Ok(())
+}

@@ -1,0 +1,136 @@
+//! Signatures of the test profile. The values are from Python's hashlib.
+
+use crate::messages::checked::{EXPIRY, KEY, SEGMENT, SIGNED};
+use seg_check::{CheckError, Keyed, check, keyed_signature};
+use seg_core::read_segment;
+use std::alloc::Global;
+use std::process::Abort;
+use std::test::Fail;
+
+/// The verifier with that key.
+fn keyed(alloc: Global, key: &[u8]) -> Result<Keyed, Fail> {
+    if !Keyed::takes(key) {
+        return Err(Fail::from("no key"));
+    }
+    Ok(Keyed::new(Vec::from_slice(alloc, key)?))
+}
+
+/// A signature by that key in hexadecimal.
+fn signature_text(alloc: Global, signed: &[u8], associated: &[&[u8]]) -> Result<String, Fail> {
+    Ok(hex::encode(alloc, &keyed_signature(&KEY, signed, associated))?)
+}
+
+#[test]
+fn keyed_signature_values(rt: HostRuntime) -> Result<(), Fail> {
+    let info = &SEGMENT[2..10];
+    let first = &SEGMENT[16..53];
+    let second = &SEGMENT[59..];
+    let signature = &SIGNED[55..87];
+    let of_first = signature_text(rt.alloc(), first, &[info])?;
+    let of_second = signature_text(rt.alloc(), second, &[info, first, signature])?;
+    for (found, expected) in [
+        (
+            of_first.as_str(),
+            "31a45617b6693c8ca6c9df0dd203759b08fa0e35bd65e554d20c1cf47480dcc7",
+        ),
+        (
+            of_second.as_str(),
+            "c32aff63a5c814036bf7635a601b59ee8e54bba3fd613a84088c277a0535122d",
+        ),
+    ] {
+        assert_eq!(rt; found, expected);
+    }
+    Ok(())
+}
+
+// Segments with one bit changed in the segment's information, in each MAC, in each signature and in
+// both.
+#[test]
+fn keyed_signature_refused(rt: HostRuntime) -> Result<(), Fail> {
+    let verifier = keyed(rt.alloc(), &KEY)?;
+    let cases: [(&[usize], Result<(), CheckError>); 7] = [
+        (&[], Ok(())),
+        (&[9], Err(CheckError::BadSignature(0))),
+        (&[44], Err(CheckError::BadSignature(0))),
+        (&[113], Err(CheckError::BadSignature(1))),
+        (&[55], Err(CheckError::BadSignature(0))),
+        (&[155], Err(CheckError::BadSignature(1))),
+        (&[86, 124], Err(CheckError::BadSignature(0))),
+    ];
+    for (places, answer) in cases {
+        let mut message = SIGNED;
+        for place in places {
+            if let Some(byte) = message.get_mut(*place) {
+                *byte ^= 1;
+            }
+        }
+        let segment = read_segment(rt.alloc(), &message)?;
+        assert_eq!(rt;
+            check(&segment, &verifier, EXPIRY - 1),
+            answer,
+            "{places:?}"
+        );
+    }
+    Ok(())
+}
+
+/// A key of a verifier, a moment in half seconds, and why the signed segment is refused then.
+#[derive(Clone, Copy)]
+struct Refused<'a> {
+    name: &'static str,
+    key: &'a [u8],
+    now: u64,
+    why: CheckError,
+}
+
+/// Checks why a verifier with a key refuses the signed segment.
+fn assert_refused(rt: &impl Abort, alloc: Global, row: Refused<'_>) -> Result<(), Fail> {
+    let segment = read_segment(alloc, &SIGNED)?;
+    let verifier = keyed(alloc, row.key)?;
+    assert_eq!(rt;
+        check(&segment, &verifier, row.now),
+        Err(row.why),
+        "{}",
+        row.name
+    );
+    Ok(())
+}
+
+// Verifiers with another key, and with an empty one. A bad signature is reported before the expiry.
+#[rattlefmt::skip]
+#[test]
+fn keys_differ(rt: HostRuntime) -> Result<(), Fail> {
+    let bad = CheckError::BadSignature(0);
+    for row in [
+        Refused { name: "late", key: &KEY, now: EXPIRY, why: CheckError::Expired },
+        Refused { name: "another key", key: &KEY[1..], now: 0, why: bad },
+        Refused { name: "another key, and late", key: &KEY[1..], now: EXPIRY, why: bad },
+        Refused { name: "an empty key", key: b"", now: 0, why: bad },
+    ] {
+        assert_refused(&rt, rt.alloc(), row)?;
+    }
+    Ok(())
+}
+
+#[test]
+fn key_lengths(rt: HostRuntime) {
+    let bytes = [0; 65];
+    for (len, taken) in [(0, true), (64, true), (65, false)] {
+        assert_eq!(rt; Keyed::takes(&bytes[..len]), taken, "{len}");
+    }
+}
+
+#[test]
+fn refusals_are_printed(rt: HostRuntime) -> Result<(), Fail> {
+    for (error, text) in [
+        (
+            CheckError::BadSignature(1),
+            "the signature of entry 1 is not good",
+        ),
+        (CheckError::Expired, "the segment has expired"),
+    ] {
+        let found = error.to_string(rt.alloc())?;
+        assert_eq!(rt; found.as_str(), text);
+    }
+    Ok(())
+}

@@ -1,0 +1,12 @@
+//! Tests of `path_db`. They check what no contract states: values from outside, that calls succeed
+//! where memory suffices, and the database where memory is refused.
+
+mod commands;
+mod drops;
+mod memory;
+mod one_key;
+mod puts;
+mod reads;
+mod records;
+mod refused;
+mod worked;

@@ -1,0 +1,199 @@
+//! Refused memory: a command is applied completely or not at all.
+
+use crate::rows::records::written;
+use crate::rows::worked::{
+    ID, apply, count_rows, dated_by, is_there, leaving_by, len_of, put, row_of,
+};
+use isd_as::IsdAs;
+use path_db::{Command, Outcome, PathDb, Registration};
+use seg_core::SegType;
+use std::alloc::{AllocError, Global};
+use std::process::Abort;
+use std::test::Fail;
+
+/// The command that registers sixteen segments of sixteen ids, the worked one among them.
+fn sixteen(alloc: Global) -> Result<Command, Fail> {
+    let mut rows = Vec::new(alloc);
+    for egress in 1..=16 {
+        rows.push((SegType::Down, leaving_by(alloc, egress)?))?;
+    }
+    Ok(Command::Register(Registration::new(rows)))
+}
+
+/// How many rows there are, their bytes, and whether the worked segment is there as a down and as a
+/// core segment.
+#[derive(Clone, Copy, Debug, PartialEq, Eq)]
+struct View {
+    rows: usize,
+    bytes: u64,
+    has_down: bool,
+    has_core: bool,
+}
+
+/// What a database shows.
+fn shown(database: &PathDb) -> View {
+    View {
+        rows: count_rows(database),
+        bytes: len_of(database),
+        has_down: is_there(database, SegType::Down, &ID),
+        has_core: is_there(database, SegType::Core, &ID),
+    }
+}
+
+/// Applies a command to a database of which this is shown. Where it is refused, the same is shown,
+/// and the command is applied again.
+fn apply_again(
+    rt: &impl Abort,
+    database: &mut PathDb,
+    command: &Command,
+    before: View,
+) -> Result<Outcome, AllocError> {
+    match apply(database, command) {
+        Ok(outcome) => Ok(outcome),
+        Err(_) => {
+            assert_eq!(rt; shown(database), before);
+            apply(database, command)
+        }
+    }
+}
+
+/// Checks that sixteen rows are registered in a database of one core segment.
+fn assert_sixteen(
+    rt: &impl Abort,
+    database: &mut PathDb,
+    command: &Command,
+) -> Result<(), AllocError> {
+    let before = View {
+        rows: 1,
+        bytes: 93,
+        has_down: false,
+        has_core: true,
+    };
+    assert_eq!(rt; shown(database), before);
+    let outcome = apply_again(rt, database, command, before)?;
+    let inserted = Outcome {
+        inserted: 16,
+        updated: 0,
+        kept: 0,
+        purged: 0,
+    };
+    assert_eq!(rt; outcome, inserted);
+    let after = View {
+        rows: 17,
+        bytes: 17 * 93,
+        has_down: true,
+        has_core: true,
+    };
+    assert_eq!(rt; shown(database), after);
+    Ok(())
+}
+
+// Run with each allocation refused in turn. Where an allocation of the registration is refused, the
+// database is unchanged, and the registration succeeds when it is tried again.
+#[test]
+fn refused_registration_changes_nothing(rt: HostRuntime) -> Result<(), Fail> {
+    let mut database = row_of(rt.alloc(), SegType::Core)?;
+    let command = sixteen(rt.alloc())?;
+    Ok(assert_sixteen(&rt, &mut database, &command)?)
+}
+
+/// The command that registers eight newer segments with the ids of eight that are there, and eight
+/// with other ids.
+fn eight_and_eight(alloc: Global) -> Result<Command, Fail> {
+    let mut rows = Vec::new(alloc);
+    for egress in 1..=16 {
+        rows.push((SegType::Down, dated_by(alloc, 11, egress)?))?;
+    }
+    Ok(Command::Register(Registration::new(rows)))
+}
+
+/// A database of eight segments, and of a core segment.
+fn eight(alloc: Global) -> Result<PathDb, Fail> {
+    let mut database = row_of(alloc, SegType::Core)?;
+    for egress in 1..=8 {
+        put(
+            alloc,
+            &mut database,
+            SegType::Down,
+            dated_by(alloc, 10, egress)?,
+        )?;
+    }
+    Ok(database)
+}
+
+/// The number of down segments that are shown from one AS to another.
+fn count(database: &PathDb, start: u64, end: u64) -> Result<usize, Fail> {
+    let (start, end) = (IsdAs::from_u64(start), IsdAs::from_u64(end));
+    let shown = database.matching(SegType::Down, start, end, 0, usize::MAX)?;
+    Ok(shown.len())
+}
+
+/// The records of all rows, and the number of down segments that are shown by the index of each end
+/// and by neither.
+fn whole(alloc: Global, database: &PathDb) -> Result<(Vec<u8>, [usize; 3]), Fail> {
+    let rows = written(alloc, database)?;
+    let by_first = count(database, 0x0001_ff00_0000_0110, 0)?;
+    let by_last = count(database, 0, 0x0001_ff00_0000_0111)?;
+    Ok((rows, [by_first, by_last, count(database, 0, 0)?]))
+}
+
+/// Checks that a database has these rows, and shows this by its indexes.
+fn assert_whole(
+    rt: &impl Abort,
+    alloc: Global,
+    database: &PathDb,
+    rows: &[u8],
+    counts: [usize; 3],
+) -> Result<(), Fail> {
+    let (found, shown) = whole(alloc, database)?;
+    assert_eq!(rt; found.as_slice(), rows);
+    assert_eq!(rt; shown, counts);
+    Ok(())
+}
+
+/// Applies a command. Where it is refused, the database is unchanged, and the command is applied
+/// again.
+fn replace_again(
+    rt: &impl Abort,
+    alloc: Global,
+    database: &mut PathDb,
+    command: &Command,
+) -> Result<Outcome, Fail> {
+    let (rows, counts) = whole(alloc, database)?;
+    assert_eq!(rt; counts, [8, 8, 8]);
+    match apply(database, command) {
+        Ok(outcome) => Ok(outcome),
+        Err(_) => {
+            assert_whole(rt, alloc, database, &rows, counts)?;
+            Ok(apply(database, command)?)
+        }
+    }
+}
+
+/// Checks that eight rows are replaced and eight inserted.
+fn assert_replaced(
+    rt: &impl Abort,
+    alloc: Global,
+    database: &mut PathDb,
+    command: &Command,
+) -> Result<(), Fail> {
+    let outcome = replace_again(rt, alloc, database, command)?;
+    let replaced = Outcome {
+        inserted: 8,
+        updated: 8,
+        kept: 0,
+        purged: 0,
+    };
+    assert_eq!(rt; outcome, replaced);
+    assert_eq!(rt; whole(alloc, database)?.1, [16, 16, 16]);
+    Ok(())
+}
+
+// Run with each allocation refused in turn, as the test above. All rows and both indexes are
+// compared.
+#[test]
+fn refused_replacement_changes_nothing(rt: HostRuntime) -> Result<(), Fail> {
+    let mut database = eight(rt.alloc())?;
+    let command = eight_and_eight(rt.alloc())?;
+    assert_replaced(&rt, rt.alloc(), &mut database, &command)
+}

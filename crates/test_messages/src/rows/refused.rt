@@ -1,0 +1,189 @@
+//! Refused memory while records are written or read. Each test is run with each of its allocations
+//! refused in turn: the bytes from before the refused call stay, the call succeeds when it is tried
+//! again, and no other result depends on the refusal.
+
+use crate::rows::commands::registration;
+use crate::rows::records::{assert_written_as, changed, read_again, rows_of};
+use path_db::{
+    Command, DbError, PathDb, RowsReader, read_command, read_rows, write_command, write_rows,
+};
+use std::alloc::{AllocError, Global};
+use std::process::Abort;
+use std::test::Fail;
+
+/// The bytes before a record that is appended.
+const FRONT: [u8; 3] = [7, 8, 9];
+
+/// Checks that the vector has its earlier bytes, and after them these bytes.
+fn assert_behind_front(rt: &impl Abort, out: &[u8], bytes: &[u8]) {
+    assert_eq!(rt; out.get(..3), Some(&FRONT[..]));
+    assert_eq!(rt; out.get(3..), Some(bytes));
+}
+
+/// The rows that are read, in one try.
+fn read_once(alloc: Global, bytes: &[u8]) -> Result<PathDb, DbError> {
+    read_rows(alloc, bytes)
+}
+
+/// Appends the records of all rows.
+fn write(database: &PathDb, out: &mut Vec<u8>) -> Result<(), AllocError> {
+    write_rows(database, out)
+}
+
+/// Checks that a database is written as these bytes, after the earlier bytes.
+fn assert_appended(
+    rt: &impl Abort,
+    alloc: Global,
+    database: &PathDb,
+    bytes: &[u8],
+) -> Result<(), Fail> {
+    let mut out = Vec::from_slice(alloc, &FRONT)?;
+    if write(database, &mut out).is_err() {
+        assert_behind_front(rt, &out, &[]);
+        write(database, &mut out)?;
+    }
+    assert_behind_front(rt, &out, bytes);
+    Ok(())
+}
+
+#[test]
+fn refused_memory_of_written_rows(rt: HostRuntime) -> Result<(), Fail> {
+    let bytes = rows_of(rt.alloc(), &[1, 2, 3])?;
+    let database = read_once(rt.alloc(), &bytes)?;
+    assert_appended(&rt, rt.alloc(), &database, &bytes)
+}
+
+/// Checks that a database is written as these bytes, or that reading was refused with this error,
+/// where there is one. `NoMemory` is not accepted as a result.
+fn assert_rows(
+    rt: &impl Abort,
+    alloc: Global,
+    read: Result<PathDb, DbError>,
+    bytes: &[u8],
+    refusal: Option<DbError>,
+) -> Result<(), Fail> {
+    match read {
+        Ok(database) => {
+            assert_eq!(rt; refusal, None, "rows are read");
+            assert_written_as(rt, alloc, &database, bytes)?;
+        }
+        Err(found) => assert_eq!(rt; Some(found), refusal),
+    }
+    Ok(())
+}
+
+#[test]
+fn refused_memory_of_read_rows(rt: HostRuntime) -> Result<(), Fail> {
+    for (kinds, refusal) in [
+        ([1, 2, 3], None),
+        ([1, 3, 2], Some(DbError::Order)),
+        ([1, 2, 4], Some(DbError::BadRecord)),
+    ] {
+        let bytes = rows_of(rt.alloc(), &kinds)?;
+        let read = read_again(rt.alloc(), &bytes);
+        assert_rows(&rt, rt.alloc(), read, &bytes, refusal)?;
+    }
+    Ok(())
+}
+
+/// The rows of bytes that are fed in pieces of 50.
+fn read_in_pieces(alloc: Global, bytes: &[u8]) -> Result<PathDb, DbError> {
+    let mut reader = RowsReader::new(alloc);
+    for piece in bytes.chunks(50) {
+        reader = reader.feed(piece)?;
+    }
+    reader.finish()
+}
+
+#[test]
+fn refused_memory_of_rows_in_pieces(rt: HostRuntime) -> Result<(), Fail> {
+    for (kinds, refusal) in [
+        ([1, 2, 3], None),
+        ([1, 3, 2], Some(DbError::Order)),
+        ([1, 2, 4], Some(DbError::BadRecord)),
+    ] {
+        let bytes = rows_of(rt.alloc(), &kinds)?;
+        let read = match read_in_pieces(rt.alloc(), &bytes) {
+            Err(DbError::NoMemory) => read_in_pieces(rt.alloc(), &bytes),
+            read => read,
+        };
+        assert_rows(&rt, rt.alloc(), read, &bytes, refusal)?;
+    }
+    Ok(())
+}
+
+// ---- commands
+
+/// The purge of a moment.
+const PURGE: [u8; 9] = [2, 0, 0, 0, 0, 0, 0, 1, 2];
+
+/// The removal of a down segment.
+const REMOVAL: [u8; 34] = [
+    3, 2, 1, 2, 3, 4, 5, 6, 7, 8, 9, 10, 11, 12, 13, 14, 15, 16, 17, 18, 19, 20, 21, 22, 23, 24,
+    25, 26, 27, 28, 29, 30, 31, 32,
+];
+
+/// Checks that a command is written as these bytes, after the earlier bytes.
+fn assert_written(rt: &impl Abort, alloc: Global, bytes: &[u8]) -> Result<(), Fail> {
+    let command = read_command(alloc, bytes, 2)?;
+    let mut out = Vec::from_slice(alloc, &FRONT)?;
+    if write_command(&command, &mut out).is_err() {
+        assert_behind_front(rt, &out, &[]);
+        write_command(&command, &mut out)?;
+    }
+    assert_behind_front(rt, &out, bytes);
+    Ok(())
+}
+
+#[test]
+fn refused_memory_of_written_commands(rt: HostRuntime) -> Result<(), Fail> {
+    let registration = registration(rt.alloc(), 3)?;
+    assert_written(&rt, rt.alloc(), &registration)?;
+    assert_written(&rt, rt.alloc(), &PURGE)?;
+    assert_written(&rt, rt.alloc(), &REMOVAL)
+}
+
+/// Checks that a command is read and written as these bytes, or refused as a bad record, and that
+/// only reads that may take memory are refused it.
+fn assert_read(
+    rt: &impl Abort,
+    alloc: Global,
+    bytes: &[u8],
+    takes_memory: bool,
+    is_command: bool,
+) -> Result<(), Fail> {
+    let read = match read_command(alloc, bytes, 2) {
+        Err(DbError::NoMemory) => {
+            assert!(rt; takes_memory);
+            read_command(alloc, bytes, 2)
+        }
+        read => read,
+    };
+    match read {
+        Ok(command) => {
+            assert!(rt; is_command);
+            let mut written = Vec::new(alloc);
+            write_command(&command, &mut written)?;
+            assert_eq!(rt; written.as_slice(), bytes);
+        }
+        Err(refusal) => {
+            assert!(rt; !is_command);
+            assert_eq!(rt; refusal, DbError::BadRecord);
+        }
+    }
+    Ok(())
+}
+
+#[test]
+fn refused_memory_of_read_commands(rt: HostRuntime) -> Result<(), Fail> {
+    let three = registration(rt.alloc(), 3)?;
+    let third_is_none = changed(rt.alloc(), &three, 188, 4)?;
+    let seventeen = registration(rt.alloc(), 17)?;
+    assert_read(&rt, rt.alloc(), &three, true, true)?;
+    assert_read(&rt, rt.alloc(), &third_is_none, true, false)?;
+    assert_read(&rt, rt.alloc(), &seventeen, false, false)?;
+    assert_read(&rt, rt.alloc(), &PURGE, false, true)?;
+    assert_read(&rt, rt.alloc(), &REMOVAL, false, true)?;
+    assert_read(&rt, rt.alloc(), &PURGE[..8], false, false)?;
+    assert_read(&rt, rt.alloc(), &REMOVAL[..33], false, false)
+}

@@ -1,0 +1,19 @@
+//! Tests of `path_server`, a module for each subject. Both ends of each connection are in one
+//! process, over the loopback: the tests see what no clause says of sockets, of threads and of the
+//! time that passes.
+
+mod accepts;
+mod asking;
+mod doors;
+mod ends;
+mod leaving;
+mod pacing;
+mod page;
+mod peers;
+mod refused;
+mod rows;
+mod seats;
+mod stops;
+mod stores;
+mod watching;
+mod worlds;

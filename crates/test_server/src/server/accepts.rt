@@ -1,0 +1,77 @@
+//! Listeners that fail.
+
+use crate::server::stores::{LEAST, assert_opens_to, formatted, opened};
+use crate::server::worlds::{Counts, options};
+use path_server::{Failure, Listeners, RunError, after_failure, serve_store};
+use std::io;
+use std::net::{OpenListener, SocketAddr, TcpStream};
+use std::sync::atomic::{AtomicUsize, Ordering};
+use std::test::Fail;
+
+/// The numbers of Linux's errors of accept(2), and what is done after them.
+const FAILURES: [(i32, Failure); 14] = [
+    (9, Failure::Broken), // EBADF
+    (14, Failure::Broken), // EFAULT
+    (22, Failure::Broken), // EINVAL
+    (88, Failure::Broken), // ENOTSOCK
+    (95, Failure::Broken), // EOPNOTSUPP
+    (11, Failure::Nobody), // EAGAIN
+    (12, Failure::Pause), // ENOMEM
+    (23, Failure::Pause), // ENFILE
+    (24, Failure::Pause), // EMFILE
+    (105, Failure::Pause), // ENOBUFS
+    (1, Failure::Pause), // EPERM
+    (71, Failure::Pause), // EPROTO
+    (103, Failure::Pause), // ECONNABORTED
+    (110, Failure::Pause), // ETIMEDOUT
+];
+
+#[test]
+fn failures_by_their_number(rt: HostRuntime) -> Result<(), Fail> {
+    for (number, wanted) in &FAILURES {
+        let failure = after_failure(&io::Error::from_raw_os_error(*number));
+        assert_eq!(rt; failure, *wanted);
+    }
+    Ok(())
+}
+
+/// Fails by these errors, one after the other, and is broken then.
+#[derive(Drop)]
+struct Script {
+    errors: [i32; 4],
+    next: AtomicUsize,
+}
+
+impl OpenListener for Script {
+    type Stream = TcpStream;
+
+    fn accept(&self) -> io::Result<(TcpStream, SocketAddr)> {
+        let next = self.next.fetch_add(1, Ordering::SeqCst);
+        let error = self.errors.get(next).copied().unwrap_or(9);
+        Err(io::Error::from_raw_os_error(error))
+    }
+}
+
+#[test]
+fn a_broken_listener_ends_the_server(rt: HostRuntime) -> Result<(), Fail> {
+    let alloc = rt.alloc();
+    let store = opened(&rt, alloc, formatted(&rt, alloc, LEAST));
+    let options = options(&rt, alloc, 0);
+    let listener = Script {
+        errors: [103, 24, 1, 12],
+        next: AtomicUsize::new(0),
+    };
+    let counts = Counts::new();
+    let (device, _left, served) = serve_store(
+        &rt,
+        alloc,
+        Listeners::of_sessions(listener),
+        store,
+        &options,
+        &counts,
+    );
+    assert_eq!(rt; served, Err(RunError::Net));
+    assert_eq!(rt; counts.stopped(), 0);
+    let _device = assert_opens_to(&rt, alloc, device, 0, 0);
+    Ok(())
+}

@@ -1,0 +1,118 @@
+//! Peers of a server.
+
+use crate::server::worlds::Outside;
+use std::alloc::Global;
+use std::io;
+use std::io::{ErrorKind, Read, Write};
+use std::net::{Shutdown, SocketAddr, TcpStream};
+use std::time::Duration;
+
+/// How long a peer waits for the server, in seconds.
+const PATIENCE: u64 = 20;
+
+/// How often a peer asks for a seat.
+const MOST_ASKED: u64 = 100_000;
+
+/// The request of no segments, and the reply to it: a destination that is no AS.
+pub(crate) const EMPTY_LOOKUP: &str = "0000000102";
+
+pub(crate) const NO_DESTINATION: &str = "00000002ff41";
+
+/// The bytes of a hexadecimal text.
+pub(crate) fn bytes_of(alloc: Global, text: &str) -> io::Result<Vec<u8>> {
+    hex::decode(alloc, text.as_bytes()).map_err(|_| io::Error::from(ErrorKind::InvalidInput))
+}
+
+/// One end of a connection to a server.
+#[derive(Drop)]
+pub(crate) struct Peer {
+    alloc: Global,
+    stream: TcpStream,
+}
+
+impl Peer {
+    /// Connects to a server.
+    pub(crate) fn connect<R: Outside>(rt: R, alloc: Global, to: SocketAddr) -> io::Result<Peer> {
+        let stream = TcpStream::connect(&rt, to)?;
+        stream.set_read_timeout(Some(Duration::from_secs(PATIENCE)))?;
+        stream.set_nodelay(true)?;
+        Ok(Peer { alloc, stream })
+    }
+
+    /// Sends the bytes of a hexadecimal text.
+    pub(crate) fn send(&mut self, text: &str) -> io::Result<()> {
+        let bytes = bytes_of(self.alloc, text)?;
+        self.stream.write_all(bytes.as_slice())
+    }
+
+    /// Bounds the time that a write waits for the server.
+    pub(crate) fn limit_writes(&mut self, time: Duration) -> io::Result<()> {
+        self.stream.set_write_timeout(Some(time))
+    }
+
+    /// Sends the bytes of a hexadecimal text, each by itself.
+    pub(crate) fn send_slowly(&mut self, text: &str) -> io::Result<()> {
+        let bytes = bytes_of(self.alloc, text)?;
+        for byte in &bytes {
+            self.stream.write_all(&[*byte])?;
+        }
+        Ok(())
+    }
+
+    /// Receives as many bytes as this hexadecimal text encodes: whether they are these.
+    pub(crate) fn receives(&mut self, text: &str) -> io::Result<bool> {
+        let wanted = bytes_of(self.alloc, text)?;
+        let mut bytes = bytes_of(self.alloc, text)?;
+        self.stream.read_exact(bytes.as_mut_slice())?;
+        Ok(bytes.as_slice() == wanted.as_slice())
+    }
+
+    /// Sends a request, and receives the reply: whether it is this one.
+    pub(crate) fn asks(&mut self, request: &str, reply: &str) -> io::Result<bool> {
+        self.send(request)?;
+        self.receives(reply)
+    }
+
+    /// Sends no more, and receives all until the server ends the connection, as hexadecimal text.
+    pub(crate) fn end(self) -> io::Result<String> {
+        let mut stream = self.stream;
+        stream.shutdown(Shutdown::Write)?;
+        received(self.alloc, &mut stream)
+    }
+
+    /// Receives all until the server ends the connection, as hexadecimal text.
+    pub(crate) fn receive(mut self) -> io::Result<String> {
+        received(self.alloc, &mut self.stream)
+    }
+}
+
+/// All that is received, as hexadecimal text.
+fn received(alloc: Global, stream: &mut TcpStream) -> io::Result<String> {
+    let mut bytes = Vec::new(alloc);
+    stream.read_to_end(&mut bytes)?;
+    Ok(hex::encode(alloc, bytes.as_slice())?)
+}
+
+/// Has a session of its own: what a server replies to all of this.
+pub(crate) fn replies<R: Outside>(
+    rt: R,
+    alloc: Global,
+    to: SocketAddr,
+    requests: &str,
+) -> io::Result<String> {
+    let mut peer = Peer::connect(rt, alloc, to)?;
+    peer.send(requests)?;
+    peer.end()
+}
+
+/// A peer that has a seat. An earlier session may not have left its own yet, so the peer asks
+/// again.
+pub(crate) fn seated<R: Outside>(rt: R, alloc: Global, to: SocketAddr) -> io::Result<Peer> {
+    for _ in 0..MOST_ASKED {
+        let mut peer = Peer::connect(rt, alloc, to)?;
+        if let Ok(true) = peer.asks(EMPTY_LOOKUP, NO_DESTINATION) {
+            return Ok(peer);
+        }
+    }
+    Err(io::Error::from(ErrorKind::TimedOut))
+}

@@ -1,0 +1,77 @@
+//! Want of memory for the threads of a server. Each test is run with each of its allocations
+//! refused in turn: a server whose actors are not given, or the thread of its second listener, ends
+//! by that, and reports no fault of its device.
+
+use crate::server::stores::{LEAST, assert_opens_to, formatted, opened};
+use crate::server::worlds::{Counts, World};
+use path_server::{Listeners, Options, RunError, serve_store};
+use seg_lookup::Roster;
+use std::alloc::Global;
+use std::io;
+use std::net::{OpenListener, SocketAddr, TcpStream};
+use std::test::Fail;
+use std::time::Duration;
+
+/// A listener that is none.
+#[derive(Drop)]
+struct Broken;
+
+impl OpenListener for Broken {
+    type Stream = TcpStream;
+
+    fn accept(&self) -> io::Result<(TcpStream, SocketAddr)> {
+        Err(io::Error::from_raw_os_error(9))
+    }
+}
+
+/// Has a server begin over a new store, with a second listener or without one: whether its threads
+/// were given.
+fn has_threads<R: World>(rt: R, alloc: Global, status: Option<Broken>) -> bool {
+    let store = opened(&rt, alloc, formatted(&rt, alloc, LEAST));
+    let options = Options {
+        cores: Roster::new(Vec::new(alloc)),
+        key: None,
+        sessions: 0,
+        peer_sessions: 0,
+        idle: None,
+        grace: Duration::from_millis(100),
+    };
+    let counts = Counts::new();
+    let (device, _left, served) = serve_store(
+        rt,
+        alloc,
+        Listeners {
+            sessions: Broken,
+            status,
+        },
+        store,
+        &options,
+        &counts,
+    );
+    assert_eq!(&rt; counts.stopped(), 0);
+    let _device = assert_opens_to(&rt, alloc, device, 0, 0);
+    if served == Err(RunError::NoMemory) {
+        assert_eq!(&rt; counts.ready(), 0);
+        return false;
+    }
+    assert_eq!(&rt; served, Err(RunError::Net));
+    assert_eq!(&rt; counts.ready(), 1);
+    true
+}
+
+// At most one allocation is refused, so that of two servers one has its actors.
+#[test]
+fn refused_memory_of_actors(rt: HostRuntime) -> Result<(), Fail> {
+    let first = has_threads(&rt, rt.alloc(), None);
+    let second = has_threads(&rt, rt.alloc(), None);
+    assert!(rt; first || second);
+    Ok(())
+}
+
+#[test]
+fn refused_memory_of_a_second_listener(rt: HostRuntime) -> Result<(), Fail> {
+    let first = has_threads(&rt, rt.alloc(), Some(Broken));
+    let second = has_threads(&rt, rt.alloc(), Some(Broken));
+    assert!(rt; first || second);
+    Ok(())
+}

@@ -1,0 +1,290 @@
+//! Requests of a server's numbers, at its second listener.
+
+use crate::server::doors::{Door, Holds, Latch};
+use crate::server::page::is_page;
+use crate::server::peers::{EMPTY_LOOKUP, NO_DESTINATION, Peer};
+use crate::server::rows::{FOUND, LOOKUP, PURGE, REGISTERED, REGISTRATION};
+use crate::server::stores::{LEAST, assert_opens_to, failing, formatted};
+use crate::server::worlds::{Clients, Counts, Outside, World, listen, options, serve_watched};
+use path_server::set_accept_timeout;
+use sector_dev::HeldDevice;
+use std::alloc::Global;
+use std::io;
+use std::io::{ErrorKind, Read, Write};
+use std::net::{Shutdown, SocketAddr, TcpListener, TcpStream};
+use std::test::Fail;
+use std::time::Duration;
+
+/// How long a peer waits for an answer, in seconds.
+const PATIENCE: u64 = 20;
+
+/// The request of the numbers.
+pub(crate) const GET_NUMBERS: &str = "GET /metrics HTTP/1.1\r\nHost: localhost\r\n\r\n";
+
+/// The request of the server's health.
+const GET_HEALTH: &str = "GET /healthz HTTP/1.1\r\nHost: localhost\r\n\r\n";
+
+/// A listener for requests of the numbers, and its address.
+pub(crate) fn listen_for_status<R: World>(rt: R) -> (Option<TcpListener>, SocketAddr) {
+    let (listener, at) = listen(rt);
+    assert!(&rt; set_accept_timeout(&listener).is_ok());
+    (Some(listener), at)
+}
+
+/// Connects to the listener for requests of the numbers.
+pub(crate) fn connect<R: Outside>(rt: R, at: SocketAddr) -> io::Result<TcpStream> {
+    let stream = TcpStream::connect(&rt, at)?;
+    stream.set_read_timeout(Some(Duration::from_secs(PATIENCE)))?;
+    Ok(stream)
+}
+
+/// Sends a text, and then no more: what the server answers until it ends the connection.
+pub(crate) fn answer_to<R: Outside>(
+    rt: R,
+    alloc: Global,
+    at: SocketAddr,
+    text: &str,
+) -> io::Result<String> {
+    let mut stream = connect(rt, at)?;
+    stream.write_all(text.as_bytes())?;
+    stream.shutdown(Shutdown::Write)?;
+    received(alloc, &mut stream)
+}
+
+/// What is received until the server ends the connection.
+pub(crate) fn received(alloc: Global, stream: &mut TcpStream) -> io::Result<String> {
+    let mut text = String::new(alloc);
+    stream.read_to_string(&mut text)?;
+    Ok(text)
+}
+
+/// One session of each kind of message, and the page while it is open.
+#[derive(Drop)]
+struct Counting {
+    at: SocketAddr,
+}
+
+/// Registers no segments, and the place 1 with nothing inserted.
+const EMPTY_REGISTRATION: &str = "0000000101";
+
+const PLACE_1: &str = "0000001981000000000000000100000000000000000000000000000000";
+
+/// What a purge is replied at the place 2.
+const PURGED_AT_2: &str = "0000001983000000000000000200000000000000000000000000000000";
+
+/// Removes the down segment whose id is 32 zeros, which nobody has registered, and the place 3.
+const REMOVAL: &str =
+    "0000002204030000000000000000000000000000000000000000000000000000000000000000";
+
+const REMOVED_AT_3: &str = "0000001984000000000000000300000000000000000000000000000000";
+
+/// Removes a segment of the type 9, of which there is none, and its refusal.
+const STRANGE_REMOVAL: &str =
+    "0000002204090000000000000000000000000000000000000000000000000000000000000000";
+
+const NO_TYPE: &str = "00000002ff29";
+
+/// What is asked, and the replies.
+const ASKED: [(&str, &str); 8] = [
+    (REGISTRATION, REGISTERED),
+    (LOOKUP, FOUND),
+    (EMPTY_LOOKUP, NO_DESTINATION),
+    (EMPTY_REGISTRATION, PLACE_1),
+    (PURGE, PURGED_AT_2),
+    (REMOVAL, REMOVED_AT_3),
+    (STRANGE_REMOVAL, NO_TYPE),
+    (EMPTY_LOOKUP, NO_DESTINATION),
+];
+
+impl Clients for Counting {
+    type Seen = String;
+
+    fn meet<R: Outside>(&self, rt: R, alloc: Global, to: SocketAddr) -> io::Result<String> {
+        let mut peer = Peer::connect(rt, alloc, to)?;
+        for (request, reply) in &ASKED {
+            assert!(&rt; peer.asks(*request, *reply)?, "{request}");
+        }
+        let answer = answer_to(rt, alloc, self.at, GET_NUMBERS)?;
+        drop(peer);
+        Ok(answer)
+    }
+}
+
+#[test]
+fn page_after_a_session(rt: HostRuntime) -> Result<(), Fail> {
+    let alloc = rt.alloc();
+    let device = formatted(&rt, alloc, LEAST);
+    let options = options(&rt, alloc, 1);
+    let (status, at) = listen_for_status(&rt);
+    let clients = Counting { at };
+    let (device, served, seen) = serve_watched(
+        &rt,
+        alloc,
+        device,
+        status,
+        &options,
+        &clients,
+        &Counts::new(),
+    );
+    assert_eq!(rt; served, Ok(1));
+    let answer = seen?;
+    assert!(rt; is_page(answer.as_str()), "{answer}");
+    let _device = assert_opens_to(&rt, alloc, device, 1, 4);
+    Ok(())
+}
+
+/// Asks for the page and for the health while a sync is held under the state's lock, and for the
+/// page after it.
+#[derive(Drop)]
+struct Waiting<'a> {
+    door: &'a Door,
+    at: SocketAddr,
+}
+
+/// The line of the call that is held, but for its time.
+const HELD_CALL: &str = "\npathd_call_seconds{call=\"sync_group\"} ";
+
+/// The line of a call that is not under way.
+const NO_CALL: &str = "\npathd_call_seconds{call=\"sync_group\"} 0.000000\n";
+
+/// The answer where commands are accepted.
+const IS_HEALTHY: &str =
+    "HTTP/1.1 200 OK\r\nContent-Type: text/plain\r\nContent-Length: 3\r\nConnection: close\r\n\r\nok\n";
+
+/// The answer where they are not.
+const HAS_STOPPED: &str =
+    "HTTP/1.1 503 Service Unavailable\r\nContent-Type: text/plain\r\nContent-Length: 65\r\nConnection: close\r\n\r\nthe store has stopped: no command is accepted, and lookups go on\n";
+
+/// What is seen while the sync is held, and after it.
+#[derive(Clone, Copy, Debug, PartialEq, Eq)]
+struct Held {
+    is_open: bool,
+    is_held: bool,
+    call_is_shown: bool,
+    command_is_pending: bool,
+    is_healthy: bool,
+    is_acknowledged: bool,
+    call_has_ended: bool,
+}
+
+impl Clients for Waiting<'_> {
+    type Seen = Held;
+
+    fn meet<R: Outside>(&self, rt: R, alloc: Global, to: SocketAddr) -> io::Result<Held> {
+        let mut peer = Peer::connect(rt, alloc, to)?;
+        // The store is open once a request is answered.
+        let is_open = peer.asks(EMPTY_LOOKUP, NO_DESTINATION)?;
+        self.door.arm(&rt);
+        peer.send(REGISTRATION)?;
+        let is_held = self.door.is_held_soon(&rt);
+        let held = answer_to(rt, alloc, self.at, GET_NUMBERS);
+        let health = answer_to(rt, alloc, self.at, GET_HEALTH);
+        self.door.open(&rt);
+        let is_acknowledged = peer.receives(REGISTERED)?;
+        let after = answer_to(rt, alloc, self.at, GET_NUMBERS)?;
+        let held = held?;
+        let held = held.as_str();
+        Ok(Held {
+            is_open,
+            is_held,
+            call_is_shown: held.contains(HELD_CALL) && !held.contains(NO_CALL),
+            command_is_pending: held.contains("\npathd_commands_pending 1\n"),
+            is_healthy: health?.as_str() == IS_HEALTHY,
+            is_acknowledged,
+            call_has_ended: after.as_str().contains(NO_CALL),
+        })
+    }
+}
+
+#[test]
+fn page_while_a_sync_is_held(rt: HostRuntime) -> Result<(), Fail> {
+    let alloc = rt.alloc();
+    let door = Door::new();
+    let holds = Holds {
+        rt: &rt,
+        door: &door,
+    };
+    let device = HeldDevice::new(formatted(&rt, alloc, LEAST), holds);
+    let options = options(&rt, alloc, 1);
+    let (status, at) = listen_for_status(&rt);
+    let clients = Waiting { door: &door, at };
+    let (device, served, seen) = serve_watched(
+        &rt,
+        alloc,
+        device,
+        status,
+        &options,
+        &clients,
+        &Counts::new(),
+    );
+    assert_eq!(rt; served, Ok(1));
+    let wanted = Held {
+        is_open: true,
+        is_held: true,
+        call_is_shown: true,
+        command_is_pending: true,
+        is_healthy: true,
+        is_acknowledged: true,
+        call_has_ended: true,
+    };
+    assert_eq!(rt; seen?, wanted);
+    assert_eq!(rt; door.latch(&rt), Latch::Open);
+    let (device, _gate) = device.into_parts();
+    let _device = assert_opens_to(&rt, alloc, device, 1, 1);
+    Ok(())
+}
+
+/// Asks for the health before and after a fault of the device.
+#[derive(Drop)]
+struct Stopping {
+    at: SocketAddr,
+}
+
+/// What is seen before and after the fault.
+#[derive(Clone, Copy, Debug, PartialEq, Eq)]
+struct Stopped {
+    is_acknowledged: bool,
+    is_healthy_before: bool,
+    is_unknown: bool,
+    has_stopped_after: bool,
+}
+
+impl Clients for Stopping {
+    type Seen = Stopped;
+
+    fn meet<R: Outside>(&self, rt: R, alloc: Global, to: SocketAddr) -> io::Result<Stopped> {
+        let mut peer = Peer::connect(rt, alloc, to)?;
+        let is_acknowledged = peer.asks(REGISTRATION, REGISTERED)?;
+        let before = answer_to(rt, alloc, self.at, GET_HEALTH)?;
+        let is_unknown = peer.asks(PURGE, "00000002ff62")?;
+        let after = answer_to(rt, alloc, self.at, GET_HEALTH)?;
+        Ok(Stopped {
+            is_acknowledged,
+            is_healthy_before: before.as_str() == IS_HEALTHY,
+            is_unknown,
+            has_stopped_after: after.as_str() == HAS_STOPPED,
+        })
+    }
+}
+
+#[test]
+fn health_before_and_after_a_fault(rt: HostRuntime) -> Result<(), Fail> {
+    let alloc = rt.alloc();
+    let device = failing(&rt, alloc);
+    let options = options(&rt, alloc, 1);
+    let (status, at) = listen_for_status(&rt);
+    let clients = Stopping { at };
+    let counts = Counts::new();
+    let (_device, served, seen) = serve_watched(
+        &rt, alloc, device, status, &options, &clients, &counts,
+    );
+    assert_eq!(rt; served, Ok(1));
+    let wanted = Stopped {
+        is_acknowledged: true,
+        is_healthy_before: true,
+        is_unknown: true,
+        has_stopped_after: true,
+    };
+    assert_eq!(rt; seen?, wanted);
+    Ok(())
+}

@@ -1,0 +1,133 @@
+//! Sessions beside each other over one hub, each in a thread of its own.
+
+use crate::ahead::clocks::Counts;
+use crate::ahead::host::Host;
+use isd_as::IsdAs;
+use path_hub::{Crew, Hub, HubName, with_crew};
+use path_session::{FrameError, HubService, serve};
+use sector_dev::Device;
+use seg_check::TrustAll;
+use seg_lookup::Roster;
+use std::alloc::Global;
+use std::io::Write;
+use std::process::Abort;
+use std::sync::Wait;
+use std::sync::atomic::{AtomicU64, Ordering};
+use std::thread::{Threads, sleep};
+use std::time::{Clock, Duration};
+use store_open::Store;
+use test_hub_scripts::stores::opened;
+
+/// How long the sessions are waited for, in naps.
+const MOST_NAPS: u64 = 8000;
+
+/// The length of a nap, in milliseconds.
+const NAP: u64 = 5;
+
+/// How many reads a session may make.
+const TURNS: u64 = 1000;
+
+/// What sessions do, each by its number, counted from 0.
+pub(crate) trait Sessions {
+    fn run<D: Device, N: HubName, R: Wait + Clock + Abort>(&self, hub: &Hub<D, N, R>, session: u64);
+}
+
+/// A number of sessions. Where they do not come to an end, the test does.
+#[derive(Drop)]
+struct Crowd<'a, S> {
+    sessions: &'a S,
+    count: u64,
+    invited: AtomicU64,
+    gone: AtomicU64,
+}
+
+impl<S: Sessions, D: Device, R: Wait + Clock + Abort> Crew<D, R> for Crowd<'_, S> {
+    type Guest = u64;
+
+    fn next<N: HubName>(&self, hub: &Hub<D, N, R>) -> Option<u64> {
+        let session = self.invited.fetch_add(1, Ordering::SeqCst);
+        if session < self.count {
+            return Some(session);
+        }
+        for _ in 0..MOST_NAPS {
+            if self.gone.load(Ordering::SeqCst) == self.count {
+                return None;
+            }
+            sleep(hub.handle(), Duration::from_millis(NAP));
+        }
+        panic!(hub.handle(); "a session waits for ever")
+    }
+
+    fn attend<N: HubName>(&self, hub: &Hub<D, N, R>, session: u64) {
+        self.sessions.run(hub, session);
+        self.gone.fetch_add(1, Ordering::SeqCst);
+    }
+
+    fn miss<N: HubName>(&self, _hub: &Hub<D, N, R>, _session: u64) {
+        self.gone.fetch_add(1, Ordering::SeqCst);
+    }
+}
+
+impl<S> Crowd<'_, S> {
+    /// Has the sessions come once more.
+    fn invite_again(&self) {
+        self.invited.store(0, Ordering::SeqCst);
+        self.gone.store(0, Ordering::SeqCst);
+    }
+}
+
+/// Runs this number of sessions over a store: the device. Where memory is refused for the hub or
+/// for the thread of the only session, it is asked for once more.
+pub(crate) fn crowded<
+    D: Device + Send,
+    S: Sessions + Sync,
+    R: Wait + Clock + Threads + Abort + Copy + Drop + Send + Sync,
+>(rt: R, alloc: Global, store: Store<D>, sessions: &S, count: u64) -> D {
+    let crowd = Crowd {
+        sessions,
+        count,
+        invited: AtomicU64::new(0),
+        gone: AtomicU64::new(0),
+    };
+    let (device, left, first) = with_crew(rt, alloc, store, 1, &crowd);
+    let (device, _left, attended) = match first {
+        Ok(attended) if attended > 0 => (device, left, Ok(attended)),
+        _ => {
+            crowd.invite_again();
+            with_crew(rt, alloc, opened(&Host(rt), alloc, device), 1, &crowd)
+        }
+    };
+    assert_eq!(&rt; attended, Ok(count));
+    device
+}
+
+/// The one core AS, 1-ff00:0:110. Where memory is refused, it is asked for once more.
+fn cores(rt: &impl Abort, alloc: Global) -> Roster {
+    let core = IsdAs::from_u64(0x0001_ff00_0000_0110);
+    let mut cores = Vec::new(alloc);
+    if cores.push(core).is_err() {
+        cores.push(core).expect(rt, "no memory");
+    }
+    Roster::new(cores)
+}
+
+/// Serves the frames of an input over a writer, by a clock whose first moment is the one after
+/// this: what the session ended with.
+pub(crate) fn served<D: Device, N: HubName, R: Wait + Clock + Abort, W: Write>(
+    hub: &Hub<D, N, R>,
+    alloc: Global,
+    moment: u64,
+    frames: &[u8],
+    writer: &mut W,
+) -> Result<u64, FrameError> {
+    let rt = hub.handle();
+    let roster = cores(rt, alloc);
+    let Ok(reader) = hub.reader() else {
+        panic!(rt; "no reader");
+    };
+    let mut service = HubService::new(hub, reader, &TrustAll, Counts::after(moment), &roster);
+    let mut input = frames;
+    let ended = serve(alloc, &mut input, writer, &mut service, TURNS);
+    hub.give_back(service.into_reader());
+    ended
+}

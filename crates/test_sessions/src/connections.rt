@@ -1,0 +1,5 @@
+//! Tests of `paced_stream`: sessions over a connection in memory whose calls move bytes in pieces,
+//! are interrupted and time out. The frames are those of the worked session.
+
+mod memory;
+mod sessions;

@@ -1,0 +1,117 @@
+//! Sessions over a connection in memory.
+
+use crate::connections::memory::{MemStream, connection};
+use cli_once::{OnceService, cores_of};
+use paced_stream::{Ended, serve_connection};
+use seg_check::TrustAll;
+use seg_lookup::Roster;
+use session_core::FrameError;
+use std::alloc::Global;
+use std::process::Abort;
+use std::time::{Clock, Duration};
+use test_support::digits::{FOUND, LOOKUP, REGISTER};
+
+/// A place and one row inserted.
+const INSERTED: &str = "0000001981000000000000000000000001000000000000000000000000";
+
+/// The idle time of sessions whose connection times out, in seconds.
+const IDLE: u64 = 60;
+
+/// The idle time of sessions whose connection times out.
+fn idle() -> Option<Duration> {
+    Some(Duration::from_secs(IDLE))
+}
+
+/// The bytes of two hexadecimal texts, one after the other.
+fn joined(rt: &impl Abort, alloc: Global, first: &str, second: &str) -> Vec<u8> {
+    let mut bytes = hex::decode(alloc, first).expect(rt, "no digits");
+    let more = hex::decode(alloc, second).expect(rt, "no digits");
+    bytes
+        .extend_from_slice(more.as_slice())
+        .expect(rt, "no memory");
+    bytes
+}
+
+/// Serves the worked session at moment 0, where all signatures are good.
+fn served<'a, R: Abort + Clock>(
+    rt: &R,
+    alloc: Global,
+    input: MemStream<'a>,
+    output: MemStream<'a>,
+    idle: Option<Duration>,
+) -> Ended<MemStream<'a>> {
+    let cores = Roster::new(cores_of(alloc, "1-ff00:0:110").expect(rt, "no list of ASes"));
+    let mut service = OnceService::new(alloc, &cores, &TrustAll, 0).expect(rt, "no memory");
+    let ended = serve_connection(rt, alloc, input, output, &mut service, idle);
+    service.end();
+    ended
+}
+
+// Reads and writes that move a few bytes, and of which each second one is interrupted.
+#[test]
+fn in_interrupted_pieces(rt: HostRuntime) {
+    let alloc = rt.alloc();
+    let asked = joined(&rt, alloc, REGISTER, LOOKUP);
+    let replies = joined(&rt, alloc, INSERTED, FOUND);
+    for piece in [1, 3, 7, 1_000] {
+        let mut input = connection(alloc, asked.as_slice(), piece);
+        input.interrupts = 2;
+        let mut output = connection(alloc, &[], piece);
+        output.interrupts = 3;
+        let ended = served(&rt, alloc, input, output, None);
+        assert_eq!(rt; ended.replies, Ok(2), "{piece}");
+        assert!(rt; !ended.is_late, "{piece}");
+        assert_eq!(rt; ended.input.given.as_slice(), asked.as_slice(), "{piece}");
+        assert_eq!(rt;
+            ended.output.taken.as_slice(),
+            replies.as_slice(),
+            "{piece}"
+        );
+    }
+}
+
+// A peer that sends no more and stays: what it has sent is answered.
+#[test]
+fn late_read(rt: HostRuntime) {
+    let alloc = rt.alloc();
+    let asked = joined(&rt, alloc, REGISTER, "");
+    let replies = joined(&rt, alloc, INSERTED, "");
+    let mut input = connection(alloc, asked.as_slice(), 5);
+    input.stays_open = true;
+    let ended = served(&rt, alloc, input, connection(alloc, &[], 5), idle());
+    assert_eq!(rt; ended.replies, Err(FrameError::Read));
+    assert!(rt; ended.is_late);
+    assert_eq!(rt; ended.output.taken.as_slice(), replies.as_slice());
+}
+
+// A peer that takes a front of a reply.
+#[test]
+fn late_write(rt: HostRuntime) {
+    let alloc = rt.alloc();
+    let asked = joined(&rt, alloc, REGISTER, LOOKUP);
+    let replies = joined(&rt, alloc, INSERTED, FOUND);
+    for room in [0, 1, 28, 29, 30, 40] {
+        let mut output = connection(alloc, &[], 16);
+        output.room = room;
+        let input = connection(alloc, asked.as_slice(), 1_000);
+        let ended = served(&rt, alloc, input, output, idle());
+        assert_eq!(rt; ended.replies, Err(FrameError::Write), "{room}");
+        assert!(rt; ended.is_late, "{room}");
+        let front = replies.get(..room).expect(&rt, "no front");
+        assert_eq!(rt; ended.output.taken.as_slice(), front, "{room}");
+    }
+}
+
+// A connection whose times cannot be set: nothing is read and written.
+#[test]
+fn not_set_up(rt: HostRuntime) {
+    let alloc = rt.alloc();
+    let asked = joined(&rt, alloc, REGISTER, "");
+    let mut input = connection(alloc, asked.as_slice(), 5);
+    input.is_broken = true;
+    let ended = served(&rt, alloc, input, connection(alloc, &[], 5), idle());
+    assert_eq!(rt; ended.replies, Err(FrameError::Read));
+    assert!(rt; !ended.is_late);
+    assert_eq!(rt; ended.input.given.len(), 0);
+    assert_eq!(rt; ended.output.taken.len(), 0);
+}

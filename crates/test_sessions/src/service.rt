@@ -1,0 +1,14 @@
+//! Tests of a session's service over a hub whose actors run. They see what no clause says: that
+//! commands are committed, and what was committed is found; which refusal of the hub comes when;
+//! how often a service asks its clock, and what the machine's clock gives; and what is there where
+//! the device or memory is refused.
+
+mod clocks;
+mod frames;
+mod guests;
+mod memory;
+mod moments;
+mod readings;
+mod refusals;
+mod sessions;
+mod stores;

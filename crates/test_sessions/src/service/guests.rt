@@ -1,0 +1,128 @@
+//! A crew of one guest, who talks to a hub in a thread beside its actors, and is not waited for for
+//! ever.
+
+use crate::service::clocks::Counts;
+use crate::service::stores::opened;
+use path_hub::{Crew, Hub, HubName, with_crew};
+use path_session::{HubService, serve};
+use sector_dev::Device;
+use seg_check::TrustAll;
+use seg_lookup::Roster;
+use std::alloc::Global;
+use std::io::Read;
+use std::process::Abort;
+use std::sync::atomic::{AtomicU64, Ordering};
+use std::sync::{Mutex, Wait};
+use std::thread::{Threads, sleep};
+use std::time::{Clock, Duration};
+use store_open::Store;
+
+/// How long the guest is waited for, in naps.
+const MOST_NAPS: u64 = 8000;
+
+/// The length of a nap, in milliseconds.
+const NAP: u64 = 5;
+
+/// How many reads a session may make.
+pub(crate) const TURNS: u64 = 1000;
+
+/// Sleeps a little.
+pub(crate) fn nap(rt: &impl Clock) {
+    sleep(rt, Duration::from_millis(NAP));
+}
+
+/// What the guest does with a hub.
+pub(crate) trait Talk {
+    /// What was replied, or none where a call failed that is to succeed.
+    fn talk<D: Device, N: HubName, R: Wait + Clock + Abort>(
+        &self,
+        hub: &Hub<D, N, R>,
+    ) -> Option<Vec<u8>>;
+}
+
+/// The guest. Where the talk does not come to an end, the test does.
+#[derive(Drop)]
+struct Guest<T> {
+    talk: T,
+    invited: AtomicU64,
+    gone: AtomicU64,
+    replies: Mutex<Option<Vec<u8>>>,
+}
+
+impl<T: Talk, D: Device, R: Wait + Clock + Abort> Crew<D, R> for Guest<T> {
+    type Guest = ();
+
+    fn next<N: HubName>(&self, hub: &Hub<D, N, R>) -> Option<()> {
+        if self.invited.fetch_add(1, Ordering::SeqCst) == 0 {
+            return Some(());
+        }
+        for _ in 0..MOST_NAPS {
+            if self.gone.load(Ordering::SeqCst) == 1 {
+                return None;
+            }
+            nap(hub.handle());
+        }
+        panic!(hub.handle(); "the guest waits for ever")
+    }
+
+    fn attend<N: HubName>(&self, hub: &Hub<D, N, R>, _guest: ()) {
+        let replies = self.talk.talk(hub);
+        *self.replies.lock(hub.handle()) = replies;
+        self.gone.store(1, Ordering::SeqCst);
+    }
+
+    fn miss<N: HubName>(&self, _hub: &Hub<D, N, R>, _guest: ()) {
+        self.gone.store(1, Ordering::SeqCst);
+    }
+}
+
+impl<T> Guest<T> {
+    /// Has the guest come once more.
+    fn invite_again(&self) {
+        self.invited.store(0, Ordering::SeqCst);
+        self.gone.store(0, Ordering::SeqCst);
+    }
+}
+
+/// Has a guest talk to a hub over a store: the device, and what was replied. Where memory is
+/// refused for the hub or the guest's thread, it is asked for once more.
+pub(crate) fn talked<
+    D: Device + Send,
+    T: Talk + Drop + Sync,
+    R: Wait + Clock + Threads + Abort + Copy + Drop + Send + Sync,
+>(rt: R, alloc: Global, store: Store<D>, talk: T) -> (D, Option<Vec<u8>>) {
+    let guest = Guest {
+        talk,
+        invited: AtomicU64::new(0),
+        gone: AtomicU64::new(0),
+        replies: Mutex::new(None),
+    };
+    let (device, left, first) = with_crew(rt, alloc, store, 1, &guest);
+    let (device, _left, attended) = if first == Ok(1) {
+        (device, left, first)
+    } else {
+        guest.invite_again();
+        with_crew(rt, alloc, opened(&rt, alloc, device), 1, &guest)
+    };
+    assert_eq!(&rt; attended, Ok(1));
+    let replies = guest.replies.lock(&rt).take();
+    (device, replies)
+}
+
+/// Serves the frames of an input, and adds what is written to `replies`. `None` is a session that
+/// does not end well.
+pub(crate) fn session<D: Device, N: HubName, R: Wait + Clock, I: Read>(
+    hub: &Hub<D, N, R>,
+    alloc: Global,
+    cores: &Roster,
+    clock: Counts,
+    input: &mut I,
+    replies: &mut Vec<u8>,
+) -> Option<()> {
+    let reader = hub.reader().ok()?;
+    let mut service = HubService::new(hub, reader, &TrustAll, clock, cores);
+    let ended = serve(alloc, input, replies, &mut service, TURNS);
+    hub.give_back(service.into_reader());
+    ended.ok()?;
+    Some(())
+}

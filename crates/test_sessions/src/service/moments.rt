@@ -1,0 +1,77 @@
+//! How often a service asks its clock.
+
+use crate::service::clocks::Counts;
+use crate::service::frames::{
+    FOUND, INSERTED, LOOKUP, NONE_FOUND, PURGE, REGISTER, assert_replied, joined,
+};
+use crate::service::guests::{Talk, session, talked};
+use crate::service::stores::{cores, new_store};
+use path_hub::{Hub, HubName};
+use sector_dev::Device;
+use std::alloc::Global;
+use std::process::Abort;
+use std::sync::Wait;
+use std::time::Clock;
+use test_support::EXPIRY;
+
+/// A session whose segment expires between two lookups. The clock gives a moment for the
+/// registration and for each lookup, and none for a purge, a removal, a registration that cannot be
+/// read, or a lookup that cannot be read or asks for nothing.
+const FRAMES: [&str; 8] = [
+    REGISTER,
+    PURGE,
+    "0000000301ffff",
+    "0000000302ffff",
+    "0000000102",
+    "0000002204040000000000000000000000000000000000000000000000000000000000000000",
+    LOOKUP,
+    LOOKUP,
+];
+
+/// What is replied.
+const REPLIES: [&str; 8] = [
+    INSERTED,
+    "0000001983000000000000000100000000000000000000000000000000",
+    "00000002ff11",
+    "00000002ff11",
+    "00000002ff41",
+    "00000002ff29",
+    FOUND,
+    NONE_FOUND,
+];
+
+/// That session.
+#[derive(Drop)]
+struct Expires {
+    alloc: Global,
+}
+
+impl Talk for Expires {
+    fn talk<D: Device, N: HubName, R: Wait + Clock + Abort>(
+        &self,
+        hub: &Hub<D, N, R>,
+    ) -> Option<Vec<u8>> {
+        let rt = hub.handle();
+        let roster = cores(rt, self.alloc);
+        let frames = joined(rt, self.alloc, &FRAMES);
+        let mut replies = Vec::new(self.alloc);
+        // The second lookup has the third moment.
+        let clock = Counts::after(EXPIRY - 3);
+        session(
+            hub,
+            self.alloc,
+            &roster,
+            clock,
+            &mut frames.as_slice(),
+            &mut replies,
+        )?;
+        Some(replies)
+    }
+}
+
+#[test]
+fn row_expires_between_lookups(rt: HostRuntime) {
+    let alloc = rt.alloc();
+    let (_device, written) = talked(&rt, alloc, new_store(&rt, alloc), Expires { alloc });
+    assert_replied(&rt, alloc, written, &REPLIES);
+}

@@ -1,0 +1,262 @@
+//! What a hub refuses, as a service replies it.
+
+use crate::service::clocks::Counts;
+use crate::service::frames::{
+    FOUND, INSERTED, LOOKUP, PURGE, REGISTER, REMOVE, assert_replied, joined, register_by,
+};
+use crate::service::guests::{Talk, nap, session, talked};
+use crate::service::stores::{assert_opens_to, cores, failing_store, new_store, old_store};
+use group_core::{Redeemed, Ticket};
+use path_db::Command;
+use path_hub::{Hub, HubJob, HubName, Steps, with_hub};
+use sector_dev::Device;
+use seg_lookup::Roster;
+use std::alloc::Global;
+use std::process::Abort;
+use std::sync::Wait;
+use std::time::Clock;
+
+/// How many commands may be pending.
+const MOST_PENDING: u64 = 256;
+
+/// How many rows of the segments here a store has room for.
+const MOST_ROWS: u8 = 10;
+
+/// How many purges seal a journal of 516 sectors, and are committed after the seal: there is room
+/// for 257 groups of one purge.
+const PURGES: u64 = 300;
+
+/// How often a removal is tried.
+const MOST_TRIES: u64 = 4000;
+
+/// Adds what a session of these frames is replied.
+fn reply<D: Device, N: HubName, R: Wait + Clock>(
+    hub: &Hub<D, N, R>,
+    alloc: Global,
+    cores: &Roster,
+    frames: &[u8],
+    replies: &mut Vec<u8>,
+) -> Option<()> {
+    let mut input = frames;
+    session(hub, alloc, cores, Counts::after(0), &mut input, replies)
+}
+
+/// Has as many commands pending as may be, over a hub that commits nothing, and then stops it.
+/// Comes to what purges are replied.
+#[derive(Drop)]
+struct Fills {
+    alloc: Global,
+}
+
+/// Submits as many commands as may be pending.
+fn pending<S: Steps>(rt: &impl Abort, alloc: Global, steps: &S) -> Vec<Ticket> {
+    let Ok(mut tickets) = Vec::with_capacity(alloc, MOST_PENDING as usize) else {
+        panic!(rt; "out of memory");
+    };
+    for _ in 0..MOST_PENDING {
+        let Ok(ticket) = steps.submit(Command::Purge(0)) else {
+            panic!(rt; "not accepted");
+        };
+        if let Err(_ticket) = tickets.push(ticket) {
+            panic!(rt; "out of memory");
+        }
+    }
+    tickets
+}
+
+/// Redeems all tickets at a hub that has stopped.
+fn redeem_all<S: Steps>(rt: &impl Abort, steps: &S, tickets: Vec<Ticket>) {
+    let mut tickets = tickets;
+    for _ in 0..MOST_PENDING {
+        let Some(ticket) = tickets.pop() else {
+            break;
+        };
+        match steps.redeem(ticket) {
+            Redeemed::Unknown(_place) => {}
+            Redeemed::Committed(_receipt) => panic!(rt; "committed"),
+            Redeemed::Waiting(_back) => panic!(rt; "a ticket waits"),
+            Redeemed::Stranger(_back) => panic!(rt; "a stranger"),
+        }
+    }
+    assert!(rt; tickets.is_empty());
+    tickets.destroy_empty();
+}
+
+impl<D: Device, R: Wait + Clock + Abort> HubJob<D, R> for Fills {
+    type Out = Option<Vec<u8>>;
+
+    fn run<N: HubName>(self, hub: &Hub<D, N, R>) -> Option<Vec<u8>> {
+        let rt = hub.handle();
+        let roster = cores(rt, self.alloc);
+        let purge = joined(rt, self.alloc, &[PURGE]);
+        let mut replies = Vec::new(self.alloc);
+        let tickets = pending(rt, self.alloc, hub);
+        let busy = reply(hub, self.alloc, &roster, purge.as_slice(), &mut replies);
+        hub.stop();
+        let stopped = reply(hub, self.alloc, &roster, purge.as_slice(), &mut replies);
+        redeem_all(rt, hub, tickets);
+        busy?;
+        stopped?;
+        Some(replies)
+    }
+}
+
+#[test]
+fn pending_commands_are_busy(rt: HostRuntime) {
+    let alloc = rt.alloc();
+    let store = new_store(&rt, alloc);
+    match with_hub(&rt, alloc, store, 1, Fills { alloc }) {
+        Ok((written, _device, _left)) => {
+            assert_replied(&rt, alloc, written, &["00000002ff51", "00000002ff54"])
+        }
+        Err((_store, _job, e)) => panic!(rt; "{e:?}"),
+    }
+}
+
+/// Registers one segment more than there is room for.
+#[derive(Drop)]
+struct Overflows {
+    alloc: Global,
+}
+
+impl Talk for Overflows {
+    fn talk<D: Device, N: HubName, R: Wait + Clock + Abort>(
+        &self,
+        hub: &Hub<D, N, R>,
+    ) -> Option<Vec<u8>> {
+        let rt = hub.handle();
+        let roster = cores(rt, self.alloc);
+        let mut replies = Vec::new(self.alloc);
+        for egress in 1..=MOST_ROWS {
+            let frame = register_by(egress);
+            let mut reply_to_one = Vec::new(self.alloc);
+            reply(
+                hub,
+                self.alloc,
+                &roster,
+                frame.as_slice(),
+                &mut reply_to_one,
+            )?;
+        }
+        let frame = register_by(MOST_ROWS + 1);
+        reply(hub, self.alloc, &roster, frame.as_slice(), &mut replies)?;
+        Some(replies)
+    }
+}
+
+#[test]
+fn rows_above_the_area_are_full(rt: HostRuntime) {
+    let alloc = rt.alloc();
+    let store = new_store(&rt, alloc);
+    let (device, written) = talked(&rt, alloc, store, Overflows { alloc });
+    assert_replied(&rt, alloc, written, &["00000002ff52"]);
+    assert_opens_to(
+        &rt,
+        alloc,
+        device,
+        usize::from(MOST_ROWS),
+        u64::from(MOST_ROWS),
+    );
+}
+
+/// A removal over a store of version 1, before and after the checkpoint that makes it version 2.
+#[derive(Drop)]
+struct Upgrades {
+    alloc: Global,
+}
+
+/// What a removal is replied, once it is not refused because the store is old.
+fn removed<D: Device, N: HubName, R: Wait + Clock + Abort>(
+    hub: &Hub<D, N, R>,
+    alloc: Global,
+    cores: &Roster,
+    frame: &[u8],
+    refusal: &[u8],
+) -> Option<Vec<u8>> {
+    for _ in 0..MOST_TRIES {
+        let mut replies = Vec::new(alloc);
+        reply(hub, alloc, cores, frame, &mut replies)?;
+        if replies.as_slice() != refusal {
+            return Some(replies);
+        }
+        nap(hub.handle());
+    }
+    panic!(hub.handle(); "the store stays old")
+}
+
+impl Talk for Upgrades {
+    fn talk<D: Device, N: HubName, R: Wait + Clock + Abort>(
+        &self,
+        hub: &Hub<D, N, R>,
+    ) -> Option<Vec<u8>> {
+        let rt = hub.handle();
+        let roster = cores(rt, self.alloc);
+        let remove = joined(rt, self.alloc, &[REMOVE]);
+        let purge = joined(rt, self.alloc, &[PURGE]);
+        let mut refusal = Vec::new(self.alloc);
+        reply(hub, self.alloc, &roster, remove.as_slice(), &mut refusal)?;
+        for _ in 0..PURGES {
+            let mut purged = Vec::new(self.alloc);
+            reply(hub, self.alloc, &roster, purge.as_slice(), &mut purged)?;
+        }
+        let removed = removed(
+            hub,
+            self.alloc,
+            &roster,
+            remove.as_slice(),
+            refusal.as_slice(),
+        )?;
+        refusal.extend_from_slice(removed.as_slice()).ok()?;
+        Some(refusal)
+    }
+}
+
+#[test]
+fn old_store_keeps_no_removal(rt: HostRuntime) {
+    let alloc = rt.alloc();
+    let store = old_store(&rt, alloc);
+    let (device, written) = talked(&rt, alloc, store, Upgrades { alloc });
+    let replies = [
+        "00000002ff57",
+        // The place is 300.
+        "0000001984000000000000012c00000000000000000000000000000000",
+    ];
+    assert_replied(&rt, alloc, written, &replies);
+    assert_opens_to(&rt, alloc, device, 0, PURGES + 1);
+}
+
+/// Three registrations, of which the second one meets a fault of the device, and a lookup.
+#[derive(Drop)]
+struct Meets {
+    alloc: Global,
+}
+
+impl Talk for Meets {
+    fn talk<D: Device, N: HubName, R: Wait + Clock + Abort>(
+        &self,
+        hub: &Hub<D, N, R>,
+    ) -> Option<Vec<u8>> {
+        let rt = hub.handle();
+        let roster = cores(rt, self.alloc);
+        let first = joined(rt, self.alloc, &[REGISTER]);
+        let lookup = joined(rt, self.alloc, &[LOOKUP]);
+        let mut replies = Vec::new(self.alloc);
+        reply(hub, self.alloc, &roster, first.as_slice(), &mut replies)?;
+        for egress in 2..=3 {
+            let frame = register_by(egress);
+            reply(hub, self.alloc, &roster, frame.as_slice(), &mut replies)?;
+        }
+        reply(hub, self.alloc, &roster, lookup.as_slice(), &mut replies)?;
+        Some(replies)
+    }
+}
+
+#[test]
+fn failed_gate_sync_stops_commands(rt: HostRuntime) {
+    let alloc = rt.alloc();
+    let (device, written) = talked(&rt, alloc, failing_store(&rt, alloc), Meets { alloc });
+    let replies = [INSERTED, "00000002ff62", "00000002ff54", FOUND];
+    assert_replied(&rt, alloc, written, &replies);
+    // The gate was written, though its sync failed: that command was kept.
+    assert_opens_to(&rt, alloc, device.into_mem(), 2, 2);
+}

@@ -1,0 +1,338 @@
+//! Commands that come ahead of the replies to those before them.
+
+use crate::sessions::same::assert_same;
+use seg_core::{SegType, Segment};
+use session_core::{
+    Ack, Code, CommandKind, FrameError, MOST_AHEAD, Message, Outcome, Service, serve,
+    serve_in_lines,
+};
+use std::alloc::{AllocError, Global};
+use std::io;
+use std::io::{ErrorKind, Write};
+use std::process::Abort;
+use std::test::Fail;
+
+/// A service that takes commands ahead, and notes its calls: `h` for a command that is handed in,
+/// `s` for one that is settled, `c` for one that is answered in one call, and `l` for a lookup.
+#[derive(Drop)]
+struct Desk {
+    place: u64,
+    /// Whether commands are taken ahead.
+    takes: bool,
+    calls: Vec<u8>,
+}
+
+impl Desk {
+    fn new(alloc: Global, takes: bool) -> Desk {
+        Desk {
+            place: 0,
+            takes,
+            calls: Vec::new(alloc),
+        }
+    }
+
+    /// Notes a call. A note for which memory is refused is missing.
+    fn note(&mut self, call: u8) {
+        let _noted = self.calls.push(call);
+    }
+
+    /// An acknowledgement at the next place, with this number of purged rows.
+    fn ack(&mut self, purged: u32) -> Ack {
+        let place = self.place;
+        self.place = place.saturating_add(1);
+        Ack {
+            place,
+            outcome: Outcome {
+                inserted: 0,
+                updated: 0,
+                kept: 0,
+                purged,
+            },
+        }
+    }
+}
+
+impl Service for Desk {
+    /// The count that is reported, or a refusal.
+    type UnderWay = Result<u32, Code>;
+
+    ghost State = { Unit {0} };
+
+    ghost state = { λ _. tt };
+
+    ghost answers = { λ _ _ _ _. Unit {0} };
+
+    ghost is_for = { λ _ _ _. Unit {0} };
+
+    fn register(&mut self, _alloc: Global, _message: &[u8]) -> Result<Ack, Code> {
+        self.note(b'c');
+        Ok(self.ack(0))
+    }
+
+    fn lookup(&mut self, _alloc: Global, _message: &[u8]) -> Result<(SegType, Vec<Segment>), Code> {
+        self.note(b'l');
+        Err(Code(0x26))
+    }
+
+    /// Reports the lower half of the moment as the count of purged rows.
+    fn purge(&mut self, moment: u64) -> Result<Ack, Code> {
+        self.note(b'c');
+        Ok(self.ack((moment & 0xffff_ffff) as u32))
+    }
+
+    fn remove(&mut self, _kind: u8, _id: &[u8; 32]) -> Result<Ack, Code> {
+        self.note(b'c');
+        Err(Code(0x29))
+    }
+
+    /// Refuses each removal.
+    fn hand_in(&mut self, _alloc: Global, message: Message<&[u8]>) -> Option<Result<u32, Code>> {
+        let _kind = CommandKind::of(&message)?;
+        if !self.takes {
+            return None;
+        }
+        self.note(b'h');
+        Some(match message {
+            Message::Purge(moment) => Ok((moment & 0xffff_ffff) as u32),
+            Message::Remove(_, _) => Err(Code(0x29)),
+            _ => Ok(0),
+        })
+    }
+
+    fn settle(&mut self, under_way: Result<u32, Code>) -> Result<Ack, Code> {
+        self.note(b's');
+        let purged = under_way?;
+        Ok(self.ack(purged))
+    }
+}
+
+/// Takes this number of bytes and then fails.
+#[derive(Drop)]
+struct Room {
+    taken: Vec<u8>,
+    room: usize,
+}
+
+impl Write for Room {
+    fn write(&mut self, buf: &[u8]) -> io::Result<usize> {
+        let count = self.room.min(buf.len());
+        if count == 0 {
+            return Err(io::Error::from(ErrorKind::Other));
+        }
+        self.taken.extend_from_slice(buf.split_at(count).0)?;
+        self.room -= count;
+        Ok(count)
+    }
+
+    fn flush(&mut self) -> io::Result<()> {
+        Ok(())
+    }
+}
+
+/// A lookup of nothing, and the reply to it.
+const LOOKUP: [u8; 5] = *b"\0\0\0\x01\x02";
+
+const NOT_FOUND: [u8; 6] = *b"\0\0\0\x02\xff\x26";
+
+/// The reply to a removal.
+const NOT_REMOVED: [u8; 6] = *b"\0\0\0\x02\xff\x29";
+
+/// A frame of a kind that no message has.
+const FAULTY: [u8; 5] = *b"\0\0\0\x01\x05";
+
+/// A purge up to this moment.
+fn purge(moment: u8) -> [u8; 13] {
+    let mut frame = *b"\0\0\0\x09\x03\0\0\0\0\0\0\0\0";
+    frame[12] = moment;
+    frame
+}
+
+/// The reply to a purge: its place, and the number of purged rows.
+fn purged(place: u8, rows: u8) -> [u8; 29] {
+    let mut frame = [0; 29];
+    frame[3] = 0x19;
+    frame[4] = 0x83;
+    frame[12] = place;
+    frame[28] = rows;
+    frame
+}
+
+/// A removal.
+fn removal() -> [u8; 38] {
+    let mut frame = [0x1f; 38];
+    frame[..5].copy_from_slice(b"\0\0\0\x22\x04");
+    frame
+}
+
+/// These bytes, one after the other.
+fn joined(alloc: Global, parts: &[&[u8]]) -> Result<Vec<u8>, AllocError> {
+    let mut bytes = Vec::new(alloc);
+    for part in parts {
+        bytes.extend_from_slice(part)?;
+    }
+    Ok(bytes)
+}
+
+/// Purges up to the moments from 100 on, and the replies to them from this place on.
+fn purges(alloc: Global, count: u8) -> Result<(Vec<u8>, Vec<u8>), AllocError> {
+    let mut input = Vec::new(alloc);
+    let mut output = Vec::new(alloc);
+    for place in 0..count {
+        let moment = place.wrapping_add(100);
+        input.extend_from_slice(&purge(moment))?;
+        output.extend_from_slice(&purged(place, moment))?;
+    }
+    Ok((input, output))
+}
+
+/// How a session is to end.
+#[derive(Clone, Copy)]
+struct Wanted<'a> {
+    ended: Result<u64, FrameError>,
+    calls: &'a [u8],
+    written: &'a [u8],
+}
+
+/// Serves an input that comes in one piece, over a writer with this room, and checks its end.
+fn assert_served(
+    rt: &impl Abort,
+    alloc: Global,
+    (mut input, room): (&[u8], usize),
+    takes: bool,
+    wanted: &Wanted<'_>,
+) {
+    let mut desk = Desk::new(alloc, takes);
+    let mut writer = Room {
+        taken: Vec::new(alloc),
+        room,
+    };
+    let ended = serve(alloc, &mut input, &mut writer, &mut desk, 9);
+    assert_same(rt, &ended, &wanted.ended, &wanted.calls);
+    assert_same(rt, &desk.calls.as_slice(), &wanted.calls, &wanted.calls);
+    assert_same(rt, &writer.taken.as_slice(), &wanted.written, &wanted.calls);
+}
+
+/// A writer's room that no test fills.
+const ENOUGH: usize = 10_000;
+
+// Three commands in one piece are handed in before the first is settled.
+#[test]
+fn three_commands(rt: HostRuntime) -> Result<(), Fail> {
+    let (input, replies) = purges(rt.alloc(), 3)?;
+    let wanted = Wanted {
+        ended: Ok(3),
+        calls: b"hhhsss",
+        written: &replies,
+    };
+    assert_served(&rt, rt.alloc(), (&input, ENOUGH), true, &wanted);
+    Ok(())
+}
+
+// Of 40 commands in one piece, 32 are handed in and settled, and then eight.
+#[test]
+fn forty_commands(rt: HostRuntime) -> Result<(), Fail> {
+    let (input, replies) = purges(rt.alloc(), 40)?;
+    let mut calls = Vec::new(rt.alloc());
+    for (call, count) in [(b'h', 32), (b's', 32), (b'h', 8), (b's', 8)] {
+        let len = calls.len();
+        calls.resize(len + count, call)?;
+    }
+    let wanted = Wanted {
+        ended: Ok(40),
+        calls: &calls,
+        written: &replies,
+    };
+    assert_same(&rt, &MOST_AHEAD, &32, &"most ahead");
+    assert_served(&rt, rt.alloc(), (&input, ENOUGH), true, &wanted);
+    Ok(())
+}
+
+// A refusal is written in its turn, between the replies to commands that are handed in with it.
+#[test]
+fn refusal_in_its_turn(rt: HostRuntime) -> Result<(), Fail> {
+    let input = joined(rt.alloc(), &[&purge(1), &removal(), &purge(2)])?;
+    let replies = joined(rt.alloc(), &[&purged(0, 1), &NOT_REMOVED, &purged(1, 2)])?;
+    let wanted = Wanted {
+        ended: Ok(3),
+        calls: b"hhhsss",
+        written: &replies,
+    };
+    assert_served(&rt, rt.alloc(), (&input, ENOUGH), true, &wanted);
+    Ok(())
+}
+
+// A lookup is answered once the commands before it are, and the commands after it are handed in
+// only then.
+#[test]
+fn lookup_between(rt: HostRuntime) -> Result<(), Fail> {
+    let input = joined(rt.alloc(), &[&purge(1), &purge(2), &LOOKUP, &purge(3)])?;
+    let replies = joined(
+        rt.alloc(),
+        &[&purged(0, 1), &purged(1, 2), &NOT_FOUND, &purged(2, 3)],
+    )?;
+    let wanted = Wanted {
+        ended: Ok(4),
+        calls: b"hhsslhs",
+        written: &replies,
+    };
+    assert_served(&rt, rt.alloc(), (&input, ENOUGH), true, &wanted);
+    Ok(())
+}
+
+// A faulty frame ends the session after the replies to the commands before it.
+#[test]
+fn faulty_frame_after_commands(rt: HostRuntime) -> Result<(), Fail> {
+    let input = joined(rt.alloc(), &[&purge(1), &purge(2), &FAULTY, &purge(3)])?;
+    let replies = joined(rt.alloc(), &[&purged(0, 1), &purged(1, 2)])?;
+    let wanted = Wanted {
+        ended: Err(FrameError::Kind),
+        calls: b"hhss",
+        written: &replies,
+    };
+    assert_served(&rt, rt.alloc(), (&input, ENOUGH), true, &wanted);
+    Ok(())
+}
+
+// After a write that fails, no further command is settled.
+#[test]
+fn failed_write(rt: HostRuntime) -> Result<(), Fail> {
+    let (input, replies) = purges(rt.alloc(), 4)?;
+    let wanted = Wanted {
+        ended: Err(FrameError::Write),
+        calls: b"hhhhss",
+        written: replies.split_at(replies.len().min(40)).0,
+    };
+    assert_served(&rt, rt.alloc(), (&input, 40), true, &wanted);
+    Ok(())
+}
+
+// A service that takes nothing ahead answers one message after the other, with the same replies.
+#[test]
+fn one_at_a_time(rt: HostRuntime) -> Result<(), Fail> {
+    let input = joined(rt.alloc(), &[&purge(1), &removal(), &LOOKUP, &purge(2)])?;
+    let replies = joined(
+        rt.alloc(),
+        &[&purged(0, 1), &NOT_REMOVED, &NOT_FOUND, &purged(1, 2)],
+    )?;
+    let wanted = Wanted {
+        ended: Ok(4),
+        calls: b"cclc",
+        written: &replies,
+    };
+    assert_served(&rt, rt.alloc(), (&input, ENOUGH), false, &wanted);
+    Ok(())
+}
+
+// A session over bytes in memory hands in commands ahead, too.
+#[test]
+fn commands_in_lines(rt: HostRuntime) -> Result<(), Fail> {
+    let input = joined(rt.alloc(), &[&removal(), &removal(), &LOOKUP])?;
+    let mut desk = Desk::new(rt.alloc(), true);
+    let mut written = Vec::new(rt.alloc());
+    let ended = serve_in_lines(rt.alloc(), input, &mut written, &mut desk);
+    assert_same(&rt, &ended, &Ok(3), &"lines");
+    assert_same(&rt, &desk.calls.as_slice(), &b"hhssl".as_slice(), &"lines");
+    let wanted = b"00000002ff29\n00000002ff29\n00000002ff26\n";
+    assert_same(&rt, &written.as_slice(), &wanted.as_slice(), &"lines");
+    Ok(())
+}

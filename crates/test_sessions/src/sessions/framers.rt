@@ -1,0 +1,269 @@
+//! Streams that come in pieces.
+
+use crate::sessions::same::assert_same;
+use crate::sessions::worked::{LOOKUP, REGISTER, stream};
+use session_core::{Fed, FrameError, Framer, Message};
+use std::alloc::{AllocError, Global};
+use std::fmt::Debug;
+use std::process::Abort;
+use std::test::Fail;
+
+/// A framer, and the messages that it completed.
+#[derive(Drop)]
+struct Taker {
+    framer: Framer,
+    messages: Vec<Message>,
+}
+
+impl Taker {
+    fn new(alloc: Global) -> Taker {
+        Taker {
+            framer: Framer::new(alloc),
+            messages: Vec::new(alloc),
+        }
+    }
+
+    /// Takes a piece, and adds the messages that it completes. Returns the fault after them.
+    fn take(&mut self, piece: &[u8]) -> Result<Option<FrameError>, AllocError> {
+        let fed = self.framer.feed(piece)?;
+        for message in fed.messages {
+            self.messages.push(message)?;
+        }
+        Ok(fed.fault)
+    }
+}
+
+/// Takes a piece in a case, and checks whether there is a fault after it.
+fn assert_taken<C: Debug>(
+    rt: &impl Abort,
+    taker: &mut Taker,
+    piece: &[u8],
+    fault: Option<FrameError>,
+    case: &C,
+) -> Result<(), Fail> {
+    let found = taker.take(piece)?;
+    assert_same(rt, &found, &fault, case);
+    Ok(())
+}
+
+/// Checks that the messages of a case are these.
+fn assert_messages<C: Debug>(rt: &impl Abort, found: &[Message], wanted: &[Message], case: &C) {
+    assert_same(rt, &found, &wanted, case);
+}
+
+/// The two messages of the worked stream.
+fn both(alloc: Global) -> Result<Vec<Message>, AllocError> {
+    let mut messages = Vec::new(alloc);
+    messages.push(Message::Register(Vec::from_slice(alloc, &REGISTER[5..])?))?;
+    messages.push(Message::Lookup(Vec::from_slice(alloc, &LOOKUP[5..])?))?;
+    Ok(messages)
+}
+
+/// Takes the two parts of a stream, and checks that its messages are these.
+fn assert_cut(
+    rt: &impl Abort,
+    taker: &mut Taker,
+    (front, rest): (&[u8], &[u8]),
+    wanted: &[Message],
+) -> Result<(), Fail> {
+    let cut = front.len();
+    assert_taken(rt, taker, front, None, &cut)?;
+    assert_taken(rt, taker, rest, None, &cut)?;
+    assert_messages(rt, &taker.messages, wanted, &cut);
+    Ok(())
+}
+
+#[test]
+fn any_cut(rt: HostRuntime) -> Result<(), Fail> {
+    let bytes = stream();
+    let wanted = both(rt.alloc())?;
+    for cut in 0..=bytes.len() {
+        let mut taker = Taker::new(rt.alloc());
+        assert_cut(&rt, &mut taker, bytes.split_at(cut), &wanted)?;
+    }
+    Ok(())
+}
+
+/// Takes bytes one by one, and checks that none of them is a fault.
+fn assert_bytes_taken(rt: &impl Abort, taker: &mut Taker, bytes: &[u8]) -> Result<(), Fail> {
+    for byte in bytes {
+        assert_taken(rt, taker, &[*byte], None, byte)?;
+    }
+    Ok(())
+}
+
+#[test]
+fn byte_by_byte(rt: HostRuntime) -> Result<(), Fail> {
+    let wanted = both(rt.alloc())?;
+    let mut taker = Taker::new(rt.alloc());
+    assert_bytes_taken(&rt, &mut taker, &stream())?;
+    assert_messages(&rt, &taker.messages, &wanted, &"byte by byte");
+    Ok(())
+}
+
+/// Frames with a fault that their last byte shows, and no earlier byte.
+const FAULTS: [(&[u8], FrameError); 13] = [
+    (b"\0\0\0\0", FrameError::Length),
+    (b"\0\x02\0\x02", FrameError::Length),
+    (b"\xff\xff\xff\xff", FrameError::Length),
+    (b"\0\0\0\x01\0", FrameError::Kind),
+    (b"\0\0\0\x01\x05", FrameError::Kind),
+    (b"\0\0\0\x22\x05", FrameError::Kind),
+    (b"\0\x02\0\x01\xff", FrameError::Kind),
+    (b"\0\0\0\x01\x03", FrameError::Length),
+    (b"\0\0\0\x08\x03", FrameError::Length),
+    (b"\0\0\0\x0a\x03", FrameError::Length),
+    (b"\0\0\0\x21\x04", FrameError::Length),
+    (b"\0\0\0\x23\x04", FrameError::Length),
+    (b"\0\x02\0\x01\x04", FrameError::Length),
+];
+
+/// Takes a frame byte by byte and two more pieces, and checks where the fault is reported, and that
+/// there is no message.
+fn assert_fault(
+    rt: &impl Abort,
+    taker: &mut Taker,
+    frame: &[u8],
+    fault: FrameError,
+) -> Result<(), Fail> {
+    for (at, byte) in frame.iter().enumerate() {
+        let shown = if at + 1 == frame.len() {
+            Some(fault)
+        } else {
+            None
+        };
+        assert_taken(rt, taker, &[*byte], shown, &frame)?;
+    }
+    assert_taken(rt, taker, &LOOKUP, Some(fault), &frame)?;
+    assert_taken(rt, taker, &[], Some(fault), &frame)?;
+    assert_same(rt, &taker.messages.is_empty(), &true, &frame);
+    Ok(())
+}
+
+// A fault is reported at the byte that shows it, and again for each piece from then on, without a
+// message.
+#[test]
+fn frame_faults(rt: HostRuntime) -> Result<(), Fail> {
+    for (frame, fault) in &FAULTS {
+        let mut taker = Taker::new(rt.alloc());
+        assert_fault(&rt, &mut taker, frame, *fault)?;
+    }
+    Ok(())
+}
+
+/// The worked stream, this frame, and one more after it.
+fn with_fault(alloc: Global, frame: &[u8]) -> Result<Vec<u8>, Fail> {
+    let mut piece = Vec::from_slice(alloc, &stream())?;
+    piece.extend_from_slice(frame)?;
+    piece.extend_from_slice(&LOOKUP)?;
+    Ok(piece)
+}
+
+/// The result of one piece.
+fn fed(alloc: Global, piece: &[u8]) -> Result<Fed, AllocError> {
+    Framer::new(alloc).feed(piece)
+}
+
+/// Checks that the result of a piece with this frame is these messages and this fault.
+fn assert_fed(rt: &impl Abort, fed: &Fed, wanted: &[Message], fault: FrameError, frame: &[u8]) {
+    assert_messages(rt, &fed.messages, wanted, &frame);
+    assert_same(rt, &fed.fault, &Some(fault), &frame);
+}
+
+// The messages before a fault in one piece are returned, and nothing after it.
+#[test]
+fn messages_before_a_fault(rt: HostRuntime) -> Result<(), Fail> {
+    let wanted = both(rt.alloc())?;
+    for (frame, fault) in &FAULTS {
+        let piece = with_fault(rt.alloc(), frame)?;
+        assert_fed(&rt, &fed(rt.alloc(), &piece)?, &wanted, *fault, frame);
+    }
+    Ok(())
+}
+
+/// A frame of the greatest length.
+fn greatest(alloc: Global) -> Result<Vec<u8>, Fail> {
+    let mut frame = Vec::from_slice(alloc, b"\0\x02\0\x01\x02")?;
+    frame.resize(131_077, 7)?;
+    Ok(frame)
+}
+
+/// Takes that frame in pieces of this size, and checks that no message comes before the last one.
+fn assert_pieces(
+    rt: &impl Abort,
+    taker: &mut Taker,
+    frame: &[u8],
+    size: usize,
+) -> Result<(), Fail> {
+    assert!(rt; size > 0);
+    for piece in frame.chunks(size) {
+        assert_same(rt, &taker.messages.is_empty(), &true, &size);
+        assert_taken(rt, taker, piece, None, &size)?;
+    }
+    Ok(())
+}
+
+/// Checks that the only message is a lookup with the body of the frame.
+fn assert_lookup(rt: &impl Abort, alloc: Global, messages: &[Message]) -> Result<(), Fail> {
+    assert_eq!(rt; messages.len(), 1);
+    for message in messages {
+        let body = vec![in alloc; 7; 131_072]?;
+        assert!(rt; *message == Message::Lookup(body));
+    }
+    Ok(())
+}
+
+// A frame of the greatest length, in pieces of each size.
+#[test]
+fn greatest_frame(rt: HostRuntime) -> Result<(), Fail> {
+    let frame = greatest(rt.alloc())?;
+    for size in [999, 65_536, 131_076, 200_000] {
+        let mut taker = Taker::new(rt.alloc());
+        assert_pieces(&rt, &mut taker, &frame, size)?;
+        assert_lookup(&rt, rt.alloc(), &taker.messages)?;
+    }
+    Ok(())
+}
+
+/// Whether this is the first or the second message of the worked stream.
+fn is_worked(place: u8, message: &Message) -> bool {
+    match (place, message) {
+        (0, Message::Register(body)) => body.as_slice() == &REGISTER[5..],
+        (1, Message::Lookup(body)) => body.as_slice() == &LOOKUP[5..],
+        _ => false,
+    }
+}
+
+/// The result of a piece, which is fed again where memory was refused.
+fn fed_again(framer: &mut Framer, piece: &[u8]) -> Result<Fed, AllocError> {
+    match framer.feed(piece) {
+        Ok(fed) => Ok(fed),
+        Err(_) => framer.feed(piece),
+    }
+}
+
+/// Checks that messages are those of the worked stream from this place on, and returns the place
+/// after them.
+fn assert_worked(rt: &impl Abort, messages: &[Message], from: u8) -> u8 {
+    let mut place = from;
+    for message in messages {
+        assert_same(rt, &is_worked(place, message), &true, &place);
+        place = place.saturating_add(1);
+    }
+    place
+}
+
+// Run with each allocation failing in turn: a piece that was refused is fed again, and each message
+// comes once.
+#[test]
+fn refused_memory_keeps_the_stream(rt: HostRuntime) -> Result<(), Fail> {
+    let bytes = stream();
+    let mut framer = Framer::new(rt.alloc());
+    let mut place = 0u8;
+    for piece in bytes.chunks(50) {
+        let fed = fed_again(&mut framer, piece)?;
+        place = assert_worked(&rt, &fed.messages, place);
+    }
+    assert_eq!(rt; place, 2);
+    Ok(())
+}

@@ -1,0 +1,101 @@
+//! A device of which one read lies once a checkpoint is begun: the lie is noticed, and no byte of
+//! it is written.
+
+use crate::streams::host::Host;
+use crate::streams::large_rows::{LARGE_CONTENTS, large_half};
+use crate::streams::sealed::{SECTORS, sectors_from};
+use crate::streams::watched::{Change, Watched};
+use group_core::{BeginError, StepError};
+use sector_dev::{MemDevice, SECTOR};
+use std::alloc::Global;
+use std::process::Abort;
+use std::test::Fail;
+use test_group_scripts::stores::{opened, opened_contents};
+use test_group_scripts::work::{Told, work_of};
+use test_support::{TestHost, assert_same};
+
+/// What changes a device that lies, of a round over the half of large rows, of which 213,089 bytes
+/// would be written to the second half's area in two chunks.
+const CHANGES: [Change; 1] = [Change::Write {
+    at: 1702,
+    sectors: 256,
+}];
+
+/// A device with the half of large rows, of which the read after this number of reads lies.
+fn watched(rt: &Host<impl Abort>, alloc: Global, honest: u64) -> Watched<MemDevice> {
+    Watched::over(rt, alloc, large_half(rt, alloc), honest)
+}
+
+/// How many reads are made up to the end of `begin`.
+fn reads_of_begin(rt: &Host<impl Abort>, alloc: Global) -> u64 {
+    let store = opened(rt, alloc, watched(rt, alloc, u64::MAX));
+    let work = work_of(rt, alloc, store).checks(rt, Told::Done);
+    let reads = work.state.device().reads();
+    let _device = work.ends(rt, LARGE_CONTENTS);
+    reads
+}
+
+/// The bytes of a store after a checkpoint was begun over a device whose next read lies: the first
+/// chunk is written, what is read after it is refused, and the state has stopped. The store opens
+/// to the rows of its old half.
+fn bytes_after_a_lie(rt: &Host<impl Abort>, alloc: Global, honest: u64) -> Vec<u8> {
+    let store = opened(rt, alloc, watched(rt, alloc, honest));
+    let mut work = work_of(rt, alloc, store);
+    let Ok(plan) = work.state.begin() else {
+        rt.fail("no checkpoint was begun");
+    };
+    match work.state.write_chunk(plan) {
+        Err(StepError::Damaged) => {}
+        _ => rt.fail("the lie was not noticed"),
+    }
+    match work.state.begin() {
+        Err(BeginError::Stopped) => {}
+        _ => rt.fail("the state goes on"),
+    }
+    let (changes, memory) = work.device(rt).into_parts();
+    assert!(rt.0; changes.ends_with(&CHANGES), "{changes:?}");
+    let (contents, mut memory) = opened_contents(rt, alloc, memory);
+    assert_same(rt, &contents, &LARGE_CONTENTS, &"the old half");
+    sectors_from(rt, alloc, &mut memory, 0, SECTORS as usize)
+}
+
+/// Sectors of a device, and whether they are other ones after a lie.
+#[derive(Clone, Copy)]
+struct Span {
+    /// The number of the first sector.
+    from: usize,
+    /// How many sectors there are.
+    count: usize,
+    /// Whether a byte of them is another one then.
+    differ: bool,
+}
+
+/// Sees whether bytes differ from others in these sectors.
+fn assert_differ(rt: &Host<impl Abort>, one: &[u8], other: &[u8], span: Span) {
+    let first = span.from.saturating_mul(SECTOR);
+    let size = span.count.saturating_mul(SECTOR);
+    let mut both = one.iter().zip(other).skip(first).take(size);
+    let differ = both.any(|(one, other)| one != other);
+    assert_same(rt, &differ, &span.differ, &span.from);
+}
+
+/// Only the first chunk may have changed.
+#[rattlefmt::skip]
+const SECTORS_THAT_DIFFER: [Span; 3] = [
+    Span { from: 0, count: 1702, differ: false },
+    Span { from: 1702, count: 256, differ: true },
+    Span { from: 1958, count: 1445, differ: false },
+];
+
+#[test]
+fn lies_are_noticed(rt: HostRuntime) -> Result<(), Fail> {
+    let host = Host(&rt);
+    let reads = reads_of_begin(&host, rt.alloc());
+    let lied = bytes_after_a_lie(&host, rt.alloc(), reads);
+    let mut before = large_half(&host, rt.alloc());
+    let before = sectors_from(&host, rt.alloc(), &mut before, 0, SECTORS as usize);
+    for span in SECTORS_THAT_DIFFER {
+        assert_differ(&host, &before, &lied, span);
+    }
+    Ok(())
+}

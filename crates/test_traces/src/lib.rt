@@ -1,5 +1,0 @@
-//! Tests of `prefix_recovery`: a run that is traced, and the opening of its device.
-#![tactic(auto)]
-
-#[cfg(test)]
-mod traces;
