@@ -77,7 +77,9 @@ interrupted pwrite64:error=EINTR:when=1..10 upgrade "$store"
 fails "error: device 1" openat:error=EACCES:when=1 show "$store"
 fails "error: device 1" flock:error=ENOLCK show "$store"
 fails "error: device 1" flock:error=ENOLCK show "$store" --layout
-fails "error: device 1" lseek:error=EINVAL show "$store"
+fails "error: device 1" statx:error=EINVAL:when=1 show "$store"
+fails "error: device 1" statx:error=EINVAL:when=2 show "$store"
+fails "error: device 1" statx:error=EINVAL:when=3 show "$store"
 fails "error: open 2" pread64:error=EIO:when=1 show "$store"
 fails "error: open 2" pread64:retval=0:when=1 show "$store"
 fails "error: open 2" pread64:error=EIO:when=1 show "$store" --layout

@@ -1,8 +1,9 @@
 -- A file over its calls, with a count of its failures, as contracts see it.
-use Rattle.std.specs.Prelude.{ℕ, ◌≤◌}
+use Rattle.std.specs.Prelude.{◌≡◌, ℕ, ◌≤◌}
 use Rattle.sector_dev.specs.PositionedFile.{FileState}
 use Rattle.std.specs.Arc.{arc_value}
 use Rattle.sector_dev.specs.declared.counted_file.CountedFile.{CountedFile}
+use Rattle.sector_dev.specs.declared.file_calls.FileStatus.{FileStatus}
 use Rattle.sector_dev.specs.declared.last_fault.LastFault.{LastFault}
 
 -- The file whose calls are counted.
@@ -26,13 +27,15 @@ last_fault_of counted = arc_value counted.last
 abbrev pub counted_state : {F : Type 0} → (F → FileState) → CountedFile F → FileState
 counted_state state counted = record (state counted.file) { failures = counted.failures }
 
--- A file is at least as long as it was when it was opened, and has a name, by calls for both.
-pub record IsInPlace {F : Type 0} (returned_len returned_links : F → ℕ → Type 0) (opened : ℕ) (file : F) : Type 0 where
-  -- The length of the file in bytes.
-  pub len : ℕ
-  pub has_len : returned_len file len
-  pub not_cut : opened ≤ len
-  -- The number of names of the file.
-  pub links : ℕ
-  pub has_links : returned_links file links
-  pub not_unlinked : 1 ≤ links
+-- A call for the file's status returned this length in bytes.
+pub record ReturnedLen {F : Type 0} (returned_status : F → FileStatus → Type 0) (file : F) (len : ℕ) : Type 0 where
+  pub status : FileStatus
+  pub returned : returned_status file status
+  pub is : len ≡ status.len
+
+-- A file is at least as long as it was when it was opened, and has a name, by a call for its status.
+pub record IsInPlace {F : Type 0} (returned_status : F → FileStatus → Type 0) (opened : ℕ) (file : F) : Type 0 where
+  pub status : FileStatus
+  pub returned : returned_status file status
+  pub not_cut : opened ≤ status.len
+  pub not_unlinked : 1 ≤ status.links

@@ -32,19 +32,19 @@ pub type SystemFile = CountedFile<File>;
 impl<F: FileCalls> CountedFile<F> {
     ghost use Rattle.sector_dev.specs.Calls.{one_more};
     ghost use Rattle.sector_dev.specs.PositionedFile.{failures_after_transfer};
-    ghost use Rattle.sector_dev.specs.CountedFile.{calls_of, failures_of, opened_len, last_fault_of, IsInPlace};
+    ghost use Rattle.sector_dev.specs.CountedFile.{calls_of, failures_of, opened_len, last_fault_of, ReturnedLen, IsInPlace};
     ghost use Rattle.std.specs.Arc.{arc_value};
 
-    /// A file whose count of failures is 0. The error is that of the call for the file's length, or
+    /// A file whose count of failures is 0. The error is that of the call for the file's status, or
     /// `OutOfMemory` where memory was refused.
     pub fn new(alloc: Global, file: F) -> io::Result<CountedFile<F>>
     where
         F: Drop,
         ensures file { IfOk result (λ counted. calls_of counted ≡ file) }
         ensures failures { IfOk result (λ counted. failures_of counted ≡ 0) }
-        ensures opened { IfOk result (λ counted. F.returned_len file (opened_len counted)) }
+        ensures opened { IfOk result (λ counted. ReturnedLen F.returned_status file (opened_len counted)) }
     {
-        let opened = file.len()?;
+        let opened = file.status()?.len;
         let last = Arc::new(alloc, LastFault::new())?;
         Ok(CountedFile {
             file,
@@ -71,17 +71,16 @@ impl<F: FileCalls> CountedFile<F> {
 
     // Looks whether the file was cut or unlinked.
     fn find_in_place(&self) -> Result<(), FileFault>
-        ensures { OnOk result (IsInPlace F.returned_len F.returned_links (opened_len self.now) (calls_of self.now)) }
+        ensures { OnOk result (IsInPlace F.returned_status (opened_len self.now) (calls_of self.now)) }
     {
-        let len = self.file.len().map_err(status_fault)?;
-        if len < self.opened {
+        let status = self.file.status().map_err(status_fault)?;
+        if status.len < self.opened {
             return Err(FileFault {
                 kind: FaultKind::Cut,
                 errno: None,
             });
         }
-        let links = self.file.links().map_err(status_fault)?;
-        if links == 0 {
+        if status.links == 0 {
             return Err(FileFault {
                 kind: FaultKind::Unlinked,
                 errno: None,
@@ -125,7 +124,7 @@ impl<F: FileCalls> PositionedFile for CountedFile<F> {
         ensures same { self.new ≡ self.old }
         ensures size { IsHonestFile (F.state (calls_of self.old)) → IfOk result (λ n. n ≡ length (F.state (calls_of self.old)).bytes) }
     {
-        self.file.len()
+        Ok(self.file.status()?.len)
     }
 
     fn read_at(&mut self, offset: u64, into: &mut [u8]) -> io::Result<usize>
@@ -150,7 +149,7 @@ impl<F: FileCalls> PositionedFile for CountedFile<F> {
 
     fn sync_data(&mut self) -> io::Result<()>
         ensures sync { SyncsFile result (counted_state F.state self.old) (counted_state F.state self.new) }
-        ensures in_place { OnOk result (IsInPlace F.returned_len F.returned_links (opened_len self.old) (calls_of self.new)) }
+        ensures in_place { OnOk result (IsInPlace F.returned_status (opened_len self.old) (calls_of self.new)) }
         ensures opened { opened_len self.new ≡ opened_len self.old }
     {
         if let Err(error) = self.file.sync_once() {
@@ -168,7 +167,7 @@ impl<F: FileCalls> PositionedFile for CountedFile<F> {
     }
 }
 
-// The failure where the length or the number of names was not returned.
+// The failure where the status was not returned.
 fn status_fault(error: Error) -> FileFault {
     FileFault {
         kind: FaultKind::Status,

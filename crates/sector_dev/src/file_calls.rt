@@ -4,12 +4,23 @@ ghost use Rattle.std.specs.IoError.{error_kind};
 ghost use Rattle.byte_lists.specs.Content.{AreBytes, part};
 ghost use Rattle.sector_dev.specs.PositionedFile.{FileState, IsHonestFile};
 ghost use Rattle.sector_dev.specs.FileCalls.{LandsCall, SyncsCall};
+ghost use Rattle.sector_dev.specs.declared.file_calls.FileStatus.{FileStatus};
 
 use std::io;
 use std::io::ErrorKind;
 
+/// The length of a file, and the number of its names.
+#[derive(Clone, Copy)]
+pub struct FileStatus {
+    /// The length in bytes, also of a block device.
+    pub len: u64,
+    /// The number of names that the file has in its folders. 0 means that the file was unlinked.
+    pub links: u64,
+}
+
 /// The calls of an open file. Each method makes one call with its arguments and returns the result
-/// of that call: nothing is repeated and nothing is counted.
+/// of that call: nothing is repeated and nothing is counted. `status` of a block device alone makes
+/// two.
 ///
 /// What a contract states of the bytes holds for an honest file. The count of failures of `state`
 /// has no meaning here.
@@ -17,22 +28,14 @@ pub trait FileCalls {
     /// The file as contracts see it.
     ghost state: { Self → FileState };
 
-    /// `len` returned this number of bytes for the file in this state. Code that is generic in the
-    /// file can show it by a call of `len` alone.
-    ghost returned_len: { Self → ℕ → Type 0 };
+    /// `status` returned this for the file in this state. Code that is generic in the file can show
+    /// it by a call of `status` alone.
+    ghost returned_status: { Self → FileStatus → Type 0 };
 
-    /// `links` returned this number for the file in this state. Code that is generic in the file
-    /// can show it by a call of `links` alone.
-    ghost returned_links: { Self → ℕ → Type 0 };
-
-    /// The length of the file in bytes, also of a block device.
-    fn len(&self) -> io::Result<u64>
-        ensures size { IsHonestFile (state self.now) → IfOk result (λ n. n ≡ length (state self.now).bytes) }
-        ensures returned { IfOk result (λ n. returned_len self.now n) };
-
-    /// The number of names that the file has in its folders. 0 means that the file was unlinked.
-    fn links(&self) -> io::Result<u64>
-        ensures returned { IfOk result (λ n. returned_links self.now n) };
+    /// The length of the file and the number of its names.
+    fn status(&self) -> io::Result<FileStatus>
+        ensures size { IsHonestFile (state self.now) → IfOk result (λ status. status.len ≡ length (state self.now).bytes) }
+        ensures returned { IfOk result (λ status. returned_status self.now status) };
 
     /// Reads once at an offset, into the first bytes of `into`, and returns their number.
     fn read_once(&self, offset: u64, into: &mut [u8]) -> io::Result<usize>

@@ -25,7 +25,7 @@ pub use byte_lists::SECTOR;
 pub use counted_file::{CountedFile, SystemFile};
 pub use device::{DevError, Device};
 pub use fault_device::FaultDevice;
-pub use file_calls::FileCalls;
+pub use file_calls::{FileCalls, FileStatus};
 pub use file_device::FileDevice;
 pub use fuse_device::{FuseDevice, Tear};
 pub use held_device::{Gate, HeldDevice};

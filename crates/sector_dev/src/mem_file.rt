@@ -2,7 +2,7 @@
 ghost use Rattle.std.specs.Prelude.{◌≡◌, true, []};
 ghost use Rattle.byte_lists.specs.Content.{AreBytes};
 
-use crate::FileCalls;
+use crate::{FileCalls, FileStatus};
 use std::io;
 
 /// An honest file in memory, of which one transfer moves at most a given number of bytes. Its calls
@@ -41,26 +41,21 @@ impl FileCalls for MemFile {
     ghost use Rattle.std.specs.Prelude.{◌≡◌, ◌≤◌, Ok, IsOk, IfOk, length, take};
     ghost use Rattle.byte_lists.specs.Content.{part};
     ghost use Rattle.sector_dev.specs.FileCalls.{LandsCall, SyncsCall};
-    ghost use Rattle.sector_dev.specs.MemFile.{memory_state, transfer_length};
+    ghost use Rattle.sector_dev.specs.MemFile.{memory_state, memory_status, transfer_length};
 
     ghost state = { memory_state };
 
-    ghost returned_len = { λ file n. n ≡ length file.bytes.items };
-
-    ghost returned_links = { λ file n. n ≡ 1 };
+    ghost returned_status = { λ file status. status ≡ memory_status file };
 
     ghost bytes = { λ file honest. file.are_bytes };
 
-    fn len(&self) -> io::Result<u64>
-        ensures { result ≡ Ok (length (memory_state self.now).bytes) }
+    fn status(&self) -> io::Result<FileStatus>
+        ensures { result ≡ Ok (memory_status self.now) }
     {
-        Ok(self.bytes.len() as u64)
-    }
-
-    fn links(&self) -> io::Result<u64>
-        ensures { result ≡ Ok 1 }
-    {
-        Ok(1)
+        Ok(FileStatus {
+            len: self.bytes.len() as u64,
+            links: 1,
+        })
     }
 
     fn read_once(&self, offset: u64, into: &mut [u8]) -> io::Result<usize>

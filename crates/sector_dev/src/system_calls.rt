@@ -1,11 +1,11 @@
 //! The calls of the system on an open file. No contract states what the system does, so here alone
-//! a file is not called honest. Each method is one call.
+//! a file is not called honest. Each method is one call, and that of a block device's status is two.
 
-use crate::FileCalls;
+use crate::{FileCalls, FileStatus};
 use std::fs::File;
 use std::io;
 use std::io::{Seek, SeekFrom};
-use std::os::unix::fs::{FileExt, MetadataExt};
+use std::os::unix::fs::{FileExt, FileTypeExt, MetadataExt};
 
 impl FileCalls for File {
     ghost use Rattle.std.specs.Prelude.{false, [], ⊤};
@@ -13,19 +13,22 @@ impl FileCalls for File {
 
     ghost state = { λ _. record { is_honest = false; bytes = []; dirty = []; failures = 0 } };
 
-    ghost returned_len = { λ _ n. ⊤ };
-
-    ghost returned_links = { λ _ n. ⊤ };
+    ghost returned_status = { λ _ status. ⊤ };
 
     ghost bytes = { λ file honest i. Prim.omega arith };
 
-    // The offset of the end, since the metadata of a block device has no length.
-    fn len(&self) -> io::Result<u64> {
-        (&mut &*self).seek(SeekFrom::End(0))
-    }
-
-    fn links(&self) -> io::Result<u64> {
-        Ok(self.metadata()?.nlink())
+    // The metadata of a block device has no length, which is the offset of its end.
+    fn status(&self) -> io::Result<FileStatus> {
+        let metadata = self.metadata()?;
+        let len = if metadata.file_type().is_block_device() {
+            (&mut &*self).seek(SeekFrom::End(0))?
+        } else {
+            metadata.len()
+        };
+        Ok(FileStatus {
+            len,
+            links: metadata.nlink(),
+        })
     }
 
     fn read_once(&self, offset: u64, into: &mut [u8]) -> io::Result<usize> {

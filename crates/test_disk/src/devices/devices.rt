@@ -3,7 +3,7 @@
 ghost use Rattle.std.specs.Prelude.{◌≡◌};
 
 use crate::devices::calls::assert_call;
-use sector_dev::{CountedFile, FileCalls, FileDevice};
+use sector_dev::{CountedFile, FileCalls, FileDevice, FileStatus};
 use std::fs::{File, OpenOptions};
 use std::io;
 use std::process::Abort;
@@ -21,18 +21,15 @@ impl FileCalls for FourSectors {
 
     ghost state = { λ _. record { is_honest = false; bytes = []; dirty = []; failures = 0 } };
 
-    ghost returned_len = { λ _ n. ⊤ };
-
-    ghost returned_links = { λ _ n. ⊤ };
+    ghost returned_status = { λ _ status. ⊤ };
 
     ghost bytes = { λ four honest i. Prim.omega arith };
 
-    fn len(&self) -> io::Result<u64> {
-        Ok(2048)
-    }
-
-    fn links(&self) -> io::Result<u64> {
-        self.file.links()
+    fn status(&self) -> io::Result<FileStatus> {
+        Ok(FileStatus {
+            len: 2048,
+            links: self.file.status()?.links,
+        })
     }
 
     fn read_once(&self, offset: u64, into: &mut [u8]) -> io::Result<usize> {
