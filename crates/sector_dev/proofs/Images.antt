@@ -59,6 +59,30 @@ image_synced history content image = record { size = image.size; bytes = image.b
 pub image_after_sync : (history : History) (content : List ℕ) → IsImage (after_sync history).now content → content ≡ history.now.reads
 image_after_sync history content image = image_is_reads (after_sync history).now content refl image
 
+-- an image of one moment is one of another, where what is clean in the other is clean in the first
+-- and has the same bytes
+pub image_of_other : (one other : Moment) (content : List ℕ) → length one.reads ≡ length other.reads → ((i : ℕ) → IsClean other.dirty i → IsClean one.dirty i × (get_or one.reads i 0 ≡ get_or other.reads i 0)) → IsImage one content
+    → IsImage other content
+image_of_other one other content size stays image = record {
+  size = image.size ∙ size;
+  bytes = image.bytes;
+  clean = λ i clean. let both = stays i clean in image.clean i both.0 ∙ both.1;
+}
+
+-- a write changes no byte beside its range
+pub overwrite_beside : (at : ℕ) (landed content : List ℕ) (i : ℕ) → at + length landed ≤ length content → (at ≤ i → at + length landed ≤ i) → get_or (overwrite at landed content) i 0 ≡ get_or content i 0
+overwrite_beside at landed content i inside beside = elim (cases_lt i at) [
+  | inl early ↦ overwrite_before at landed content i (omega arith) early
+  | inr from ↦ overwrite_behind at landed content i inside (beside from)
+]
+
+-- an image before a write is an image after it
+pub image_before_write : (at : ℕ) (landed reads content : List ℕ) (dirty : List ByteRange) → at + length landed ≤ length reads → IsImage (record { reads = reads; dirty = dirty }) content
+    → IsImage (record { reads = overwrite at landed reads; dirty = record { start = at; len = length landed } ∷ dirty }) content
+image_before_write at landed reads content dirty inside image =
+    image_of_other (record { reads = reads; dirty = dirty }) (record { reads = overwrite at landed reads; dirty = record { start = at; len = length landed } ∷ dirty }) content (sym (length-overwrite at landed reads inside))
+    (λ i clean. let both = clean_before at (length landed) dirty i clean in (both.1, sym (overwrite_beside at landed reads i inside both.0))) image
+
 -- an image after a write is an image from before it, with other bytes in the range
 record IsTorn (history : History) (at n : ℕ) (content : List ℕ) : Type 0 where
   pub before : List ℕ

@@ -1,6 +1,6 @@
 -- Several transfers, one after another, for `read_whole` and `write_whole`, and their effect on a
 -- device over the file, for `FileDevice::write`.
-use Rattle.std.proofs.Common.{◌≡◌, ◌≢◌, ℕ, ◌+◌, ◌-◌, ◌*◌, ◌<◌, ◌≤◌, inl, inr, List, [], ◌∷◌, ◌++◌, length, get_or, take, drop, refl, sym, ◌∙◌, ap, subst, arith, length-append, length-drop, get_or-take, Result, OnOk, Bool, IsTrue, add-zero}
+use Rattle.std.proofs.Common.{◌≡◌, ◌≢◌, ℕ, ◌+◌, ◌-◌, ◌*◌, ◌<◌, ◌≤◌, inl, inr, List, [], ◌∷◌, ◌++◌, length, get_or, take, drop, refl, sym, ◌∙◌, ap, subst, arith, length-append, length-drop, get_or-take, Result, Ok, Err, IfOk, OnOk, Bool, IsTrue, add-zero}
 use Rattle.std.proofs.lemmas.Bool.{cases_lt}
 use Rattle.std.proofs.lemmas.Bool.Decides.{nat_tests}
 use Rattle.std.proofs.lemmas.List.{take_at, drop_at, drop-drop, drop-take, take-take, take-append-drop, take-append-le, length-take-le, get_or_append_left, get_or-append_right}
@@ -8,11 +8,12 @@ use borrow.Rule.Slice.PartMut.{put_mid, post_of}
 use Rattle.byte_lists.specs.Content.{part, overwrite}
 use Rattle.sector_dev.specs.Disk.{ByteRange, Moment, History}
 use Rattle.sector_dev.specs.Calls.{Lands, one_more}
-use Rattle.sector_dev.specs.PositionedFile.{FileState, IsHonestFile, DirtiesOnly, CoversDirty, TransfersIn, failures_after_transfer}
+use Rattle.sector_dev.specs.PositionedFile.{FileState, IsHonestFile, DirtiesOnly, CoversDirty, TransfersIn, LandsAny, LandsTransfer, FileGoesOn, IsWriteMoment, failures_after_transfer}
 use Rattle.sector_dev.specs.FileDevice.{LandsWhole, WritesWhole, front}
 use Rattle.sector_dev.specs.Image.{IsClean}
 use Rattle.sector_dev.proofs.Images.{clean_before}
 use Rattle.sector_dev.proofs.Results.{success, failure}
+use Rattle.sector_dev.proofs.FileMoments.{goes_on_then, goes_on_weaker}
 use Rattle.byte_lists.proofs.Contents.{length-overwrite, overwrite_before, overwrite_within, overwrite_behind, length-part, part_above, same_content, overwrite_same}
 
 -- the first m, and then the next n
@@ -162,6 +163,19 @@ overwrite_and_rest_at done at bytes content below inside =
     ap (λ (k : ℕ). overwrite at (take done bytes ++ part (at + k) (length bytes - done) content) content) (sym first)
     ∙ overwrite_and_rest at (take done bytes) content (length bytes - done) (omega (arith, first))
 
+-- one transfer leaves some bytes in the range
+pub transfer_lands : {E : Type 0} (offset : ℕ) (bytes : List ℕ) (result : Result ℕ E) (old new : List ℕ) → IfOk result (λ n. n ≤ length bytes) → offset + length bytes ≤ length old → LandsTransfer offset bytes result old new → LandsAny offset bytes old new
+transfer_lands offset bytes (Err _) old new most inside lands = lands
+transfer_lands offset bytes (Ok n) old new most inside lands =
+    let there = part (offset + n) (length bytes - n) old in
+    let first : length (take n bytes) ≡ n = length-take-le n bytes most in
+    let size : length there ≡ length bytes - n = length-part (offset + n) (length bytes - n) old (omega (arith, most)) in
+    record {
+      landed = take n bytes ++ there;
+      size = length-append (take n bytes) there ∙ omega (arith, first, size, most);
+      is = lands ∙ sym (overwrite_and_rest_at n offset bytes old most inside);
+    }
+
 -- a transfer that moved some bytes is no failure, and one that moved none of some bytes is
 pub failures_moved : (asked n failures : ℕ) → n ≢ 0 → failures_after_transfer asked (success (Unit {0}) n) failures ≡ failures
 failures_moved asked n failures some = grind (arith, nat_tests)
@@ -174,7 +188,8 @@ pub honest_file : (old new : FileState) → new.is_honest ≡ old.is_honest → 
 honest_file old new same honest = subst (λ (b : Bool). IsTrue b) (sym same) honest
 
 module _ (offset done : ℕ) (bytes : List ℕ) (start mid later : FileState) (below : done ≤ length bytes) (same : mid.is_honest ≡ start.is_honest)
-    (so_far : IsHonestFile start → offset + length bytes ≤ length start.bytes → mid.bytes ≡ overwrite offset (take done bytes) start.bytes) (dirtied : IsHonestFile start → DirtiesOnly offset (length bytes) start.dirty mid.dirty) where
+    (so_far : IsHonestFile start → offset + length bytes ≤ length start.bytes → mid.bytes ≡ overwrite offset (take done bytes) start.bytes) (dirtied : IsHonestFile start → DirtiesOnly offset (length bytes) start.dirty mid.dirty)
+    (moments : IsHonestFile start → offset + length bytes ≤ length start.bytes → FileGoesOn start mid (IsWriteMoment offset bytes start)) where
   abbrev rest : List ℕ
   rest = take (length bytes - done) (drop done bytes)
 
@@ -201,11 +216,29 @@ module _ (offset done : ℕ) (bytes : List ℕ) (start mid later : FileState) (b
   write_dirties result call honest i clean beside =
       call.dirty (honest_file start mid same honest) i (dirtied honest i clean beside) (λ from. omega (arith, beside (omega arith), rest_size))
 
+  -- a moment of the next transfer is one of the write
+  pub write_moments : {E : Type 0} (result : Result ℕ E) → TransfersIn (offset + done) rest result mid later → IsHonestFile start → offset + length bytes ≤ length start.bytes → FileGoesOn start later (IsWriteMoment offset bytes start)
+  write_moments result call honest inside =
+      goes_on_then (IsWriteMoment offset bytes start) start mid later (moments honest inside)
+      (goes_on_weaker (IsWriteMoment (offset + done) rest mid) (IsWriteMoment offset bytes start) mid later (λ m w. each m w)
+      (call.moments (honest_file start mid same honest) (omega (arith, rest_size, mid_size honest inside))))
+    where
+      each : (m : Moment) → IsWriteMoment (offset + done) rest mid m → IsWriteMoment offset bytes start m
+      each m w = record {
+        lands = record {
+          landed = take done bytes ++ w.lands.landed;
+          size = length-append (take done bytes) w.lands.landed ∙ omega (arith, first_size, w.lands.size, rest_size);
+          is = ended_early done offset bytes w.lands.landed start.bytes mid.bytes m.reads below inside (w.lands.size ∙ rest_size) (so_far honest inside) w.lands.is;
+        };
+        dirty = λ i clean beside. w.dirty i (dirtied honest i clean beside) (λ from. omega (arith, beside (omega arith), rest_size));
+      }
+
   -- a transfer that moved no bytes
   pub write_stuck : {T E F : Type 0} (e : F) (n : ℕ) → n ≡ 0 → TransfersIn (offset + done) rest (success E n) mid later → WritesWhole offset bytes (failure T e) start later
   write_stuck {T} {E} {F} e n none call = record {
     is_honest = call.is_honest ∙ same;
     dirty = write_dirties (success E n) call;
+    moments = write_moments (success E n) call;
     lands = λ honest inside.
         let there = part (offset + done) (length bytes - done) start.bytes in
         let size : length there ≡ length bytes - done = length-part (offset + done) (length bytes - done) start.bytes (omega arith) in
@@ -223,6 +256,7 @@ module _ (offset done : ℕ) (bytes : List ℕ) (start mid later : FileState) (b
   write_failed e error call = record {
     is_honest = call.is_honest ∙ same;
     dirty = write_dirties (failure ℕ error) call;
+    moments = write_moments (failure ℕ error) call;
     lands = λ honest inside.
         let last = call.lands (honest_file start mid same honest) (omega (arith, rest_size, mid_size honest inside)) in
         record {

@@ -1,8 +1,8 @@
 -- The effects of the calls of a file that is read and written at offsets. The effect on an honest
 -- file is defined under that premise.
-use Rattle.std.specs.Prelude.{◌≡◌, ℕ, ◌+◌, ◌≤◌, Bool, IsTrue, List, [], length, take, Result, Ok, Err, IfOk, OnOk, OnErr, if◌then◌else◌, ◌==◌, ◌&&◌, nat_lt}
+use Rattle.std.specs.Prelude.{◌≡◌, ℕ, ◌+◌, ◌≤◌, Bool, IsTrue, List, [], ◌∷◌, ◌++◌, All, length, take, Result, Ok, Err, IfOk, OnOk, OnErr, if◌then◌else◌, ◌==◌, ◌&&◌, nat_lt}
 use Rattle.byte_lists.specs.Content.{part, overwrite}
-use Rattle.sector_dev.specs.Disk.{ByteRange}
+use Rattle.sector_dev.specs.Disk.{ByteRange, Moment}
 use Rattle.sector_dev.specs.Image.{IsClean}
 use Rattle.sector_dev.specs.Calls.{count_after, one_more}
 
@@ -14,6 +14,8 @@ pub record FileState : Type 0 where
   pub bytes : List ℕ
   -- The ranges written since the last sync that succeeded, in which a stop may leave any bytes.
   pub dirty : List ByteRange
+  -- The moments before this one, the oldest first.
+  pub past : List Moment
   -- The number of transfers and syncs that have failed.
   pub failures : ℕ
 
@@ -21,11 +23,28 @@ pub record FileState : Type 0 where
 abbrev pub IsHonestFile : FileState → Type 0
 IsHonestFile file = IsTrue file.is_honest
 
+-- The file at this moment. The images of the moment are the contents that a stop now may leave.
+abbrev pub file_moment : FileState → Moment
+file_moment file = record { reads = file.bytes; dirty = file.dirty }
+
+-- All moments of the file, the present one last.
+abbrev pub file_moments : FileState → List Moment
+file_moments file = file.past ++ file_moment file ∷ []
+
+-- The moments of a file until a later state continue those until an earlier one, and each later
+-- moment has P.
+pub record FileGoesOn (old new : FileState) (P : Moment → Type 0) : Type 0 where
+  -- The moments after that of the earlier state.
+  pub later : List Moment
+  pub goes_on : file_moments new ≡ file_moments old ++ later
+  pub each : All P later
+
 -- A call does not change the bytes of an honest file.
 pub record LeavesFile (old new : FileState) : Type 0 where
   pub is_honest : new.is_honest ≡ old.is_honest
   pub bytes : IsHonestFile old → new.bytes ≡ old.bytes
   pub dirty : IsHonestFile old → new.dirty ≡ old.dirty
+  pub past : IsHonestFile old → new.past ≡ old.past
 
 -- The count of failures after a transfer of `asked` bytes: one more where it failed, or moved none
 -- of them.
@@ -37,6 +56,11 @@ failures_after_transfer asked (Err _) failures = one_more failures
 abbrev pub StaysClean : List ByteRange → List ByteRange → Type 0
 StaysClean old new = (i : ℕ) → IsClean old i → IsClean new i
 
+-- A moment of a sync: no byte has changed, and nothing has become dirty.
+pub record IsSyncMoment (old : FileState) (moment : Moment) : Type 0 where
+  pub reads : moment.reads ≡ old.bytes
+  pub clean : StaysClean old.dirty moment.dirty
+
 -- A sync of a file.
 pub record SyncsFile {T E : Type 0} (result : Result T E) (old new : FileState) : Type 0 where
   pub is_honest : new.is_honest ≡ old.is_honest
@@ -46,6 +70,8 @@ pub record SyncsFile {T E : Type 0} (result : Result T E) (old new : FileState) 
   pub done : IsHonestFile old → OnOk result (new.dirty ≡ [])
   -- A sync that fails makes nothing dirty.
   pub clean : IsHonestFile old → OnErr result (StaysClean old.dirty new.dirty)
+  -- Each later moment is one of the sync.
+  pub moments : IsHonestFile old → FileGoesOn old new (IsSyncMoment old)
 
 -- Nothing is dirty but what was dirty before, and the n bytes at an offset.
 abbrev pub DirtiesOnly : ℕ → ℕ → List ByteRange → List ByteRange → Type 0
@@ -70,6 +96,12 @@ pub record LandsAny (offset : ℕ) (bytes old new : List ℕ) : Type 0 where
   pub size : length landed ≡ length bytes
   pub is : new ≡ overwrite offset landed old
 
+-- A moment of a write of these bytes: any bytes may have landed in their range, and nothing else has
+-- changed or become dirty.
+pub record IsWriteMoment (offset : ℕ) (bytes : List ℕ) (old : FileState) (moment : Moment) : Type 0 where
+  pub lands : LandsAny offset bytes old.bytes moment.reads
+  pub dirty : DirtiesOnly offset (length bytes) old.dirty moment.dirty
+
 -- The bytes of an honest file after a transfer into it. The bytes whose number it returns landed;
 -- where it failed, any bytes may have landed.
 abbrev pub LandsTransfer : {E : Type 0} → ℕ → List ℕ → Result ℕ E → List ℕ → List ℕ → Type 0
@@ -86,3 +118,5 @@ pub record TransfersIn {E : Type 0} (offset : ℕ) (bytes : List ℕ) (result : 
   pub lands : IsHonestFile old → offset + length bytes ≤ length old.bytes → LandsTransfer offset bytes result old.bytes new.bytes
   -- Only the range of the given bytes gets dirty.
   pub dirty : IsHonestFile old → DirtiesOnly offset (length bytes) old.dirty new.dirty
+  -- Each later moment is one of the write.
+  pub moments : IsHonestFile old → offset + length bytes ≤ length old.bytes → FileGoesOn old new (IsWriteMoment offset bytes old)

@@ -69,6 +69,14 @@ impl<F: FileCalls> CountedFile<F> {
         Arc::try_clone(&self.last)
     }
 
+    /// Returns the file of the calls, and ends this one.
+    pub fn into_calls(self) -> F
+        ensures { result ≡ calls_of self }
+    {
+        let CountedFile { file, .. } = self;
+        file
+    }
+
     // Looks whether the file was cut or unlinked.
     fn find_in_place(&self) -> Result<(), FileFault>
         ensures { OnOk result (IsInPlace F.returned_status (opened_len self.now) (calls_of self.now)) }

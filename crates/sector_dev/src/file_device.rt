@@ -1,7 +1,7 @@
 //! A device over a file.
 ghost use Rattle.std.specs.Prelude.{◌≡◌, ◌+◌, ◌*◌, ◌%◌, ◌<◌, ◌≤◌, ◌^◌, ◌-◌, length, IfOk};
 ghost use Rattle.byte_lists.specs.declared.format.TheConstants.{SECTOR};
-ghost use Rattle.sector_dev.specs.PositionedFile.{IsHonestFile, CoversDirty};
+ghost use Rattle.sector_dev.specs.PositionedFile.{IsHonestFile, CoversDirty, LeavesFile, SyncsFile};
 
 use crate::trail::{HoldsBytes, Trail};
 use crate::transfers::{read_whole, write_whole};
@@ -30,7 +30,7 @@ impl<F: PositionedFile> HoldsBytes for FileDevice<F> {
 }
 
 impl<F: PositionedFile> FileDevice<F> {
-    ghost use Rattle.sector_dev.specs.FileDevice.{IsMadeOver, file_disk, file_of, file_state};
+    ghost use Rattle.sector_dev.specs.FileDevice.{IsMadeOver, CoversImages, file_disk, file_of, file_state};
     ghost use Rattle.sector_dev.specs.Calls.{one_more};
 
     /// A device over the file's whole sectors. The bytes after them are never touched. The error is
@@ -38,7 +38,8 @@ impl<F: PositionedFile> FileDevice<F> {
     pub fn new(mut file: F) -> io::Result<FileDevice<F>>
     where
         F: Drop,
-        ensures { IfOk result (λ device. IsMadeOver (F.state file) (file_disk device)) }
+        ensures disk { IfOk result (λ device. IsMadeOver (F.state file) (file_disk device)) }
+        ensures file { IfOk result (λ device. LeavesFile (F.state file) (file_state device)) }
     {
         let sectors = file.size()? / SECTOR as u64;
         let trail = Trail::over(&file);
@@ -58,6 +59,12 @@ impl<F: PositionedFile> FileDevice<F> {
         file
     }
 
+    /// Whatever a stop may leave of an honest file now is, in the device's sectors, an image of the
+    /// device now. The call does nothing.
+    pub fn covers_images(&self)
+        ensures { CoversImages (file_state self.now) (file_disk self.now) }
+    {}
+
     // Counts a failed call, and returns its error.
     fn count(&mut self) -> DevError
         ensures disk { file_disk self.new ≡ record (file_disk self.old) { faults = one_more self.old.faults } }
@@ -71,7 +78,7 @@ impl<F: PositionedFile> FileDevice<F> {
 impl<F: PositionedFile> Device for FileDevice<F> {
     ghost use Rattle.std.proofs.Common.{arith};
     ghost use Rattle.sector_dev.specs.Calls.{ReadCall, WriteCall, SyncCall};
-    ghost use Rattle.sector_dev.specs.FileDevice.{file_disk, file_state, FailsWithFile};
+    ghost use Rattle.sector_dev.specs.FileDevice.{file_disk, file_state, FailsWithFile, CoversCall, WritesWhole};
     ghost use Rattle.sector_dev.specs.FileLaws.{whole_front};
 
     ghost disk = { file_disk };
@@ -91,6 +98,8 @@ impl<F: PositionedFile> Device for FileDevice<F> {
         requires inside { SECTOR * at + length into.old ≤ SECTOR * (file_disk self.old).sectors }
         ensures read { ReadCall at into.new result (file_disk self.old) (file_disk self.new) }
         ensures failures { FailsWithFile result (file_state self.old) (file_state self.new) }
+        ensures file { LeavesFile (file_state self.old) (file_state self.new) }
+        ensures covered { CoversCall (file_state self.old) (file_state self.new) (file_disk self.old) (file_disk self.new) }
     {
         match read_whole(&mut self.file, SECTOR as u64 * at, into) {
             Ok(()) => Ok(()),
@@ -103,6 +112,8 @@ impl<F: PositionedFile> Device for FileDevice<F> {
         requires inside { SECTOR * at + length bytes.now ≤ SECTOR * (file_disk self.old).sectors }
         ensures write { WriteCall at bytes.now result (file_disk self.old) (file_disk self.new) }
         ensures failures { FailsWithFile result (file_state self.old) (file_state self.new) }
+        ensures file { WritesWhole (SECTOR * at) bytes.now result (file_state self.old) (file_state self.new) }
+        ensures covered { CoversCall (file_state self.old) (file_state self.new) (file_disk self.old) (file_disk self.new) }
     {
         let offset = SECTOR as u64 * at;
         let trail = self.trail.wrote(&*self, offset, bytes.len());
@@ -116,6 +127,8 @@ impl<F: PositionedFile> Device for FileDevice<F> {
     fn sync(&mut self) -> Result<(), DevError>
         ensures sync { SyncCall result (file_disk self.old) (file_disk self.new) }
         ensures failures { FailsWithFile result (file_state self.old) (file_state self.new) }
+        ensures file { SyncsFile result (file_state self.old) (file_state self.new) }
+        ensures covered { CoversCall (file_state self.old) (file_state self.new) (file_disk self.old) (file_disk self.new) }
     {
         match self.file.sync_data() {
             Ok(()) => {

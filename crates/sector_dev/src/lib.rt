@@ -6,6 +6,7 @@
 //! for several calls, one after the other.
 #![tactic(auto)]
 
+mod cached_file;
 mod counted_file;
 mod device;
 mod fault_device;
@@ -22,6 +23,7 @@ mod trail;
 mod transfers;
 
 pub use byte_lists::SECTOR;
+pub use cached_file::CachedFile;
 pub use counted_file::{CountedFile, SystemFile};
 pub use device::{DevError, Device};
 pub use fault_device::FaultDevice;

@@ -2,6 +2,7 @@
 ghost use Rattle.std.specs.Prelude.{◌≡◌, true, []};
 ghost use Rattle.byte_lists.specs.Content.{AreBytes};
 
+use crate::trail::Trail;
 use crate::{FileCalls, FileStatus};
 use std::io;
 
@@ -11,6 +12,8 @@ use std::io;
 pub struct MemFile {
     bytes: Vec<u8>,
     at_most: usize,
+    trail: Trail,
+    ghost clean: { trail.dirty ≡ [] },
     ghost are_bytes: { AreBytes bytes.items },
 }
 
@@ -19,10 +22,14 @@ impl MemFile {
 
     /// A file of these bytes. One transfer moves at most `at_most` bytes.
     pub fn new(bytes: Vec<u8>, at_most: usize) -> MemFile
-        ensures state { memory_state result ≡ record { is_honest = true; bytes = bytes.items; dirty = []; failures = 0 } }
+        ensures state { memory_state result ≡ record { is_honest = true; bytes = bytes.items; dirty = []; past = []; failures = 0 } }
         ensures most { transfer_limit result ≡ at_most }
     {
-        MemFile { bytes, at_most }
+        MemFile {
+            bytes,
+            at_most,
+            trail: Trail::new(),
+        }
     }
 
     // The number of bytes that one transfer moves at an offset, where `asked` bytes are asked for.
@@ -80,6 +87,8 @@ impl FileCalls for MemFile {
             return Ok(0);
         }
         let start = offset as usize;
+        // No write is lost, so that nothing is dirty after it.
+        self.trail = self.trail.synced(&self.bytes);
         self.bytes[start..start + n].copy_from_slice(&bytes[..n]);
         Ok(n)
     }

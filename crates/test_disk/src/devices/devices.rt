@@ -19,7 +19,7 @@ impl FileCalls for FourSectors {
     ghost use Rattle.std.specs.Prelude.{false, [], ⊤};
     ghost use Rattle.std.proofs.Common.{arith};
 
-    ghost state = { λ _. record { is_honest = false; bytes = []; dirty = []; failures = 0 } };
+    ghost state = { λ _. record { is_honest = false; bytes = []; dirty = []; past = []; failures = 0 } };
 
     ghost returned_status = { λ _ status. ⊤ };
 

@@ -1,7 +1,7 @@
 //! A device over a file in memory.
 use crate::devices::calls::{CALLS, assert_answer, assert_call, assert_calls, assert_sectors};
 use crate::devices::same::assert_same;
-use sector_dev::{CountedFile, Device, FileDevice, MemDevice, MemFile, SECTOR};
+use sector_dev::{CachedFile, CountedFile, Device, FileDevice, MemDevice, MemFile, SECTOR};
 use std::alloc::Global;
 use std::process::Abort;
 use std::test::Fail;
@@ -51,6 +51,40 @@ fn a_file_that_moves_nothing_is_a_fault(rt: HostRuntime) -> Result<(), Fail> {
     let mut device = device_of(rt.alloc(), bytes, 0)?;
     for (number, wanted) in MOVES.iter().enumerate() {
         assert_call(&rt, &mut device, number as u64, *wanted, &number);
+    }
+    Ok(())
+}
+
+// The bytes of a file after this number of calls and a stop. One transfer moves at most 100 bytes.
+fn bytes_after_stop(rt: &impl Abort, alloc: Global, calls: u64) -> Result<Vec<u8>, Fail> {
+    let bytes = vec![in alloc; 7; 2048]?;
+    let file = CountedFile::new(alloc, CachedFile::new(alloc, bytes, 100)?)?;
+    let mut device = FileDevice::new(file)?;
+    for number in 0..calls {
+        assert_answer(rt, &mut device, number, true, &calls);
+    }
+    Ok(device.into_file().into_calls().stop())
+}
+
+// The number of calls before a stop, and the byte that then fills each sector.
+const KEPT: [(u64, [u8; 4]); 7] = [
+    (0, [7, 7, 7, 7]),
+    (1, [7, 7, 7, 7]),
+    (2, [7, 0x11, 7, 7]),
+    (3, [7, 0x11, 7, 7]),
+    (4, [7, 0x11, 7, 7]),
+    (5, [7, 0x11, 7, 7]),
+    (6, [7, 0x33, 0x22, 0x22]),
+];
+
+#[test]
+fn a_stop_loses_what_was_not_synced(rt: HostRuntime) -> Result<(), Fail> {
+    for (calls, wanted) in &KEPT {
+        let bytes = bytes_after_stop(&rt, rt.alloc(), *calls)?;
+        assert_eq!(rt; bytes.len(), 2048);
+        for (i, byte) in bytes.iter().enumerate() {
+            assert_same(&rt, byte, &wanted[i / SECTOR], &(*calls, i));
+        }
     }
     Ok(())
 }
