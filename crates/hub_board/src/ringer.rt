@@ -9,9 +9,9 @@ use std::time::Duration;
 /// The longest sleep of the thread that rings, in milliseconds.
 const LONGEST_SLEEP: u64 = 10;
 
-/// The bells of commands that were handed in, by their numbers. A thread of its own rings them, so
-/// that the thread that answers a whole group does not wait until all are woken. Where there is no
-/// such thread, the thread that answers rings them.
+/// The bells of commands that were handed in, by their numbers. A thread of its own rings several
+/// bells, so that the thread that answers a whole group does not wait until all are woken. A bell
+/// alone is rung by the thread that answers, and so are all where no thread runs the ringer.
 #[derive(Drop)]
 pub struct Ringer {
     bells: Bells,
@@ -44,9 +44,9 @@ impl Ringer {
         self.due.lock(rt)[(number % BELLS as u64) as usize] = true;
     }
 
-    /// Has the bells rung that are noted: by the thread of the ringer, where there is one.
+    /// Has the bells rung that are noted: several by the thread of the ringer, where there is one.
     pub fn call<R: Wait>(&self, rt: &R) {
-        if self.has_thread.load(Ordering::SeqCst) {
+        if self.has_thread.load(Ordering::SeqCst) && self.count_due(rt) > 1 {
             self.calls.notify_all();
         } else {
             self.ring(rt);
@@ -77,6 +77,11 @@ impl Ringer {
                 .sleep(rt, seen, Duration::from_millis(LONGEST_SLEEP));
         }
         unreachable!()
+    }
+
+    /// The number of bells that are noted.
+    fn count_due<R: Wait>(&self, rt: &R) -> usize {
+        self.due.lock(rt).iter().filter(|is_due| **is_due).count()
     }
 
     /// Rings the bells that are noted.

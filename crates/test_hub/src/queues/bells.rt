@@ -48,10 +48,27 @@ fn ended_ringer_rings_what_is_noted(rt: HostRuntime) -> Result<(), Fail> {
     let ringer = Ringer::new();
     ringer.expect_thread();
     ringer.note(&rt, 3);
+    ringer.note(&rt, 5);
     ringer.call(&rt);
     assert_rung(&rt, &ringer, 0, 0);
     ringer.end();
     ringer.run(&rt);
+    assert_rung(&rt, &ringer, 1, 1);
+    Ok(())
+}
+
+// A bell alone is rung by the call, also where a thread is expected.
+#[test]
+fn one_bell_is_rung_at_once(rt: HostRuntime) -> Result<(), Fail> {
+    let ringer = Ringer::new();
+    ringer.expect_thread();
+    ringer.call(&rt);
+    assert_rung(&rt, &ringer, 0, 0);
+    ringer.note(&rt, 3);
+    ringer.note(&rt, BELLS + 3);
+    ringer.call(&rt);
+    assert_rung(&rt, &ringer, 1, 0);
+    ringer.call(&rt);
     assert_rung(&rt, &ringer, 1, 0);
     Ok(())
 }
