@@ -41,7 +41,7 @@ fn rows_at(alloc: Global, db: &PathDb, keys: &[Key]) -> Result<Vec<Option<Row>>,
     Ok(rows)
 }
 
-/// The database of rows after commands.
+/// The database of rows after commands. It has no indexes, as its rows are read by their keys alone.
 fn database_of(
     alloc: Global,
     rows: Vec<(SegType, Segment)>,
@@ -49,7 +49,7 @@ fn database_of(
 ) -> Result<PathDb, AllocError>
     ensures { IfOk result (λ db. db ≡ database_after_all [] (Register rows.items ∷ commands.now)) }
 {
-    let mut db = PathDb::new(alloc);
+    let mut db = PathDb::new(alloc).without_indexes();
     db.apply(&Command::Register(Registration::new(rows)))?;
     apply_all(&mut db, commands)?;
     Ok(db)
