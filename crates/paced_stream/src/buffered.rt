@@ -120,7 +120,11 @@ fn drop_front(held: &mut Vec<u8>, count: usize)
     requires { count ≤ length held.old.items }
     ensures { held.new.items ≡ drop count held.old.items }
 {
-    held.drain(..count);
+    if count == held.len() {
+        held.clear();
+    } else {
+        held.drain(..count);
+    }
 }
 
 /// Writes a front of the bytes, of at least one byte, and returns the length of that front. A write
