@@ -17,7 +17,7 @@ use std::alloc::Global;
 
 /// What a device opens with, of which `open` would make a store, in the order of its refusals. The
 /// device is only read, so that it is unchanged, and one that cannot be written is enough. No more
-/// of it is read than counts, in pieces of at most 1 MiB.
+/// of it is read than counts, in pieces of at most 16 MiB.
 pub fn look<D: Device>(alloc: Global, device: &mut D) -> Result<Folded, OpenError>
     ensures seen { IfOk result (IsSeenOn (D.disk device.old)) }
     ensures whole { IfOk result (λ folded. IsDatabase folded.db) }

@@ -23,7 +23,7 @@ use std::alloc::Global;
 
 /// Opens a device with a store, after any stop: syncs, reads what the image opens with, folds it,
 /// closes the gates that read open of the half that is not used, and syncs. Only the parts of the
-/// device that count are read, in pieces of at most 1 MiB. A device that is not opened is returned
+/// device that count are read, in pieces of at most 16 MiB. A device that is not opened is returned
 /// with the error.
 pub fn open<D: Device>(alloc: Global, device: D) -> Result<Store<D>, (D, OpenError)>
     ensures opened { IfOk result (λ store. IsHonest (D.disk device) → IsOpened (reads_of (D.disk device)) store) }

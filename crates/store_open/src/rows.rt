@@ -26,11 +26,12 @@ use sector_dev::{Device, SECTOR};
 use std::alloc::Global;
 use store_layout::{Geometry, Half};
 
-/// The most sectors that are read at a time: 1 MiB.
-const MOST_READ: u64 = 2048;
+/// The most sectors that are read at a time: 16 MiB. Each piece is one call of the device, and its
+/// rows are shared out among the threads of an opening.
+const MOST_READ: u64 = 32_768;
 
 /// Reads the rows of the area that begins at a sector, which have `size` bytes, in pieces of at
-/// most 1 MiB, each in this way.
+/// most 16 MiB, each in this way.
 pub(crate) fn feed_area<B: RowReading, D: Device>(
     by: &B,
     alloc: Global,
