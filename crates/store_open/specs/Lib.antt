@@ -15,3 +15,4 @@ pub mod RowWrites
 pub mod Open
 pub mod Folded
 pub mod ErrorNumbers
+pub mod Titles

@@ -11,8 +11,11 @@ ghost use Rattle.sector_dev.specs.Calls.{Keeps, count_after};
 ghost use Rattle.store_layout.specs.FirstSector.{store_magic, layout_number, geometry_in};
 ghost use Rattle.store_layout.specs.Layout.{IsGeometry, image_sectors};
 ghost use Rattle.store_layout.specs.Geometry.{geometry_view};
+ghost use Rattle.store_open.specs.Looking.{LooksAt};
 ghost use Rattle.store_open.specs.NewStore.{DeviceHasRoomFor};
+ghost use Rattle.store_open.specs.Titles.{has_title, is_named_store, HasSizes, IsTitle};
 
+use crate::reading::read_sector;
 use crate::title::{CHECKPOINT_AT, JOURNAL_AT, LAYOUT, LAYOUT_AT, STORE_MAGIC};
 use byte_lists::{read_u32, read_u64};
 use sector_dev::{DevError, Device, SECTOR};
@@ -61,4 +64,53 @@ fn is_named(sector: &[u8]) -> bool
     ensures { IsTrue result ↔ ((eight_at 0 sector.now ≡ store_magic) × (four_at 8 sector.now ≡ layout_number)) }
 {
     read_u64(sector, 0) == STORE_MAGIC && read_u32(sector, LAYOUT_AT) == LAYOUT
+}
+
+/// Whether sector 0 begins with the name of a store, whatever else is on the device: that of a
+/// store that was cut or damaged does too. The device is unchanged.
+pub fn has_title<D: Device>(device: &mut D) -> Result<bool, DevError>
+    ensures looks { LooksAt result (D.disk device.old) (D.disk device.new) }
+    ensures title { IfOk result (λ found. IsHonest (D.disk device.old) → found ≡ has_title (D.disk device.old)) }
+{
+    if device.sectors() == 0 {
+        return Ok(false);
+    }
+    let sector = read_sector(device, 0)?;
+    Ok(is_named_store(&sector))
+}
+
+/// Whether a sector begins with the name of a store.
+fn is_named_store(sector: &[u8]) -> bool
+    requires { length sector.now ≡ SECTOR }
+    ensures { result ≡ is_named_store sector.now }
+{
+    read_u64(sector, 0) == STORE_MAGIC
+}
+
+/// The sizes that sector 0 says of a store, however many sectors the device has; `None` where sector
+/// 0 is no store's. The device is unchanged.
+pub fn titled_sizes<D: Device>(device: &mut D) -> Result<Option<Geometry>, DevError>
+    ensures looks { LooksAt result (D.disk device.old) (D.disk device.new) }
+    ensures sizes { IfOk result (λ found. IfSome found (λ geometry. IsHonest (D.disk device.old) → HasSizes (geometry_view geometry) (D.disk device.old))) }
+{
+    if device.sectors() == 0 {
+        return Ok(None);
+    }
+    let sector = read_sector(device, 0)?;
+    Ok(sizes_of(&sector))
+}
+
+/// The sizes in sector 0, where it is that of a store.
+fn sizes_of(sector: &[u8]) -> Option<Geometry>
+    requires { length sector.now ≡ SECTOR }
+    ensures { IfSome result (λ geometry. IsTitle (geometry_view geometry) sector.now) }
+{
+    if !is_named(sector) {
+        return None;
+    }
+    let geometry = Geometry {
+        checkpoint: read_u32(sector, CHECKPOINT_AT),
+        journal: read_u32(sector, JOURNAL_AT),
+    };
+    geometry.is_allowed().then_some(geometry)
 }

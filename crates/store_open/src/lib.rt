@@ -33,7 +33,7 @@ mod title;
 
 pub use closing_laws::openings_are_kept_by_closing;
 pub use error::OpenError;
-pub use first_sector::read_geometry;
+pub use first_sector::{has_title, read_geometry, titled_sizes};
 pub use folded::Folded;
 pub use in_threads::open_in_threads;
 pub use looking::look;
