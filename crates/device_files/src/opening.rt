@@ -6,22 +6,27 @@ ghost use Rattle.device_files.specs.Descriptor.{IsAboveStandard};
 
 use crate::cache::forget_cached;
 use crate::descriptor::above_standard;
-use crate::kind::device_kind;
+use crate::kind::{DeviceKind, check_path, device_kind};
+use crate::writable::check_writable;
 use sector_dev::SystemFile;
 use std::fs::{File, OpenOptions};
 use std::io;
 use std::rt::Files;
 
 /// Opens a file or a block device, which this process alone may read and write. Where another
-/// process has it open by a function of this library, the error is `WouldBlock`.
+/// process has it open by a function of this library, the error is `WouldBlock`. A block device that
+/// the system does not let anybody write, though it opens it, is refused by the system's error.
 pub fn open<R: AllocGlobal + Files<File = File>>(rt: &R, path: &str) -> io::Result<SystemFile>
     ensures failures { IfOk result (λ file. failures_of file ≡ 0) }
     ensures above { IfOk result (λ file. IsAboveStandard (calls_of file)) }
 {
+    check_path(rt, path)?;
     let file = OpenOptions::new().read(true).write(true).open(rt, path)?;
     let file = above_standard(file)?;
     file.try_lock()?;
-    device_kind(&file)?;
+    if let DeviceKind::Block = device_kind(&file)? {
+        check_writable(&file)?;
+    }
     forget_cached(&file);
     SystemFile::new(rt.alloc(), file)
 }
@@ -36,6 +41,7 @@ pub fn open_to_read<R: AllocGlobal + Files<File = File>>(
     ensures failures { IfOk result (λ file. failures_of file ≡ 0) }
     ensures above { IfOk result (λ file. IsAboveStandard (calls_of file)) }
 {
+    check_path(rt, path)?;
     let file = OpenOptions::new().read(true).open(rt, path)?;
     let file = above_standard(file)?;
     file.try_lock_shared()?;

@@ -1,0 +1,91 @@
+//! A file that is locked, before anything in it is changed.
+
+ghost use Rattle.std.specs.Prelude.{◌≡◌, IfOk};
+ghost use Rattle.sector_dev.specs.CountedFile.{calls_of, failures_of};
+ghost use Rattle.device_files.specs.Descriptor.{IsAboveStandard};
+
+use crate::cache::forget_cached;
+use crate::descriptor::above_standard;
+use crate::kind::{DeviceKind, check_path, device_kind};
+use sector_dev::SystemFile;
+use std::alloc::Global;
+use std::fs::{File, OpenOptions};
+use std::rt::Files;
+use std::{fs, io};
+
+/// A file or a block device that this process alone may read and write, as it was found.
+#[derive(Drop)]
+pub struct LockedFile {
+    file: File,
+    kind: DeviceKind,
+}
+
+impl LockedFile {
+    /// Opens and locks the file of a path. Where there is none, an empty one is made; one that
+    /// exists is unchanged. Where another process has it open by a function of this library, the
+    /// error is `WouldBlock`.
+    pub fn open<R: AllocGlobal + Files<File = File>>(rt: &R, path: &str) -> io::Result<LockedFile> {
+        check_path(rt, path)?;
+        let file = OpenOptions::new()
+            .read(true)
+            .write(true)
+            .create(true)
+            .open(rt, path)?;
+        let file = above_standard(file)?;
+        file.try_lock()?;
+        let kind = device_kind(&file)?;
+        Ok(LockedFile { file, kind })
+    }
+
+    /// The file as it was found, to look at it. It shares the lock, which lasts as long as one of
+    /// both.
+    pub fn as_found(&self, alloc: Global) -> io::Result<SystemFile>
+        ensures failures { IfOk result (λ file. failures_of file ≡ 0) }
+        ensures above { IfOk result (λ file. IsAboveStandard (calls_of file)) }
+    {
+        let file = above_standard(self.file.try_clone()?)?;
+        forget_cached(&file);
+        SystemFile::new(alloc, file)
+    }
+
+    /// The file, cut to nothing and then of `len` zero bytes. The file, its length and its name in
+    /// its folder are synced before the call returns `Ok`. A block device is unchanged, whatever
+    /// `len` is.
+    pub fn into_zeros<R: AllocGlobal + Files<File = File>>(
+        self,
+        rt: &R,
+        path: &str,
+        len: u64,
+    ) -> io::Result<SystemFile>
+        ensures failures { IfOk result (λ file. failures_of file ≡ 0) }
+        ensures above { IfOk result (λ file. IsAboveStandard (calls_of file)) }
+    {
+        let LockedFile { file, kind } = self;
+        let file = above_standard(file)?;
+        match kind {
+            DeviceKind::File => {
+                set_zeros(&file, len)?;
+                sync_folder(rt, path)?;
+            }
+            DeviceKind::Block => forget_cached(&file),
+        }
+        SystemFile::new(rt.alloc(), file)
+    }
+}
+
+// Gives a file `len` zero bytes, on its disk too.
+fn set_zeros(file: &File, len: u64) -> io::Result<()> {
+    file.set_len(0)?;
+    file.set_len(len)?;
+    file.sync_all()
+}
+
+// Syncs the folder that has the name of a file, which may be another one than the path's where the
+// path is a link.
+fn sync_folder<R: AllocGlobal + Files<File = File>>(rt: &R, path: &str) -> io::Result<()> {
+    let path = fs::canonicalize(rt, path)?;
+    match path.parent() {
+        Some(folder) => File::open(rt, folder)?.sync_all(),
+        None => Ok(()),
+    }
+}
