@@ -3,13 +3,12 @@ package pathd
 import (
 	"context"
 	"encoding/binary"
+	"encoding/csv"
 	"errors"
 	"io"
 	"net"
 	"os"
-	"regexp"
 	"strconv"
-	"strings"
 	"sync"
 	"testing"
 	"time"
@@ -214,27 +213,23 @@ func TestRefusals(t *testing.T) {
 }
 
 func TestTheCodesAreThoseOfTheProtocol(t *testing.T) {
-	page, err := os.ReadFile(os.Getenv("PROTOCOL"))
+	file, err := os.Open(os.Getenv("CODES"))
 	if err != nil {
-		t.Skip("PROTOCOL is the path of docs/PROTOCOL.md")
+		t.Skip("CODES is the path of docs/codes.csv")
 	}
-	table, _, _ := strings.Cut(strings.SplitAfter(string(page), "| code | refusal | send it again |\n")[1], "\n\n")
-	count := 0
-	for _, row := range regexp.MustCompile(`(?m)^\| 0x(..)(?: to 0x(..))? \|`).FindAllStringSubmatch(table, -1) {
-		first, _ := strconv.ParseUint(row[1], 16, 8)
-		last, err := strconv.ParseUint(row[2], 16, 8)
-		if err != nil {
-			last = first
-		}
-		for ; first <= last; first++ {
-			if _, isKnown := texts[Code(first)]; !isKnown {
-				t.Errorf("%#x", first)
-			}
-			count++
+	defer file.Close()
+	rows, err := csv.NewReader(file).ReadAll()
+	if err != nil {
+		t.Fatal(err)
+	}
+	for _, row := range rows[1:] {
+		code, err := strconv.ParseUint(row[0], 0, 8)
+		if _, isKnown := texts[Code(code)]; err != nil || !isKnown {
+			t.Errorf("%s %v", row[0], err)
 		}
 	}
-	if count != len(texts) {
-		t.Errorf("%d of %d codes", count, len(texts))
+	if len(rows)-1 != len(texts) {
+		t.Errorf("%d of %d codes", len(rows)-1, len(texts))
 	}
 }
 

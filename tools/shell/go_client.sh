@@ -20,6 +20,6 @@ protoc --proto_path="$top/docs" --go_out="$work/src" segments.proto
 unformatted=$(gofmt -l "$top/clients")
 [ -z "$unformatted" ] || { echo "gofmt would change: $unformatted" >&2; exit 1; }
 cd "$work/src/pathd"
-export GO111MODULE=off GOFLAGS= GOPATH="$work:/usr/share/gocode" PATHD=$program PROTOCOL=$top/docs/PROTOCOL.md
+export GO111MODULE=off GOFLAGS= GOPATH="$work:/usr/share/gocode" PATHD=$program CODES=$top/docs/codes.csv
 go vet .
 go test -count=1 .

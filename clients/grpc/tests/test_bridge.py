@@ -1,6 +1,7 @@
 """Calls over a bridge before a fake `pathd`: bytes, statuses, deadlines, sessions that end."""
 from __future__ import annotations
 
+import csv
 import re
 import threading
 import time
@@ -16,7 +17,7 @@ from pathd_grpc.sessions import MOST_REPLY, MOST_REQUEST
 from pathd_grpc.statuses import REFUSALS
 
 FOLDER = Path(__file__).resolve().parents[1]
-PROTOCOL = FOLDER.parents[1] / "docs" / "PROTOCOL.md"
+CODES = FOLDER.parents[1] / "docs" / "codes.csv"
 # A request with a field that no message has, and with a long varint: nothing of it may change.
 ODD = bytes.fromhex("0880808000 fa0103616263 10ff01")
 
@@ -61,8 +62,8 @@ class Statuses(BridgeCase):
         self.assertEqual(self.refusal(channel, SEGMENTS, b"\x7e").code(), StatusCode.INTERNAL)
 
     def test_the_codes_are_those_of_the_protocol(self) -> None:
-        table = PROTOCOL.read_text().partition("| code | refusal | send it again |\n")[2].partition("\n\n")[0]
-        self.assertEqual(set(REFUSALS), codes_of("".join(re.findall(r"^\| (0x.*?) \|", table, re.M))))
+        with open(CODES, newline="", encoding="utf-8") as file:
+            self.assertEqual(set(REFUSALS), {int(row["code"], 16) for row in csv.DictReader(file)})
 
     def test_the_page_has_the_same_statuses(self) -> None:
         rows = re.findall(r"^\| (0x.*?) \| `([A-Z_]+)` \|", (FOLDER / "README.md").read_text(), re.M)

@@ -1,39 +1,34 @@
-"""The names of codes, beside the table of docs/PROTOCOL.md."""
+"""The names of codes, beside docs/codes.csv."""
 from __future__ import annotations
 
+import csv
 import re
 import unittest
 from pathlib import Path
 
 from pathd_client import PASSING_CODES, Code, Refused
 
-RANGE = re.compile(r"^\| (0x[0-9a-f]+)(?: to (0x[0-9a-f]+))? \|", re.MULTILINE)
-PROTOCOL = Path(__file__).resolve().parents[3] / "docs" / "PROTOCOL.md"
+CODES = Path(__file__).resolve().parents[3] / "docs" / "codes.csv"
 
 
-def numbers_of(text: str) -> set[int]:
-    """The codes of the table of refusals."""
-    numbers: set[int] = set()
-    table = text.split("| code | refusal | send it again |", 1)[1].split("\n\n", 1)[0]
-    for first, last in RANGE.findall(table):
-        numbers |= set(range(int(first, 16), int(last or first, 16) + 1))
-    return numbers
+def names_by_code() -> dict[int, str]:
+    """The codes of refusals, with their names; a code without one has the empty text."""
+    with open(CODES, newline="", encoding="utf-8") as file:
+        return {int(row["code"], 16): row["name"] for row in csv.DictReader(file)}
 
 
 class Codes(unittest.TestCase):
     """Each code has a name and a meaning."""
 
-    @unittest.skipUnless(PROTOCOL.exists(), "docs/PROTOCOL.md is not here")
+    @unittest.skipUnless(CODES.exists(), "docs/codes.csv is not here")
     def test_codes_are_those_of_the_protocol(self) -> None:
-        text = PROTOCOL.read_text(encoding="utf-8")
-        self.assertEqual({code.value for code in Code}, numbers_of(text))
+        self.assertEqual({code.value for code in Code}, set(names_by_code()))
 
-    @unittest.skipUnless(PROTOCOL.exists(), "docs/PROTOCOL.md is not here")
+    @unittest.skipUnless(CODES.exists(), "docs/codes.csv is not here")
     def test_names_are_those_of_the_protocol(self) -> None:
-        text = PROTOCOL.read_text(encoding="utf-8")
-        for number, name in re.findall(r"^\| (0x[0-9a-f]+) \| ([A-Z]\w+): ", text, re.MULTILINE):
+        for number, name in names_by_code().items():
             words = re.sub(r"(?<=[a-z])(?=[A-Z])", "_", name).upper()
-            self.assertTrue(Code(int(number, 16)).name.endswith(words), name)
+            self.assertTrue(Code(number).name.endswith(words), name)
 
     def test_a_code_is_its_number(self) -> None:
         self.assertEqual(Code.BUSY, 0x51)
