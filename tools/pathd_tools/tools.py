@@ -13,6 +13,7 @@ PAGES = [
     Tool("uses", "pages.uses", "each use on a crate's page is in the sources that the page links"),
     Tool("apart", "pages.apart", "no crate of the program uses a crate of tests"),
     Tool("help-texts", "pages.help_texts", "the man page and the completions have the program's commands and options"),
+    Tool("codes", "pages.codes", "the pages, the crate and the clients have the codes of docs/codes.csv; --write"),
     Tool("metric-names", "pages.metric_names", "the alert rules, the dashboard and the pages have the names of the server's numbers"),
     Tool("edits", "pages.edits", "tries the wrong bodies of crates by the prover, in a copy of the repository"),
 ]

@@ -1,6 +1,6 @@
 """Compares what watches a server with the page of its numbers. The names and types of the numbers
 and the values of their labels are those of crates/status_page/specs/, which the contract of the
-page cites; the codes of refusals are those of docs/PROTOCOL.md. It prints nothing where
+page cites; the codes of refusals are those of docs/codes.csv. It prints nothing where
 
 - src/ of that crate has the same names,
 - deploy/pathd.rules.yml and deploy/grafana-dashboard.json use no other name, no other value of a
@@ -16,6 +16,7 @@ import json
 import re
 from pathlib import Path
 
+from pathd_tools.pages import codes
 from pathd_tools.pages.source import CRATES, TOP
 from pathd_tools.toolbox import parser
 
@@ -53,16 +54,10 @@ def names(text: str, known: dict[str, str]) -> set[str]:
 
 def labels(specs: str) -> dict[str, set[str]]:
     """The values of each label."""
-    found: dict[str, set[str]] = {"code": set(re.findall(r"\b0x([0-9a-f]{2})\b", codes()))}
+    found: dict[str, set[str]] = {"code": {f"{row.code:02x}" for row in codes.rows()}}
     for label, value in re.findall(r'codes "(kind|phase|call|reason|cause)=\\"(\w+)\\""', specs):
         found.setdefault(label, set()).add(value)
     return found
-
-
-def codes() -> str:
-    """The first column of the table of codes, with each code of its ranges."""
-    rows = re.findall(r"^\| (0x[0-9a-f]{2})(?: to 0x([0-9a-f]{2}))? \|", (TOP / "docs/PROTOCOL.md").read_text(), re.M)
-    return " ".join(f"0x{it:02x}" for first, last in rows for it in range(int(first, 16), int(last or first[2:], 16) + 1))
 
 
 def expressions() -> dict[Path, str]:

@@ -20,12 +20,13 @@ import sys
 from pathlib import Path
 
 from pathd_tools.pages import source
+from pathd_tools.pages.pages import put_block
 from pathd_tools.pages.source import CRATES, TOP, Definition, Function
 from pathd_tools.toolbox import parser
 
 PROOFS = TOP / "docs" / "PROOFS.md"
 THEOREM = TOP / "docs" / "THEOREM.md"
-BEGIN, END = "<!-- tools/pathd-tools reading --write{} -->", "<!-- end -->"
+BEGIN = "<!-- tools/pathd-tools reading --write{} -->"
 # What a file of code uses of a crate: the crate, and the names, whose list may take several lines.
 USE = re.compile(r"^use (\w+)::(?:\w+::)*(\{[^}]*\}|\w+);", re.M)
 
@@ -299,18 +300,3 @@ def main(words: list[str]) -> int:
         print(table())
         return 0
     return sum(put_block(path, BEGIN.format(which), make(), chosen.write) for path, which, make in blocks) and 1
-
-
-def put_block(path: Path, begin: str, made: str, writes: bool) -> int:
-    """Writes what is between two marks of a page, or says that the page has something else there: 1 where it has."""
-    text = path.read_text()
-    kept = re.search(rf"{re.escape(begin)}.*?{re.escape(END)}", text, re.S)
-    wanted = f"{begin}\n{made}\n{END}"
-    if not kept:
-        sys.exit(f"no {begin} in {path}")
-    if writes:
-        path.write_text(text.replace(kept[0], wanted))
-    elif kept[0] != wanted:
-        print(f"{path.relative_to(TOP)}: what is to be read is another: run tools/pathd-tools reading --write")
-        return 1
-    return 0
