@@ -17,6 +17,8 @@ CLAUSE = re.compile(r"^\s*(ensures|requires)\s+(\w+)?\s*\{")
 DEFINITION = re.compile(r"^(\s*)(?:unfoldable (?:pub )?|abbrev (?:pub )?|(?:pub )?(?:data|record) (?=.* (?:: Type|where)))([^\s:{]+)(?=\s|$)")
 IMPORT = re.compile(r"^\s*(?:pub )?(?:ghost )?use ([\w.◌]+)(?:\.\{([^}]*)\}| as (\w+));?\s*$")
 WORD = re.compile(r"[^\s(){}\[\];,λ]+")
+# What is no code: comments, texts and single characters.
+NO_CODE = re.compile(r"""//[^\n]*|b?"(?:\\.|[^"\\])*"|b?'(?:\\u\{\w*\}|\\x..|\\.|[^'\\\n])'""", re.S)
 
 
 @dataclass
@@ -76,6 +78,11 @@ def libraries() -> list[str]:
 @cache
 def lines_of(path: Path) -> tuple[str, ...]:
     return tuple(path.read_text().splitlines())
+
+
+def masked(text: str) -> str:
+    """The text of a file of code with spaces in place of comments, texts and characters."""
+    return NO_CODE.sub(lambda it: re.sub(r"[^\n]", " ", it[0]), text)
 
 
 def code_lines(lines: tuple[str, ...] | list[str]) -> list[str]:
