@@ -1,5 +1,5 @@
-"""Builds a program of a repository without its proofs, for measurements and for attacks on wrong
-bodies.
+"""Builds a program of a repository, or the tests of a crate, without proofs: for tests in minutes,
+for measurements, and for attacks on wrong bodies.
 
 `rt try` compiles a program without proving it, checks what it does as it runs, and keeps nothing.
 Here it is run by a kit whose clang keeps the module that it is given and stops. That module is then
@@ -9,15 +9,20 @@ slower than the proved one, and nothing is known of it.
 """
 from __future__ import annotations
 
+import os
 import shutil
-import subprocess
-import sys
 import tempfile
+from collections.abc import Sequence
 from pathlib import Path
+from typing import Any
+
+from pathd_tools import bounded
 
 TARGET = "x86_64-unknown-linux-gnu"
 # Words of rt try's clang that ask for its checks, for their speed of compilation, or for files.
 LEFT_OUT = {"-O0", "-fsanitize=address", "-Werror"}
+# The seconds that each step of a build may take: a minute is enough on a machine with nothing else to do.
+LIMIT = 3600
 # The least bytes of a module of a program; `rt try` also compiles small ones of its own.
 LEAST = 20_000
 KEEPING = """#!/bin/sh
@@ -34,6 +39,10 @@ for word in "$@"; do
 done
 exec '{clang}' "$@"
 """
+
+
+class NotBuilt(SystemExit):
+    """Says why a program is not built. It ends a tool that does not catch it."""
 
 
 def kit_of_rt() -> Path:
@@ -57,9 +66,11 @@ def keeping_kit(kit: Path, folder: Path) -> Path:
     (folder / "kept").mkdir()
     link_all(kit, folder / "kit", {"bin", "toolchain"})
     # The kit's programs in Python find their kit by their own place.
-    link_all(kit / "bin", folder / "kit" / "bin", {"rt", "rtlib.py"})
+    link_all(kit / "bin", folder / "kit" / "bin", {"rt", "rtlib.py", "rattle"})
     for name in ("rt", "rtlib.py"):
         shutil.copy(kit / "bin" / name, folder / "kit" / "bin" / name)
+    # A prover that does nothing: rt try asks it for a hint alone, at the price of a second front end.
+    (folder / "kit" / "bin" / "rattle").symlink_to("/bin/true")
     link_all(kit / "toolchain", folder / "kit" / "toolchain", {"bin"})
     link_all(kit / "toolchain" / "bin", folder / "kit" / "toolchain" / "bin", {"clang"})
     clang = folder / "kit" / "toolchain" / "bin" / "clang"
@@ -68,13 +79,19 @@ def keeping_kit(kit: Path, folder: Path) -> Path:
     return folder / "kit"
 
 
-def keep_module(crate: Path, kit: Path, kept: Path) -> list[str]:
-    """Has a program's module kept, and answers the words with which it was to be compiled."""
-    words = [str(kit / "bin" / "rt"), "try", "--steps", "1", "--seconds", "1"]
-    done = subprocess.run(words, cwd=crate, stdin=subprocess.DEVNULL, capture_output=True, text=True, errors="replace", check=False)
-    if not (kept / "words").exists():
-        sys.stderr.write(done.stderr)
-        raise SystemExit(f"{crate.name} is not compiled")
+def step(words: Sequence[str | Path], what: str, made: Path, **how: Any) -> None:
+    """Runs a step of a build that makes a file, or raises NotBuilt."""
+    done = bounded.run(words, LIMIT, **how)
+    if done.is_late:
+        raise NotBuilt(f"{done.text}{what} had not ended after {LIMIT} s")
+    if not made.exists():
+        raise NotBuilt(f"{done.text}{what} failed")
+
+
+def keep_module(crate: Path, kit: Path, kept: Path, has_tests: bool) -> list[str]:
+    """Has the module of a program, or of a crate's tests, kept, and answers the words with which it was to be compiled."""
+    words = [str(kit / "bin" / "rt"), "try", *(["--test"] if has_tests else []), "--steps", "1", "--seconds", "1"]
+    step(words, f"rt try in {crate.name}", kept / "words", cwd=crate, env={**os.environ, "TMPDIR": str(kept.parent)})
     return (kept / "words").read_text().splitlines()
 
 
@@ -87,14 +104,14 @@ def compiler_words(words: list[str], kit: Path, kept: Path, level: int) -> list[
     return [str(clang), *(sysroot if word.startswith("--sysroot=") else changed.get(word, word) for word in left), f"-O{level}"]
 
 
-def build(crate: Path, program: Path, level: int = 1) -> None:
-    """Builds the program of a crate's folder, by LLVM at an optimization level."""
+def build(crate: Path, program: Path, level: int = 1, has_tests: bool = False) -> None:
+    """Builds the program of a crate's folder, or that of its tests, by LLVM at an optimization level; else it raises NotBuilt."""
     kit = kit_of_rt()
     with tempfile.TemporaryDirectory(prefix="pathd-build-") as name:
         folder = Path(name)
-        words = keep_module(crate, keeping_kit(kit, folder), folder / "kept")
-        subprocess.run(compiler_words(words, kit, folder / "kept", level), check=True)
+        words = keep_module(crate, keeping_kit(kit, folder), folder / "kept", has_tests)
+        module = folder / "kept" / "module.o"
+        step(compiler_words(words, kit, folder / "kept", level), f"clang for {crate.name}", module, cwd=folder)
         libraries = [str(kit / "c" / it) for it in ("libos_c.a", "liblibc_c.a")]
         linker = [str(kit / "bin" / "rattle-link"), "--target", TARGET, "--toolchain", str(kit / "toolchain")]
-        linked = [*linker, "-o", str(program), str(folder / "kept" / "module.o"), *libraries]
-        subprocess.run(linked, check=True, stdout=subprocess.DEVNULL, stderr=subprocess.DEVNULL)
+        step([*linker, "-o", str(program), str(module), *libraries], f"the linker for {crate.name}", program)

@@ -1,13 +1,14 @@
-"""Runs every check that is no part of the gate: those of the pages, and those of the built program
-that need packages. It prints a line for each, with the output of what failed. The status is 1 where
-a check failed, else 2 where one was left out for want of something, else 0.
+"""Runs every test and check that makes no proof: `tools/pathd-tools test`, and those of the built
+program that need packages or root. It prints a line for each, with the output of what failed. The
+status is 1 where a check failed, else 2 where one was left out for want of something, else 0.
 
     tools/pathd-tools all [PROGRAM]
 
-PROGRAM is crates/pathd/out/pathd if left out, which `rt run` builds. Traffic goes over the loopback
-alone. All of it takes minutes: the longest are refused-memory, refused-calls, power-cuts and
-histories, which can be run by themselves with fewer cases. refused-tests is not among them, as it
-needs the programs of the crates of tests.
+PROGRAM is crates/pathd/out/pathd if left out, which `rt run` builds; where there is none, `test`
+builds one for its suites, and the other checks are left out. Traffic goes over the loopback alone.
+The longest are refused-memory, refused-calls, power-cuts and histories, which can be run by
+themselves with fewer cases. refused-tests is not among them, as it needs the programs of the crates
+of tests.
 """
 from __future__ import annotations
 
@@ -17,13 +18,8 @@ from pathlib import Path
 
 from pathd_tools import TOP, need, runs, toolbox
 
-PAGES = ["proofs", "reading --check", "complete", "links", "widths", "uses", "apart", "help-texts", "metric-names"]
-GRPC = """protoc python3-protobuf python3-grpcio grpc_python_plugin grpc-proto go protoc-gen-go protoc-gen-go-grpc
-golang-google-protobuf-dev golang-github-golang-protobuf-1-5-dev golang-google-grpc-dev"""
 # What each check of the program needs, and its words, in which PROGRAM is the program's path.
 PROGRAMS = [
-    ("python3", "vectors -p PROGRAM tools/cases"),
-    ("python3", "help-texts PROGRAM"),
     ("root debootstrap make", "package PROGRAM"),
     ("gcc python3", "refused-memory PROGRAM"),
     ("strace python3", "locks PROGRAM"),
@@ -32,9 +28,6 @@ PROGRAMS = [
     ("python3", "closed-handles PROGRAM"),
     ("python3", "going-on PROGRAM"),
     ("strace python3", "server-calls PROGRAM"),
-    ("python3-protobuf", "client PROGRAM"),
-    ("protoc go protoc-gen-go golang-google-protobuf-dev", "go-client PROGRAM"),
-    (GRPC, "grpc PROGRAM"),
     ("root losetup", "block-device PROGRAM"),
     ("root ip nft wg haproxy stunnel openssl python3-protobuf", "network PROGRAM"),
     ("root btrfs", "snapshots --program PROGRAM"),
@@ -57,8 +50,9 @@ def check(things: str, line: str, program: str = "") -> int:
         return LEFT_OUT
     done = subprocess.run(words, cwd=TOP, stdout=subprocess.PIPE, stderr=subprocess.STDOUT, text=True, errors="replace", check=False)
     if done.returncode == 0:
-        print(f"ok: {' '.join(words)}", flush=True)
-        return 0
+        skipped = [it for it in done.stdout.splitlines() if it.startswith("skipped")]
+        print(f"ok: {' '.join(words)}", *(f"  {it}" for it in skipped), sep="\n", flush=True)
+        return LEFT_OUT if skipped else 0
     print(f"failed with status {done.returncode}: {' '.join(words)}", *(f"  {it}" for it in done.stdout.splitlines()), sep="\n", flush=True)
     return FAILED
 
@@ -68,8 +62,9 @@ def main(words: list[str]) -> int:
     parser = toolbox.parser(__doc__)
     parser.add_argument("program", nargs="?", type=Path, default=runs.PROGRAM, metavar="PROGRAM")
     program = str(parser.parse_args(words).program.resolve())
-    results = [check("python3", line) for line in PAGES]
-    if os.access(program, os.X_OK):
+    is_there = os.access(program, os.X_OK)
+    results = [check("rt python3", "test --program PROGRAM" if is_there else "test", program)]
+    if is_there:
         results += [check(things, line, program) for things, line in PROGRAMS]
     else:
         print(f"left out: the checks of the program; there is no {program}", *(f"  {it}" for it in need.missing(["pathd"])), sep="\n")

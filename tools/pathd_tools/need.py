@@ -3,8 +3,8 @@ is missing, and else 0.
 
     tools/pathd-tools need [THING ..]
 
-All things are looked for if none is given. The tools and the benchmarks call this before they
-begin.
+All things are looked for if none is given. The last line is one command that installs all that is
+missing and that packages of Debian have. The tools and the benchmarks call this before they begin.
 """
 from __future__ import annotations
 
@@ -26,7 +26,19 @@ class Thing:
 
     name: str
     is_there: Callable[[], bool]
-    how: str
+    packages: str = ""
+    otherwise: str = ""
+
+    @property
+    def how(self) -> str:
+        """How to get it."""
+        return self.otherwise or install_line([self])
+
+
+def install_line(things: list[Thing]) -> str:
+    """One command that installs the packages of these things; nothing where they have none."""
+    packages = dict.fromkeys(package for thing in things for package in thing.packages.split())
+    return " ".join(["apt-get install", *packages]) if packages else ""
 
 
 def runs(*words: str, given: str = "") -> bool:
@@ -39,23 +51,23 @@ def runs(*words: str, given: str = "") -> bool:
 
 def program(name: str, package: str, command: str = "") -> Thing:
     """A command that is on the PATH, of a package of Debian."""
-    return Thing(name, lambda: shutil.which(command or name) is not None, f"apt-get install {package}")
+    return Thing(name, lambda: shutil.which(command or name) is not None, package)
 
 
 def modules(name: str, imported: str, packages: str) -> Thing:
     """Modules of Debian's Python."""
-    return Thing(name, lambda: runs(DEBIANS_PYTHON, "-c", f"import {imported}"), f"apt-get install {packages}")
+    return Thing(name, lambda: runs(DEBIANS_PYTHON, "-c", f"import {imported}"), packages)
 
 
 def header(name: str, file: str) -> Thing:
     """A package whose header the C++ compiler finds."""
     words = ("g++", "-std=c++17", "-fsyntax-only", "-x", "c++", "-")
-    return Thing(name, lambda: runs(*words, given=f"#include <{file}>\n"), f"apt-get install {name}")
+    return Thing(name, lambda: runs(*words, given=f"#include <{file}>\n"), name)
 
 
 def file(name: str, path: str) -> Thing:
     """A package of Debian that has this file."""
-    return Thing(name, lambda: os.path.exists(path), f"apt-get install {name}")
+    return Thing(name, lambda: os.path.exists(path), name)
 
 
 def is_new_python() -> bool:
@@ -64,10 +76,10 @@ def is_new_python() -> bool:
 
 
 THINGS = [
-    Thing("rt", lambda: shutil.which("rt") is not None, "the toolchain, whose folder bin/ has to be on the PATH"),
-    Thing("pathd", lambda: os.access(TOP / "crates/pathd/out/pathd", os.X_OK), "cd crates/pathd && rt run -- --help"),
-    Thing("root", lambda: os.geteuid() == 0, "run it as root"),
-    Thing("python3", is_new_python, "apt-get install python3 (3.11 or later)"),
+    Thing("rt", lambda: shutil.which("rt") is not None, otherwise="the toolchain, whose folder bin/ has to be on the PATH"),
+    Thing("pathd", lambda: os.access(TOP / "crates/pathd/out/pathd", os.X_OK), otherwise="cd crates/pathd && rt run -- --help"),
+    Thing("root", lambda: os.geteuid() == 0, otherwise="run it as root"),
+    Thing("python3", is_new_python, "python3", "apt-get install python3 (3.11 or later)"),
     modules("python3-protobuf", "google.protobuf", "python3-protobuf"),
     modules("python3-grpcio", "grpc", "python3-grpcio"),
     program("protoc", "protobuf-compiler"),
@@ -83,7 +95,7 @@ THINGS = [
     program("valgrind", "valgrind", "callgrind_annotate"),
     program("perl", "perl"),
     program("bc", "bc"),
-    Thing("time", lambda: os.access("/usr/bin/time", os.X_OK), "apt-get install time"),
+    Thing("time", lambda: os.access("/usr/bin/time", os.X_OK), "time"),
     program("losetup", "mount"),
     program("nspawn", "systemd-container", "systemd-nspawn"),
     program("nft", "nftables"),
@@ -107,13 +119,20 @@ THINGS = [
 ]
 
 
-def missing(names: list[str]) -> list[str]:
-    """A line for each of these things that is missing."""
+def lacking(names: list[str]) -> list[Thing]:
+    """Which of these things are missing."""
     known = {thing.name: thing for thing in THINGS}
     unknown = [name for name in names if name not in known]
     if unknown:
         raise SystemExit(f"{unknown[0]} is not among the things of tools/pathd_tools/need.py")
-    return [f"missing: {name} ({known[name].how})" for name in names if not known[name].is_there()]
+    return [known[name] for name in names if not known[name].is_there()]
+
+
+def missing(names: list[str]) -> list[str]:
+    """A line for each of these things that is missing, and one that installs all that packages have."""
+    things = lacking(names)
+    line = install_line(things)
+    return [f"missing: {thing.name} ({thing.how})" for thing in things] + ([line] if line and len(things) > 1 else [])
 
 
 def require(*names: str) -> None:

@@ -65,9 +65,10 @@ LOAD = [
 ]
 
 OTHERS = [
+    Tool("test", "testing.together", "every test without a proof, in minutes: of crates, pages and clients; or of the crates that are named"),
     Tool("gate-time", "gate_time", "runs the gate, and prints the seconds of each crate's proof, edits and tests"),
     Tool("need", "need", "what the tools need and is missing on this machine"),
-    Tool("all", "everything", "the checks of pages, and those of the program that need packages"),
+    Tool("all", "everything", "`test`, and the checks of the program that need packages or root"),
 ]
 
 TOOLS = Toolbox(
