@@ -8,7 +8,7 @@
 #     tools/pathd-tools block-device [PROGRAM]
 #
 # PROGRAM is crates/pathd/out/pathd if left out, which `rt run` builds.
-set -u
+set -euo pipefail
 top=$(cd "$(dirname "${BASH_SOURCE[0]}")/../.." && pwd)
 "$top/tools/pathd-tools" need root losetup || exit
 program=$(realpath "${1:-$top/crates/pathd/out/pathd}") || exit 2
@@ -26,10 +26,9 @@ runs=0
 differences=0
 
 ends() { # the wanted status, the wanted lines of standard output and error but those that begin with `pathd: `, and the words of a command
-  local wanted=$1 lines=$2 status
+  local wanted=$1 lines=$2 status=0
   shift 2
-  "$program" "$@" >"$work/out" 2>&1
-  status=$?
+  "$program" "$@" >"$work/out" 2>&1 || status=$?
   runs=$((runs + 1))
   if [ "$status" != "$wanted" ] || [ "$(grep -v '^pathd: ' "$work/out")" != "$lines" ]; then
     echo "$*: status $status, $(cat "$work/out")"
@@ -67,7 +66,7 @@ losetup -d "$device"
 mkdir "$work/small"
 mount -t tmpfs -o size=64k tmpfs "$work/small" || exit 2
 truncate -s $((1040 * 512)) "$work/small/disk"
-dd if=/dev/zero of="$work/small/full" bs=4096 status=none 2>/dev/null
+dd if=/dev/zero of="$work/small/full" bs=4096 status=none 2>/dev/null || true
 device=$(losetup -f --show "$work/small/disk") || exit 2
 exec 9<"$device"
 ends 1 "error: format 3" format "$device" --checkpoint 2 --journal 516

@@ -11,7 +11,7 @@
 #     tools/pathd-tools client [PROGRAM]
 #
 # PROGRAM is crates/pathd/out/pathd if left out, which `rt run` builds.
-set -u
+set -euo pipefail
 top=$(cd "$(dirname "${BASH_SOURCE[0]}")/../.." && pwd)
 "$top/tools/pathd-tools" need python3-protobuf || exit
 program=$(realpath "${1:-$top/crates/pathd/out/pathd}") || exit 2
@@ -80,24 +80,24 @@ cp "$top/clients/python/segments.txt" "$work"
 grep '^\$ ' "$top/clients/python/commands.txt" | while read -r _ words; do
   echo "\$ $words"
   # shellcheck disable=SC2086 # the words of a line are split
-  (cd "$work" && /usr/bin/python3 -B -m pathd_client --connect "$address" $words)
+  (cd "$work" && /usr/bin/python3 -B -m pathd_client --connect "$address" $words) || true
 done >"$work/out"
 diff -u "$top/clients/python/commands.txt" "$work/out" || differences=$((differences + 1))
 sessions=$((sessions + 7))
 kill "$server"
-wait "$server" 2>/dev/null
+wait "$server" 2>/dev/null || true
 
 # A server that is killed keeps what it has acknowledged.
 new_store
 start
 /usr/bin/python3 -B "$work/restart.py" register "$address" "$made" || differences=$((differences + 1))
 kill -9 "$server"
-wait "$server" 2>/dev/null
+wait "$server" 2>/dev/null || true
 start
 /usr/bin/python3 -B "$work/restart.py" lookup "$address" || differences=$((differences + 1))
 sessions=$((sessions + 2))
 kill "$server"
-wait "$server" 2>/dev/null
+wait "$server" 2>/dev/null || true
 server=
 echo "$sessions sessions, $differences differ"
 

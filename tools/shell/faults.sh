@@ -7,7 +7,7 @@
 #     tools/pathd-tools faults [PROGRAM]
 #
 # PROGRAM is crates/pathd/out/pathd if left out, which `rt run` builds.
-set -u
+set -euo pipefail
 top=$(cd "$(dirname "${BASH_SOURCE[0]}")/../.." && pwd)
 "$top/tools/pathd-tools" need strace || exit
 program=$(realpath "${1:-$top/crates/pathd/out/pathd}") || exit 2
@@ -22,8 +22,8 @@ differences=0
 run_with() { # the calls that fail, as strace takes them, and the words of a command; leaves its status, out and err
   local inject=$1
   shift
-  strace -o "$work/trace" -P "$store" -P "$work" -e inject="$inject" "$program" "$@" >"$work/out" 2>"$work/err"
-  status=$?
+  status=0
+  strace -o "$work/trace" -P "$store" -P "$work" -e inject="$inject" "$program" "$@" >"$work/out" 2>"$work/err" || status=$?
   runs=$((runs + 1))
   grep -q INJECTED "$work/trace" || differs "$inject" "$*" "no call failed"
 }

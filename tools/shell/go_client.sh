@@ -7,7 +7,7 @@
 #     tools/pathd-tools go-client [PROGRAM]
 #
 # PROGRAM is crates/pathd/out/pathd if left out, which `rt run` builds.
-set -eu
+set -euo pipefail
 top=$(cd "$(dirname "${BASH_SOURCE[0]}")/../.." && pwd)
 "$top/tools/pathd-tools" need protoc go protoc-gen-go golang-google-protobuf-dev
 program=$(realpath "${1:-$top/crates/pathd/out/pathd}")

@@ -7,7 +7,7 @@
 #     tools/pathd-tools grpc [PROGRAM]
 #
 # PROGRAM is crates/pathd/out/pathd if left out, which `rt run` builds.
-set -eu
+set -euo pipefail
 top=$(cd "$(dirname "${BASH_SOURCE[0]}")/../.." && pwd)
 "$top/tools/pathd-tools" need protoc python3-protobuf python3-grpcio grpc_python_plugin grpc-proto \
   go protoc-gen-go protoc-gen-go-grpc golang-google-protobuf-dev \

@@ -8,7 +8,7 @@
 #     tools/pathd-tools locks [PROGRAM]
 #
 # PROGRAM is crates/pathd/out/pathd if left out, which `rt run` builds.
-set -u
+set -euo pipefail
 top=$(cd "$(dirname "${BASH_SOURCE[0]}")/../.." && pwd)
 "$top/tools/pathd-tools" need strace python3 || exit
 program=$(realpath "${1:-$top/crates/pathd/out/pathd}") || exit 2
@@ -21,10 +21,9 @@ runs=0
 differences=0
 
 ends() { # the wanted status, the wanted last line of standard error, and the words of a command
-  local wanted=$1 line=$2 status
+  local wanted=$1 line=$2 status=0
   shift 2
-  "$program" "$@" >"$work/out" 2>"$work/err"
-  status=$?
+  "$program" "$@" >"$work/out" 2>"$work/err" || status=$?
   runs=$((runs + 1))
   if [ "$status" != "$wanted" ] || [ "$(tail -n 1 "$work/err")" != "$line" ] || ! cmp -s "$work/before" "$store"; then
     echo "$holder, $*: status $status, $(cat "$work/err"), $(cmp "$work/before" "$store")"
@@ -80,7 +79,7 @@ for _ in $(seq 100); do # until the first one has its lock
 done
 refused show "$store"
 ends 0 "" --help
-wait "$first"
+wait "$first" || true
 holder="a server"
 : >"$work/ready"
 "$program" run "$store" --listen 127.0.0.1:0 --quiet >"$work/ready" &
@@ -92,7 +91,7 @@ done
 refused show "$store"
 refused run "$store" --listen 127.0.0.1:0
 kill "$server"
-wait "$server" 2>/dev/null
+wait "$server" 2>/dev/null || true
 cmp "$work/first" "$work/shown" || differences=$((differences + 1))
 holder="no lock"
 ends 0 "" show "$store"

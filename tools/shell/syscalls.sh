@@ -9,7 +9,7 @@
 # `bench/pathd-bench groups` copies to its third argument; with it the calls of two groups of 32
 # registrations are compared, too. Offsets and lengths are counted in sectors of 512 bytes. Reads in
 # a row are one line. What differs is printed as diff does, the calls that were made with '+'.
-set -u
+set -euo pipefail
 top=$(cd "$(dirname "${BASH_SOURCE[0]}")/../.." && pwd)
 "$top/tools/pathd-tools" need strace perl || exit
 program=$(realpath "${1:-$top/crates/pathd/out/pathd}") || exit 2
