@@ -19,7 +19,8 @@ ZSH_COMPLETIONS = $(DESTDIR)$(PREFIX)/share/zsh/site-functions
 SETTINGS = $(DESTDIR)/etc/default/pathd
 
 PAGES = README.md CHANGELOG.md docs/CLI.md docs/PROTOCOL.md docs/STORE.md docs/POWER-CUT.md \
-  docs/WATCHING.md docs/NETWORK.md docs/CAPACITY.md docs/LIMITS.md docs/segments.proto docs/load.svg
+  docs/WATCHING.md docs/NETWORK.md docs/CAPACITY.md docs/LIMITS.md docs/codes.csv docs/segments.proto \
+  docs/load.svg
 TASKS = $(wildcard docs/operating/*.md)
 EXAMPLES = deploy/pathd.nft deploy/pathd.rules.yml deploy/grafana-dashboard.json \
   deploy/pathd-purge.service deploy/pathd-purge.timer deploy/pathd.service.d/status.conf
