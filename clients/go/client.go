@@ -1,65 +1,86 @@
-// Package pathd is a client of a pathd server: sessions over TCP, by the frames of docs/PROTOCOL.md.
-// The messages are those that protoc generates from docs/segments.proto. An ISD-AS is a number, the
-// ISD in its upper 16 bits and the AS in its lower 48.
 package pathd
 
 import (
 	"context"
-	"encoding/binary"
 	"errors"
-	"fmt"
-	"net"
-	"sync"
+	"time"
 
 	"google.golang.org/protobuf/proto"
 	pb "pathd/segmentspb"
 )
 
-var (
-	// ErrClosed is the error of calls after Close.
-	ErrClosed = errors.New("pathd: the client is closed")
-	// ErrTooLarge is the error of a registration that no frame has room for. Nothing was sent.
-	ErrTooLarge = errors.New("pathd: the request is too large")
-	// ErrReply is the error of all calls once something came that is no reply to the next request.
-	ErrReply = errors.New("pathd: not a reply")
-)
-
-// Ack is the reply to a command that was taken: its place among the commands, and how many segments
-// it inserted, updated, kept out and dropped.
-type Ack struct {
-	Place                           uint64
-	Inserted, Updated, Kept, Purged uint32
+// ClientOptions are those of a Client. What is left out has the value in brackets.
+type ClientOptions struct {
+	// How connections are made.
+	Dialer Dialer
+	// How many sessions there are at most for lookups, and for commands [1 and 1]. Replies come in the
+	// order of the requests, and a command's waits for the device.
+	Lookups, Commands int
+	// How many requests may be under way in a session [64]. Others wait until there is room.
+	Window int
+	// How long a request may wait for its reply: then its session is closed, with an ErrStuck for all
+	// that are under way in it [0: for ever].
+	Patience time.Duration
+	// How often a request is tried at most, where it may be tried again [6].
+	Attempts int
 }
 
-// Client is a session. Any number of goroutines may use it: their requests are sent without waiting
-// for the replies between them, up to 64 at a time. The session is not opened again once it ended.
+func (o ClientOptions) filled() ClientOptions {
+	for _, it := range []struct {
+		number *int
+		filled int
+	}{{&o.Lookups, 1}, {&o.Commands, 1}, {&o.Window, window}, {&o.Attempts, 6}} {
+		if *it.number <= 0 {
+			*it.number = it.filled
+		}
+	}
+	return o
+}
+
+// Client has sessions with a server. Any number of goroutines may use it: their requests are sent
+// without waiting for the replies between them. It connects when it has to, and again where a session
+// has ended.
+//
+// A call ends with its context, and the session goes on: the request keeps its place in the session
+// until its reply comes, which is dropped. A command that was sent may be taken.
+//
+// A request is tried again where no session could be opened or the server had no room for it; where
+// its session ended, unless it is a removal that may have been carried out; and where it was refused
+// by NoMemory or Busy. Between two attempts is a pause, unless the session had been open before. It is
+// tried no more often than Attempts, and not where its session was stuck.
 type Client struct {
-	conn    net.Conn
-	calls   chan *call
-	pending chan *call // sent, in order, without a reply
-	ended   chan struct{}
-	end     sync.Once
-	err     error // why it ended; read once ended is closed
+	attempts          int
+	lookups, commands pool
 }
 
-// Dial opens a session with the server at an address, such as 127.0.0.1:30252. The context ends the
-// attempt alone.
+// NewClient answers a client of the server at an address, such as 127.0.0.1:30252. Nothing is
+// connected before it is needed.
+func NewClient(address string, options ClientOptions) *Client {
+	options = options.filled()
+	links := func(count int) (made pool) {
+		for len(made) < count {
+			made = append(made, newLink(address, options.Dialer, options.Patience, options.Window))
+		}
+		return made
+	}
+	return &Client{options.Attempts, links(options.Lookups), links(options.Commands)}
+}
+
+// Dial answers a client of the server at an address, with a session for lookups. The context bounds
+// this attempt, of which there is one.
 func Dial(ctx context.Context, address string) (*Client, error) {
-	var dialer net.Dialer
-	conn, err := dialer.DialContext(ctx, "tcp", address)
-	if err != nil {
+	client := NewClient(address, ClientOptions{})
+	if _, _, err := client.lookups.pick(ctx); err != nil {
 		return nil, err
 	}
-	c := &Client{conn: conn, calls: make(chan *call), pending: make(chan *call, window), ended: make(chan struct{})}
-	go c.send()
-	go c.receive()
-	return c, nil
+	return client, nil
 }
 
-// Close ends the session, and all calls that are under way by ErrClosed. A command among them may
+// Close ends the sessions, and all calls that are under way by ErrClosed. A command among them may
 // still be taken.
 func (c *Client) Close() {
-	c.fail(ErrClosed)
+	c.lookups.close()
+	c.commands.close()
 }
 
 // Register registers segments: of one type and the same hops the newest stays. It returns once the
@@ -69,56 +90,69 @@ func (c *Client) Register(ctx context.Context, segments *pb.SegmentsRegistration
 	if err != nil {
 		return Ack{}, err
 	}
-	return c.command(ctx, register, body)
+	return c.command(ctx, KindRegister, body)
 }
 
 // Lookup asks for the segments from a source to a destination. A part of a side that is 0 is any.
-func (c *Client) Lookup(ctx context.Context, source, destination uint64) (*pb.SegmentsResponse, error) {
-	body, err := proto.Marshal(&pb.SegmentsRequest{SrcIsdAs: source, DstIsdAs: destination})
+func (c *Client) Lookup(ctx context.Context, source, destination IsdAs) (*pb.SegmentsResponse, error) {
+	body, err := lookupBody(source, destination)
 	if err != nil {
 		return nil, err
 	}
-	if body, err = c.ask(ctx, lookup, body); err != nil {
+	if body, err = c.Ask(ctx, KindLookup, body); err != nil {
 		return nil, err
 	}
 	found := new(pb.SegmentsResponse)
 	return found, proto.Unmarshal(body, found)
 }
 
-// Purge drops the segments that expire at a moment or before, in half seconds since 1970.
-func (c *Client) Purge(ctx context.Context, moment uint64) (Ack, error) {
-	return c.command(ctx, purge, purgeBody(moment))
+// Purge drops the segments that expire at a time or before: with time.Now(), those that have expired.
+func (c *Client) Purge(ctx context.Context, at time.Time) (Ack, error) {
+	return c.command(ctx, KindPurge, purgeBody(MomentOf(at)))
 }
 
 // Remove drops the segment of a type with an id.
 func (c *Client) Remove(ctx context.Context, kind pb.SegmentType, id [32]byte) (Ack, error) {
-	return c.command(ctx, remove, removalBody(kind, id))
+	return c.command(ctx, KindRemove, removalBody(kind, id))
 }
 
-func registrationBody(segments *pb.SegmentsRegistrationRequest) ([]byte, error) {
-	return proto.MarshalOptions{Deterministic: true}.Marshal(segments)
-}
-
-func purgeBody(moment uint64) []byte {
-	return binary.BigEndian.AppendUint64(nil, moment)
-}
-
-func removalBody(kind pb.SegmentType, id [32]byte) []byte {
-	return append([]byte{byte(kind)}, id[:]...)
-}
-
-func (c *Client) command(ctx context.Context, kind byte, body []byte) (Ack, error) {
-	body, err := c.ask(ctx, kind, body)
+func (c *Client) command(ctx context.Context, kind Kind, body []byte) (Ack, error) {
+	reply, err := c.Ask(ctx, kind, body)
 	if err != nil {
 		return Ack{}, err
 	}
-	return readAck(body)
+	return ReadAck(reply)
 }
 
-func readAck(body []byte) (ack Ack, err error) {
-	if len(body) != binary.Size(ack) {
-		return Ack{}, fmt.Errorf("%w: an acknowledgement of %d bytes", ErrReply, len(body))
+// Ask answers the body of the reply to a request, whose own body is sent as it is.
+func (c *Client) Ask(ctx context.Context, kind Kind, body []byte) ([]byte, error) {
+	sessions := c.commands
+	if kind == KindLookup {
+		sessions = c.lookups
 	}
-	number := func(at int) uint32 { return binary.BigEndian.Uint32(body[at:]) }
-	return Ack{binary.BigEndian.Uint64(body), number(8), number(12), number(16), number(20)}, nil
+	var between pauses
+	for attempt := 1; ; attempt++ {
+		reply, wasOpen, err := sessions.ask(ctx, byte(kind), body)
+		if err == nil || attempt >= c.attempts || !mayRepeat(kind, err) {
+			return reply, err
+		}
+		var ended *SessionError
+		if isEnd := errors.As(err, &ended); isEnd && wasOpen {
+			continue // as a server that was started again ends all sessions
+		}
+		if !between.wait(ctx) {
+			return nil, err
+		}
+	}
+}
+
+// mayRepeat answers whether a request may be sent again after an error.
+func mayRepeat(kind Kind, err error) bool {
+	var ended *SessionError
+	if errors.As(err, &ended) {
+		isLost := kind == KindRemove && ended.Sent
+		return !isLost && !errors.Is(err, ErrStuck) && !errors.Is(err, ErrReply)
+	}
+	var code Code
+	return errors.As(err, &code) && code.IsPassing()
 }

@@ -24,7 +24,12 @@ type server struct {
 	conn net.Conn
 }
 
-// open answers a client, and the server's end of its session.
+// session answers the session for commands.
+func (c *Client) session() *session {
+	return c.commands[0].current.Load()
+}
+
+// open answers a client that has one session for all requests, and the server's end of it.
 func open(t *testing.T) (*Client, *server, context.Context) {
 	listener, err := net.Listen("tcp", "127.0.0.1:0")
 	if err != nil {
@@ -32,8 +37,9 @@ func open(t *testing.T) (*Client, *server, context.Context) {
 	}
 	defer listener.Close()
 	ctx, cancel := context.WithTimeout(context.Background(), limit)
-	client, err := Dial(ctx, listener.Addr().String())
-	if err != nil {
+	client := NewClient(listener.Addr().String(), ClientOptions{Attempts: 1})
+	client.lookups = client.commands
+	if _, _, err := client.commands.pick(ctx); err != nil {
 		t.Fatal(err)
 	}
 	conn, err := listener.Accept()
@@ -80,7 +86,7 @@ func TestEachRequestHasItsBytes(t *testing.T) {
 		kind byte
 		body string
 	}{
-		{func() (any, error) { return client.Purge(ctx, 3_400_043_199) }, purge, "\x00\x00\x00\x00\xca\xa8\x8a\xbf"},
+		{func() (any, error) { return client.Purge(ctx, Moment(3_400_043_199).Time()) }, purge, "\x00\x00\x00\x00\xca\xa8\x8a\xbf"},
 		{func() (any, error) { return client.Remove(ctx, pb.SegmentType_SEGMENT_TYPE_DOWN, id) }, remove, "\x02" + string(id[:])},
 		{func() (any, error) { return client.Register(ctx, &pb.SegmentsRegistrationRequest{}) }, register, ""},
 		{func() (any, error) { return client.Lookup(ctx, 1, 2) }, lookup, "\x08\x01\x10\x02"},
@@ -116,7 +122,7 @@ func TestManyAreUnderWay(t *testing.T) {
 		all.Add(1)
 		go func(moment uint64) {
 			defer all.Done()
-			if ack, err := client.Purge(ctx, moment); err != nil || ack.Place != moment {
+			if ack, err := client.Purge(ctx, Moment(moment).Time()); err != nil || ack.Place != moment {
 				t.Errorf("%d: %v, %v", moment, ack, err)
 			}
 		}(number)
@@ -138,10 +144,10 @@ func TestContextsEndCallsAlone(t *testing.T) {
 	client, server, ctx := open(t)
 	short, cancel := context.WithTimeout(ctx, 50*time.Millisecond)
 	defer cancel()
-	if _, err := client.Purge(short, 1); !errors.Is(err, context.DeadlineExceeded) {
+	if _, err := client.Purge(short, Moment(1).Time()); !errors.Is(err, context.DeadlineExceeded) {
 		t.Error(err)
 	}
-	if _, err := client.Purge(short, 2); !errors.Is(err, context.DeadlineExceeded) {
+	if _, err := client.Purge(short, Moment(2).Time()); !errors.Is(err, context.DeadlineExceeded) {
 		t.Error(err)
 	}
 	cancelled, cancel := context.WithCancel(ctx)
@@ -150,7 +156,7 @@ func TestContextsEndCallsAlone(t *testing.T) {
 		server.next()
 		cancel()
 	}()
-	if _, err := client.Purge(cancelled, 3); !errors.Is(err, context.Canceled) {
+	if _, err := client.Purge(cancelled, Moment(3).Time()); !errors.Is(err, context.Canceled) {
 		t.Error(err)
 	}
 	go func() {
@@ -161,7 +167,7 @@ func TestContextsEndCallsAlone(t *testing.T) {
 			server.acknowledge(purge, place)
 		}
 	}()
-	if ack, err := client.Purge(ctx, 4); err != nil || ack.Place != 4 {
+	if ack, err := client.Purge(ctx, Moment(4).Time()); err != nil || ack.Place != 4 {
 		t.Errorf("%v, %v", ack, err)
 	}
 }
@@ -175,7 +181,7 @@ func TestAFullWindowWaitsAsLongAsTheContext(t *testing.T) {
 		all.Add(1)
 		go func() {
 			defer all.Done()
-			if _, err := client.Purge(short, 0); !errors.Is(err, context.DeadlineExceeded) {
+			if _, err := client.Purge(short, Moment(0).Time()); !errors.Is(err, context.DeadlineExceeded) {
 				t.Error(err)
 			}
 		}()
@@ -189,7 +195,7 @@ func TestAFullWindowWaitsAsLongAsTheContext(t *testing.T) {
 		server.next()
 		server.acknowledge(purge, 9)
 	}()
-	if ack, err := client.Purge(ctx, 9); err != nil || ack.Place != 9 {
+	if ack, err := client.Purge(ctx, Moment(9).Time()); err != nil || ack.Place != 9 {
 		t.Errorf("%v, %v", ack, err)
 	}
 }
@@ -252,11 +258,13 @@ func TestSessionsThatEnd(t *testing.T) {
 			client, server, ctx := open(t)
 			if name == "no room" || name == "without a request" {
 				c.act(server)
-				<-client.ended
+				<-client.session().ended
 			} else {
 				go c.act(server)
 			}
-			if _, err := client.Purge(ctx, 0); !errors.Is(err, c.wanted) {
+			_, err := client.session().ask(ctx, purge, purgeBody(0))
+			var ended *SessionError
+			if !errors.Is(err, c.wanted) || !errors.As(err, &ended) || ended.Address != client.commands[0].address {
 				t.Error(err)
 			}
 		})
@@ -270,7 +278,7 @@ func TestClosing(t *testing.T) {
 		client.Close()
 	}()
 	for number := 0; number < 2; number++ {
-		if _, err := client.Purge(ctx, 0); !errors.Is(err, ErrClosed) {
+		if _, err := client.Purge(ctx, Moment(0).Time()); !errors.Is(err, ErrClosed) {
 			t.Error(err)
 		}
 	}

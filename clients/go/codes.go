@@ -2,8 +2,8 @@ package pathd
 
 import "fmt"
 
-// Code is the error of a request that the server refused. Nothing changed, but perhaps after
-// Unsettled. errors.Is(err, pathd.Busy) says whether an error is a certain one.
+// Code is the error of a request that the server refused. Nothing changed, unless the code
+// IsUnsettled. errors.Is(err, pathd.Busy) says whether an error is a certain one.
 type Code byte
 
 // The codes of docs/PROTOCOL.md.
@@ -69,10 +69,39 @@ var texts = map[Code]string{
 	Unsettled:       "the store stopped before the command was committed, which may be kept or lost",
 }
 
+// When it helps to send a request again; never after the others.
+var again = map[Code]string{
+	NoMemory:     "after a pause",
+	BadSignature: "once the segment is signed by the key",
+	Expired:      "once the segment is made with a later expiry, or the clock is mended",
+	Busy:         "after a pause",
+	Full:         "after a purge",
+	Stopped:      "at another server, or after a restart",
+	Exhausted:    "at another store",
+	OldStore:     "after the store's first checkpoint",
+	NoSession:    "on a new connection, after a pause",
+	Unsettled:    "at another server, or after a restart",
+}
+
 // Error says what the code means.
 func (c Code) Error() string {
 	if text, isKnown := texts[c]; isKnown {
 		return "pathd: refused: " + text
 	}
 	return fmt.Sprintf("pathd: refused: code %#02x", byte(c))
+}
+
+// Again says when it helps to send the request again; it is empty where it never does.
+func (c Code) Again() string {
+	return again[c]
+}
+
+// IsPassing answers whether nothing changed, and the same request may succeed after a pause.
+func (c Code) IsPassing() bool {
+	return c == NoMemory || c == Busy || c == NoSession
+}
+
+// IsUnsettled answers whether the command may be committed in spite of the refusal.
+func (c Code) IsUnsettled() bool {
+	return c == Unsettled
 }

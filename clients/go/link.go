@@ -1,24 +1,47 @@
 package pathd
 
-import "context"
+import (
+	"context"
+	"sync/atomic"
+	"time"
+)
 
 // link has a session with a server, which is opened again once it has ended. Any number of
 // goroutines may use it.
 type link struct {
-	address string
-	turn    chan struct{} // has one element, which a goroutine takes while it looks at the client
-	client  *Client
+	address  string
+	dialer   Dialer
+	patience time.Duration
+	window   int
+
+	current atomic.Pointer[session]
+	turn    chan struct{} // has one element, which a goroutine takes while it opens a session
+	failed  time.Time     // when a session could not be opened last, and why; with the turn
+	err     error
 	closed  bool
 }
 
-func newLink(address string) *link {
-	l := &link{address: address, turn: make(chan struct{}, 1)}
+func newLink(address string, dialer Dialer, patience time.Duration, window int) *link {
+	l := &link{address: address, dialer: dialer, patience: patience, window: window, turn: make(chan struct{}, 1)}
 	l.turn <- struct{}{}
 	return l
 }
 
-// session answers the open session, or a new one.
-func (l *link) session(ctx context.Context) (*Client, error) {
+// open answers the session that is open; nil where none is.
+func (l *link) open() *session {
+	if s := l.current.Load(); s != nil && !s.hasEnded() {
+		return s
+	}
+	return nil
+}
+
+// session answers the open session, or a new one. Goroutines that wait for one which can't be opened
+// have the error of one attempt.
+func (l *link) session(ctx context.Context) (*session, error) {
+	if s := l.open(); s != nil {
+		return s, nil
+	}
+	asked := time.Now()
 	select {
 	case <-l.turn:
 	case <-ctx.Done():
@@ -28,26 +51,37 @@ func (l *link) session(ctx context.Context) (*Client, error) {
 	if l.closed {
 		return nil, ErrClosed
 	}
-	if l.client != nil {
-		select {
-		case <-l.client.ended:
-		default:
-			return l.client, nil
-		}
+	if s := l.open(); s != nil {
+		return s, nil
 	}
-	client, err := Dial(ctx, l.address)
-	if err == nil {
-		l.client = client
+	if l.failed.After(asked) {
+		return nil, l.err
 	}
-	return client, err
+	conn, err := l.dialer.DialContext(ctx, l.address)
+	if err != nil {
+		return nil, l.fail(ctx, err)
+	}
+	s := newSession(conn, l.address, l.patience, l.window)
+	l.current.Store(s)
+	return s, nil
+}
+
+// fail answers the error of an attempt, with the turn. An attempt that ended with its own context says
+// nothing to others.
+func (l *link) fail(ctx context.Context, err error) error {
+	if ctx.Err() != nil {
+		return ctx.Err()
+	}
+	l.failed, l.err = time.Now(), &SessionError{Address: l.address, Err: err}
+	return l.err
 }
 
 // close ends the session, for good.
 func (l *link) close() {
 	<-l.turn
 	l.closed = true
-	if l.client != nil {
-		l.client.Close()
+	if s := l.current.Load(); s != nil {
+		s.fail(ErrClosed)
 	}
 	l.turn <- struct{}{}
 }

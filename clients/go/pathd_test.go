@@ -3,7 +3,6 @@ package pathd
 import (
 	"bufio"
 	"context"
-	"crypto/sha256"
 	"encoding/hex"
 	"errors"
 	"os"
@@ -11,6 +10,7 @@ import (
 	"path/filepath"
 	"regexp"
 	"testing"
+	"time"
 
 	"google.golang.org/protobuf/proto"
 	pb "pathd/segmentspb"
@@ -20,11 +20,10 @@ const (
 	// Of the worked segment of docs/PROTOCOL.md: its bytes, what its id is of, and its two ASes.
 	worked = "0a080880e2cfaa06100712290a270a2512230890" + "82808080e07f109182808080e07f1a0e0a0c1001183f220601020304050628c00b" +
 		"12210a1f0a1d121b089182808080e07f1a0e0a0c0802183f22060a0b0c0d0e0f28c00b"
-	workedHops        = "0001ff0000000110000000010001ff000000011100020000"
-	core, leaf uint64 = 0x0001_ff00_0000_0110, 0x0001_ff00_0000_0111
-	made              = 4_000_000_000 // in 2096
-	mostSeats         = 64
-	cores             = "1-ff00:0:110"
+	core, leaf IsdAs = 0x0001_ff00_0000_0110, 0x0001_ff00_0000_0111
+	made             = 4_000_000_000 // in 2096
+	mostSeats        = 64
+	cores            = "1-ff00:0:110"
 )
 
 // started answers a client of a new server of the program PATHD, and its address.
@@ -54,10 +53,7 @@ func started(t *testing.T) (*Client, string, context.Context) {
 		t.Fatalf("the server doesn't listen: %s", lines.Text())
 	}
 	ctx, cancel := context.WithTimeout(context.Background(), limit)
-	client, err := Dial(ctx, found[1])
-	if err != nil {
-		t.Fatal(err)
-	}
+	client := NewClient(found[1], ClientOptions{})
 	t.Cleanup(func() { client.Close(); cancel() })
 	return client, found[1], ctx
 }
@@ -79,11 +75,6 @@ func segment(t *testing.T, timestamp int64) *pb.PathSegment {
 	return segment
 }
 
-func registration(segment *pb.PathSegment) *pb.SegmentsRegistrationRequest {
-	down := int32(pb.SegmentType_SEGMENT_TYPE_DOWN)
-	return &pb.SegmentsRegistrationRequest{Segments: map[int32]*pb.Segments{down: {Segments: []*pb.PathSegment{segment}}}}
-}
-
 func TestASessionWithPathd(t *testing.T) {
 	client, _, ctx := started(t)
 	wanted := segment(t, made)
@@ -91,9 +82,9 @@ func TestASessionWithPathd(t *testing.T) {
 		ask    func() (Ack, error)
 		wanted Ack
 	}{
-		{func() (Ack, error) { return client.Register(ctx, registration(wanted)) }, Ack{Place: 0, Inserted: 1}},
-		{func() (Ack, error) { return client.Register(ctx, registration(wanted)) }, Ack{Place: 1, Kept: 1}},
-		{func() (Ack, error) { return client.Purge(ctx, 2*made) }, Ack{Place: 2}},
+		{func() (Ack, error) { return client.Register(ctx, Registration(Down, wanted)) }, Ack{Place: 0, Inserted: 1}},
+		{func() (Ack, error) { return client.Register(ctx, Registration(Down, wanted)) }, Ack{Place: 1, Kept: 1}},
+		{func() (Ack, error) { return client.Purge(ctx, time.Unix(made, 0)) }, Ack{Place: 2}},
 	}
 	for _, c := range acks {
 		if got, err := c.ask(); err != nil || got != c.wanted {
@@ -101,11 +92,14 @@ func TestASessionWithPathd(t *testing.T) {
 		}
 	}
 	found, err := client.Lookup(ctx, core, leaf)
-	if err != nil || !proto.Equal(found, &pb.SegmentsResponse{Segments: registration(wanted).Segments}) {
+	if err != nil || !proto.Equal(found, &pb.SegmentsResponse{Segments: Registration(Down, wanted).Segments}) {
 		t.Errorf("%v, %v", found, err)
 	}
-	hops, _ := hex.DecodeString(workedHops)
-	ack, err := client.Remove(ctx, pb.SegmentType_SEGMENT_TYPE_DOWN, sha256.Sum256(hops))
+	read, err := DecodeSegment(wanted)
+	if err != nil {
+		t.Fatal(err)
+	}
+	ack, err := client.Remove(ctx, Down, read.ID())
 	if err != nil || ack != (Ack{Place: 3, Purged: 1}) {
 		t.Errorf("%v, %v", ack, err)
 	}
@@ -122,10 +116,10 @@ func TestRefusalsOfPathd(t *testing.T) {
 	if _, err := client.Lookup(ctx, leaf, leaf); !errors.Is(err, NoCore) {
 		t.Error(err)
 	}
-	if _, err := client.Register(ctx, registration(segment(t, 1_700_000_000))); !errors.Is(err, Expired) {
+	if _, err := client.Register(ctx, Registration(Down, segment(t, 1_700_000_000))); !errors.Is(err, Expired) {
 		t.Error(err)
 	}
-	if _, err := client.Register(ctx, registration(&pb.PathSegment{})); !errors.Is(err, Entries) {
+	if _, err := client.Register(ctx, Registration(Down, &pb.PathSegment{})); !errors.Is(err, Entries) {
 		t.Error(err)
 	}
 	if _, err := client.Remove(ctx, 0, [32]byte{}); !errors.Is(err, BadType) {
@@ -134,19 +128,11 @@ func TestRefusalsOfPathd(t *testing.T) {
 }
 
 func TestOneSessionMoreThanPathdHas(t *testing.T) {
-	first, address, ctx := started(t)
-	clients := []*Client{first}
-	for len(clients) <= mostSeats {
-		client, err := Dial(ctx, address)
-		if err != nil {
-			t.Fatal(err)
-		}
+	_, address, ctx := started(t)
+	for number := 0; number <= mostSeats; number++ {
+		client := NewClient(address, ClientOptions{Attempts: 1})
 		defer client.Close()
-		clients = append(clients, client)
-	}
-	<-clients[mostSeats].ended
-	for number, client := range clients {
-		_, err := client.Purge(ctx, 0)
+		_, err := client.Lookup(ctx, core, leaf)
 		if wanted := number < mostSeats; wanted != (err == nil) || (!wanted && !errors.Is(err, NoSession)) {
 			t.Errorf("%d: %v", number, err)
 		}

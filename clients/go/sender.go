@@ -3,15 +3,6 @@ package pathd
 import (
 	"context"
 	"errors"
-	"math/rand"
-	"time"
-)
-
-// The shortest and the longest pause before a server is tried again. Pauses double, less a random
-// part of at most a half.
-const (
-	firstPause   = 100 * time.Millisecond
-	longestPause = 2 * time.Second
 )
 
 // State is what the queue of a server comes to: how many commands wait and the bytes of their
@@ -44,7 +35,7 @@ func (s *sender) put(d *delivery) {
 // run sends until the context ends.
 func (s *sender) run(ctx context.Context) {
 	defer s.link.close()
-	pause := firstPause
+	var between pauses
 	for {
 		batch := s.next(ctx)
 		if batch == nil {
@@ -52,16 +43,9 @@ func (s *sender) run(ctx context.Context) {
 		}
 		results, err := s.send(ctx, batch)
 		if err = s.settle(batch, results, err); err == nil {
-			pause = firstPause
-			continue
-		}
-		select {
-		case <-time.After(pause/2 + time.Duration(rand.Int63n(int64(pause/2)))):
-		case <-ctx.Done():
+			between.reset()
+		} else if !between.wait(ctx) {
 			return
-		}
-		if pause *= 2; pause > longestPause {
-			pause = longestPause
 		}
 	}
 }
@@ -81,13 +65,13 @@ func (s *sender) next(ctx context.Context) []*delivery {
 func (s *sender) send(ctx context.Context, batch []*delivery) (results []Result, err error) {
 	ctx, cancel := context.WithTimeout(ctx, s.servers.options.Timeout)
 	defer cancel()
-	client, err := s.link.session(ctx)
+	session, err := s.link.session(ctx)
 	if err != nil {
 		return nil, err
 	}
 	var calls []*call
 	for _, d := range batch {
-		asked, fault := client.begin(ctx, d.kind, d.body)
+		asked, fault := session.begin(ctx, d.kind, d.body)
 		if fault != nil {
 			err = fault
 			break
@@ -96,12 +80,13 @@ func (s *sender) send(ctx context.Context, batch []*delivery) (results []Result,
 	}
 	for _, asked := range calls {
 		var got Result
-		body, fault := client.await(asked)
+		body, fault := asked.await(ctx)
 		if fault == nil {
-			got.Ack, fault = readAck(body)
+			got.Ack, fault = ReadAck(body)
 		}
+		var ended *SessionError
 		var code Code
-		if fault != nil && !errors.As(fault, &code) {
+		if fault != nil && (errors.As(fault, &ended) || !errors.As(fault, &code)) {
 			err = fault
 			break
 		}
@@ -109,7 +94,7 @@ func (s *sender) send(ctx context.Context, batch []*delivery) (results []Result,
 		results = append(results, got)
 	}
 	if err != nil {
-		client.Close() // the rest is sent again, on a session that has nothing under way
+		session.fail(err) // the rest is sent again, on a session that has nothing under way
 	}
 	return results, err
 }
@@ -140,9 +125,6 @@ func (s *sender) settle(batch []*delivery, results []Result, err error) error {
 // isSentAgain answers whether a command is sent again after a refusal: later, or once the server was
 // started again.
 func isSentAgain(err error) bool {
-	switch err {
-	case NoMemory, Busy, NoSession, Stopped, Unsettled:
-		return true
-	}
-	return false
+	code, isCode := err.(Code)
+	return isCode && (code.IsPassing() || code.IsUnsettled() || code == Stopped)
 }

@@ -22,6 +22,8 @@ type Options struct {
 	Drop bool
 	// How long one try of one server may take [30 seconds].
 	Timeout time.Duration
+	// How connections are made.
+	Dialer Dialer
 }
 
 func (o Options) filled() Options {
@@ -64,9 +66,9 @@ func NewServers(addresses []string, options Options) (*Servers, error) {
 	ctx, end := context.WithCancel(context.Background())
 	s := &Servers{options: options.filled(), end: end, changed: make(chan struct{})}
 	for number, address := range addresses {
-		s.lookups = append(s.lookups, newLink(address))
+		s.lookups = append(s.lookups, newLink(address, options.Dialer, 0, window))
 		s.senders = append(s.senders, &sender{
-			servers: s, number: number, link: newLink(address),
+			servers: s, number: number, link: newLink(address, options.Dialer, 0, window),
 			queue: queue{most: s.options.Commands, mostBytes: s.options.Bytes},
 		})
 	}
@@ -106,9 +108,9 @@ func (s *Servers) Register(ctx context.Context, segments *pb.SegmentsRegistratio
 	return s.command(ctx, register, body)
 }
 
-// Purge drops the segments that expire at a moment or before from each server, as Register registers.
-func (s *Servers) Purge(ctx context.Context, moment uint64) ([]Result, error) {
-	return s.command(ctx, purge, purgeBody(moment))
+// Purge drops the segments that expire at a time or before from each server, as Register registers.
+func (s *Servers) Purge(ctx context.Context, at time.Time) ([]Result, error) {
+	return s.command(ctx, purge, purgeBody(MomentOf(at)))
 }
 
 // Remove drops the segment of a type with an id from each server, as Register registers. A server
@@ -119,8 +121,8 @@ func (s *Servers) Remove(ctx context.Context, kind pb.SegmentType, id [32]byte) 
 
 // Lookup asks one server, the one that has answered last, and where that fails the next one, until
 // one answers or the context ends. Where the context has no deadline each server is asked once.
-func (s *Servers) Lookup(ctx context.Context, source, destination uint64) (*pb.SegmentsResponse, error) {
-	body, err := proto.Marshal(&pb.SegmentsRequest{SrcIsdAs: source, DstIsdAs: destination})
+func (s *Servers) Lookup(ctx context.Context, source, destination IsdAs) (*pb.SegmentsResponse, error) {
+	body, err := lookupBody(source, destination)
 	if err != nil {
 		return nil, err
 	}
@@ -236,13 +238,13 @@ func (s *Servers) askOne(ctx context.Context, number, left int, body []byte) ([]
 	}
 	ctx, cancel := context.WithTimeout(ctx, part)
 	defer cancel()
-	client, err := s.lookups[number].session(ctx)
+	session, err := s.lookups[number].session(ctx)
 	if err != nil {
 		return nil, err
 	}
-	reply, err := client.ask(ctx, lookup, body)
+	reply, err := session.ask(ctx, lookup, body)
 	if errors.Is(err, context.DeadlineExceeded) {
-		client.Close() // the next call connects anew
+		session.fail(ErrStuck) // the next call connects anew
 	}
 	return reply, err
 }

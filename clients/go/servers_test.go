@@ -51,7 +51,7 @@ func TestEachServerGetsEachCommandInOneOrder(t *testing.T) {
 		all.Add(1)
 		go func(number uint64) {
 			defer all.Done()
-			results, err := servers.Purge(ctx, number)
+			results, err := servers.Purge(ctx, Moment(number).Time())
 			if err != nil || !reflect.DeepEqual(results, make([]Result, 2)) {
 				t.Errorf("%v, %v", results, err)
 			}
@@ -71,7 +71,7 @@ func TestAServerThatIsAwayGetsCommandsLater(t *testing.T) {
 	up, away := running(t, taken), newStore(t, taken)
 	servers, ctx := serversOf(t, Options{Acknowledge: One}, up, away)
 	for number := uint64(0); number < 100; number++ {
-		if results, err := servers.Purge(ctx, number); err != nil || results[1].Err != ErrWaiting {
+		if results, err := servers.Purge(ctx, Moment(number).Time()); err != nil || results[1].Err != ErrWaiting {
 			t.Errorf("%v, %v", results, err)
 		}
 	}
@@ -99,7 +99,7 @@ func TestAServerThatIsStartedAgain(t *testing.T) {
 	servers, ctx := serversOf(t, Options{}, store)
 	done := make(chan error, 1)
 	go func() {
-		_, err := servers.Purge(ctx, 7)
+		_, err := servers.Purge(ctx, Moment(7).Time())
 		done <- err
 	}()
 	store.waitFor(1)
@@ -121,7 +121,7 @@ func TestTooFewAcknowledge(t *testing.T) {
 	servers, ctx := serversOf(t, Options{}, up, away)
 	short, cancel := context.WithTimeout(ctx, 300*time.Millisecond)
 	defer cancel()
-	results, err := servers.Purge(short, 1)
+	results, err := servers.Purge(short, Moment(1).Time())
 	var few *NotAcknowledged
 	if !errors.As(err, &few) || !errors.Is(err, context.DeadlineExceeded) || len(few.Results) != 2 {
 		t.Errorf("%v", err)
@@ -138,7 +138,7 @@ func TestTooFewAcknowledge(t *testing.T) {
 func TestRefusalsOfServers(t *testing.T) {
 	up, full := running(t, taken), running(t, refuses(Full))
 	servers, ctx := serversOf(t, Options{}, up, full)
-	results, err := servers.Purge(ctx, 1)
+	results, err := servers.Purge(ctx, Moment(1).Time())
 	var few *NotAcknowledged
 	if !errors.As(err, &few) || few.Unwrap() != nil || results[1].Err != Full {
 		t.Errorf("%v, %v", results, err)
@@ -152,7 +152,7 @@ func TestRefusalsOfServers(t *testing.T) {
 			return taken(content)
 		})
 		servers, ctx := serversOf(t, Options{}, store)
-		if _, err := servers.Purge(ctx, 1); err != nil {
+		if _, err := servers.Purge(ctx, Moment(1).Time()); err != nil {
 			t.Errorf("%v: %v", code, err)
 		}
 	}
@@ -162,18 +162,18 @@ func TestFullQueues(t *testing.T) {
 	up, away := running(t, taken), newStore(t, taken)
 	servers, ctx := serversOf(t, Options{Acknowledge: One, Commands: 2}, up, away)
 	for number := uint64(0); number < 2; number++ {
-		if _, err := servers.Purge(ctx, number); err != nil {
+		if _, err := servers.Purge(ctx, Moment(number).Time()); err != nil {
 			t.Error(err)
 		}
 	}
-	if _, err := servers.Purge(ctx, 2); !errors.Is(err, ErrQueueFull) {
+	if _, err := servers.Purge(ctx, Moment(2).Time()); !errors.Is(err, ErrQueueFull) {
 		t.Error(err)
 	}
 	if commands, _ := up.came(); len(commands) != 2 {
 		t.Errorf("%d commands", len(commands))
 	}
 	dropping, ctx := serversOf(t, Options{Bytes: 1, Drop: true}, up)
-	if results, err := dropping.Purge(ctx, 0); err == nil || results[0].Err != ErrDropped || dropping.States()[0].Dropped != 1 {
+	if results, err := dropping.Purge(ctx, Moment(0).Time()); err == nil || results[0].Err != ErrDropped || dropping.States()[0].Dropped != 1 {
 		t.Errorf("%v, %v", results, err)
 	}
 }
@@ -242,10 +242,10 @@ func TestClosingServers(t *testing.T) {
 		servers.Close()
 	}()
 	var few *NotAcknowledged
-	if _, err := servers.Purge(ctx, 1); !errors.As(err, &few) {
+	if _, err := servers.Purge(ctx, Moment(1).Time()); !errors.As(err, &few) {
 		t.Error(err)
 	}
-	if _, err := servers.Purge(ctx, 1); err != ErrClosed {
+	if _, err := servers.Purge(ctx, Moment(1).Time()); err != ErrClosed {
 		t.Error(err)
 	}
 	if _, err := servers.Lookup(context.Background(), 1, 2); err != ErrClosed {

@@ -67,6 +67,12 @@ func (s *store) start() {
 	}()
 }
 
+func (s *store) setAnswer(answer func([]byte) []byte) {
+	s.lock.Lock()
+	defer s.lock.Unlock()
+	s.answer = answer
+}
+
 func (s *store) stop() {
 	s.lock.Lock()
 	defer s.lock.Unlock()

@@ -88,6 +88,7 @@ THINGS = [
     program("go", "golang-go"),
     program("protoc-gen-go", "protoc-gen-go"),
     program("protoc-gen-go-grpc", "protoc-gen-go-grpc"),
+    program("rustc", "rustc"),
     file("golang-google-protobuf-dev", "/usr/share/gocode/src/google.golang.org/protobuf/proto/decode.go"),
     file("golang-github-golang-protobuf-1-5-dev", "/usr/share/gocode/src/github.com/golang/protobuf/proto/registry.go"),
     file("golang-google-grpc-dev", "/usr/share/gocode/src/google.golang.org/grpc/server.go"),

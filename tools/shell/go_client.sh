@@ -1,8 +1,9 @@
 #!/usr/bin/env bash
 # Runs the tests of the client of clients/go: with a server that the tests imitate, and with the
-# built program. It needs Debian's golang-go, golang-google-protobuf-dev, protoc-gen-go and
-# protobuf-compiler, uses the loopback alone, and is no part of the gate. What is generated is removed
-# at the end; Go keeps its own cache of what it compiled.
+# built program. It also carries out the programs of the client's page, compares the generated
+# package with docs/segments.proto, and builds the client as a module. It needs Debian's golang-go,
+# golang-google-protobuf-dev, protoc-gen-go and protobuf-compiler, uses the loopback alone, and is no
+# part of the gate. What is built is removed at the end; Go keeps its own cache of what it compiled.
 #
 #     tools/pathd-tools go-client [PROGRAM]
 #
@@ -14,12 +15,28 @@ program=$(realpath "${1:-$top/crates/pathd/out/pathd}")
 [ -x "$program" ] || { echo "no program: $program" >&2; exit 2; }
 work=$(mktemp -d)
 trap 'rm -rf "$work"' EXIT
-mkdir "$work/src"
+mkdir "$work/src" "$work/generated"
 cp -r "$top/clients/go" "$work/src/pathd"
-protoc --proto_path="$top/docs" --go_out="$work/src" segments.proto
+
+# The generated package is that of segments.proto; the versions of its makers are not compared.
+protoc --proto_path="$top/docs" --go_opt=module=pathd --go_out="$work/generated" segments.proto
+diff -u -I '^//.*protoc' "$work/generated/segmentspb" "$top/clients/go/segmentspb"
 unformatted=$(gofmt -l "$top/clients")
 [ -z "$unformatted" ] || { echo "gofmt would change: $unformatted" >&2; exit 1; }
+
 cd "$work/src/pathd"
 export GO111MODULE=off GOFLAGS= GOPATH="$work:/usr/share/gocode" PATHD=$program CODES=$top/docs/codes.csv
 go vet .
 go test -count=1 .
+"$top/tools/pathd-tools" examples --program "$program" "$top/clients/go/README.md"
+
+# As a module, with Debian's protobuf in place of the one that would be fetched.
+gocode=/usr/share/gocode/src
+cp go.mod "$work/replaced.mod"
+for name in google.golang.org/protobuf github.com/golang/protobuf github.com/google/go-cmp; do
+  mkdir -p "$work/modules/$name"
+  [ ! -d "$gocode/$name" ] || cp -rL "$gocode/$name/." "$work/modules/$name"
+  printf 'module %s\n' "$name" >"$work/modules/$name/go.mod"
+  go mod edit -replace="$name=$work/modules/$name" "$work/replaced.mod"
+done
+GO111MODULE=on GOPROXY=off GOFLAGS=-mod=mod go build -modfile="$work/replaced.mod" .

@@ -19,6 +19,7 @@ SUITES = [
     (GRPC, "grpc PROGRAM"),
     ("protoc go protoc-gen-go golang-google-protobuf-dev", "go-client PROGRAM"),
     ("python3-protobuf", "client PROGRAM"),
+    ("rustc", "examples --program PROGRAM clients/rust/client.rs"),
     ("", "vectors -p PROGRAM tools/cases"),
     ("", "help-texts PROGRAM"),
 ]

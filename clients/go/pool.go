@@ -1,0 +1,46 @@
+package pathd
+
+import "context"
+
+// pool has sessions with one server, which calls share.
+type pool []*link
+
+// pick answers the open session with the fewest requests under way, and whether it was open before.
+// Where all that are open have some, it opens another if there may be more.
+func (p pool) pick(ctx context.Context) (*session, bool, error) {
+	var best *session
+	var free *link
+	for _, it := range p {
+		s := it.open()
+		if s == nil {
+			free = it
+		} else if best == nil || s.underWay() < best.underWay() {
+			best = s
+		}
+	}
+	if best != nil && (free == nil || best.underWay() == 0) {
+		return best, true, nil
+	}
+	opened, err := free.session(ctx)
+	if err != nil && best != nil {
+		return best, true, nil
+	}
+	return opened, false, err
+}
+
+// ask answers the body of the reply to a request, and whether it was sent over a session that had been
+// open before.
+func (p pool) ask(ctx context.Context, kind byte, body []byte) ([]byte, bool, error) {
+	s, wasOpen, err := p.pick(ctx)
+	if err != nil {
+		return nil, false, err
+	}
+	reply, err := s.ask(ctx, kind, body)
+	return reply, wasOpen, err
+}
+
+func (p pool) close() {
+	for _, it := range p {
+		it.close()
+	}
+}

@@ -1,0 +1,69 @@
+package pathd
+
+import (
+	"encoding/binary"
+	"fmt"
+
+	"google.golang.org/protobuf/proto"
+	pb "pathd/segmentspb"
+)
+
+// Kind is the kind of a request. A reply has the kind of its request and 0x80.
+type Kind byte
+
+// The kinds of requests. The body of a registration is a SegmentsRegistrationRequest, that of a lookup
+// a SegmentsRequest, that of a purge its moment in 8 bytes, and that of a removal a type in a byte and
+// an id.
+const (
+	KindRegister Kind = 1
+	KindLookup   Kind = 2
+	KindPurge    Kind = 3
+	KindRemove   Kind = 4
+)
+
+// The kinds as bytes, what the kind of a reply has in addition, and the kind of a refusal.
+const (
+	register, lookup = byte(KindRegister), byte(KindLookup)
+	purge, remove    = byte(KindPurge), byte(KindRemove)
+
+	replied, refused byte = 0x80, 0xff
+)
+
+const (
+	// The most bytes after the length of a request, and of a reply.
+	mostRequest, mostReply = 131_073, 1_114_112
+	// The bytes of the body of an acknowledgement.
+	ackSize = 24
+)
+
+// Ack is the reply to a command that was taken: its place among the commands, and how many segments
+// it inserted, updated, kept out and dropped.
+type Ack struct {
+	Place                           uint64
+	Inserted, Updated, Kept, Purged uint32
+}
+
+// ReadAck reads the body of the reply to a registration, a purge or a removal.
+func ReadAck(body []byte) (Ack, error) {
+	if len(body) != ackSize {
+		return Ack{}, fmt.Errorf("%w: an acknowledgement of %d bytes", ErrReply, len(body))
+	}
+	number := func(at int) uint32 { return binary.BigEndian.Uint32(body[at:]) }
+	return Ack{binary.BigEndian.Uint64(body), number(8), number(12), number(16), number(20)}, nil
+}
+
+func registrationBody(segments *pb.SegmentsRegistrationRequest) ([]byte, error) {
+	return proto.MarshalOptions{Deterministic: true}.Marshal(segments)
+}
+
+func lookupBody(source, destination IsdAs) ([]byte, error) {
+	return proto.Marshal(&pb.SegmentsRequest{SrcIsdAs: uint64(source), DstIsdAs: uint64(destination)})
+}
+
+func purgeBody(moment Moment) []byte {
+	return binary.BigEndian.AppendUint64(nil, uint64(moment))
+}
+
+func removalBody(kind pb.SegmentType, id [32]byte) []byte {
+	return append([]byte{byte(kind)}, id[:]...)
+}
