@@ -72,7 +72,7 @@ def requests(made: int, key: bytes | None) -> list[Request]:
         between_cores,
         between_cores,
         lookup("1-ff00:0:110", "0-0"),
-        Purge(expiry(made)),
+        Purge(half_seconds=expiry(made)),
         lookup("1-ff00:0:111", "1-ff00:0:110"),
         lookup("0-0", "1-ff00:0:121"),
         Register(rows(TOPOLOGY[3:4], made, (key or b"") + b"!")),

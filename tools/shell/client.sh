@@ -4,9 +4,9 @@
 # each reply, each without a key and with one. With a key the last segment is refused, since it is
 # signed with another one. The commands of `python -m pathd_client` are those of commands.txt there,
 # which has what each prints. Then a server is killed (-9) after a registration was acknowledged,
-# started again on the same file, and asked for the segment. Last the client's own tests are run,
-# with sessions of the program among them. It needs Debian's python3-protobuf, uses the loopback
-# alone, and is no part of the gate.
+# started again on the same file, and asked for the segment. The programs of the client's page are
+# carried out. Last the client's own tests are run, with sessions of the program among them. It needs
+# Debian's python3-protobuf, uses the loopback alone, and is no part of the gate.
 #
 #     tools/pathd-tools client [PROGRAM]
 #
@@ -100,6 +100,9 @@ kill "$server"
 wait "$server" 2>/dev/null || true
 server=
 echo "$sessions sessions, $differences differ"
+
+# The programs of the client's page.
+"$top/tools/pathd-tools" examples --program "$program" "$top/clients/python/README.md" || differences=$((differences + 1))
 
 export PATHD=$program PYTHONDONTWRITEBYTECODE=1
 (cd "$top/clients/python" && /usr/bin/python3 -m unittest --quiet) || differences=$((differences + 1))

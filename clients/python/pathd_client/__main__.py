@@ -5,6 +5,7 @@ import argparse
 import sys
 import time
 from collections.abc import Iterator, Sequence
+from datetime import datetime
 from itertools import islice
 from pathlib import Path
 
@@ -42,11 +43,14 @@ def row_of(line: str, now: int, key: bytes | None) -> Row:
     return type_of(kind), make_segment(parse_path(path), now if made == "now" else int(made), key)
 
 
-def rows_of(text: str, now: int, key: bytes | None) -> Iterator[Row]:
-    """The segments of a file's lines."""
-    for line in text.splitlines():
+def rows_of(file: str, now: int, key: bytes | None) -> Iterator[Row]:
+    """The segments of a file's lines. ValueError where a line has none: it names file and line."""
+    for number, line in enumerate(text_of(file).splitlines(), 1):
         if line and not line.startswith("#"):
-            yield row_of(line, now, key)
+            try:
+                yield row_of(line, now, key)
+            except ValueError as fault:
+                raise ValueError(f"{file}:{number}: {fault}") from None
 
 
 def registrations(rows: Iterator[Row]) -> Iterator[Register]:
@@ -60,16 +64,25 @@ def text_of(file: str) -> str:
     return sys.stdin.read() if file == "-" else Path(file).read_text(encoding="utf-8")
 
 
+def purge_of(text: str) -> Purge:
+    """The purge by `now`, by a number of half seconds since 1970, or by a date with a time zone."""
+    if text == "now":
+        return Purge.now()
+    if text.isdigit():
+        return Purge(half_seconds=int(text))
+    return Purge.at(datetime.fromisoformat(text))
+
+
 def requests_of(options: argparse.Namespace) -> list[Request]:
     """What the options ask for."""
     match options.command:
         case "register":
-            rows = rows_of(text_of(options.file), int(time.time()), options.key)
+            rows = rows_of(options.file, int(time.time()), options.key)
             return list(registrations(rows))
         case "lookup":
             return [Lookup(parse_isd_as(options.source), parse_isd_as(options.destination))]
         case "purge":
-            return [Purge(int(2 * time.time()) if options.at is None else options.at)]
+            return [purge_of(options.at)]
         case _:
             return [Remove(type_of(options.type), bytes.fromhex(options.id))]
 
@@ -135,8 +148,8 @@ def add_commands(parser: argparse.ArgumentParser) -> None:
     lookup.add_argument("destination", metavar="DESTINATION")
     purge = commands.add_parser("purge", help="drop the segments that have expired")
     purge.add_argument(
-        "--at", type=int, metavar="T",
-        help="by this moment, in half seconds since 1970 [now, by the clock]",
+        "--at", metavar="T", default="now",
+        help="by this moment, as 2026-11-27T12:00:00Z or in half seconds since 1970 [%(default)s]",
     )
     remove = commands.add_parser("remove", help="drop one segment")
     remove.add_argument("type", metavar="TYPE", help="up, down or core")

@@ -25,8 +25,8 @@ class Connection:
     other to read, however many bytes are under way.
     """
 
-    def __init__(self, host: str, port: int, timeout: float) -> None:
-        self._socket = socket.create_connection((host, port), timeout)
+    def __init__(self, connected: socket.socket) -> None:
+        self._socket = connected
         self._socket.setsockopt(socket.IPPROTO_TCP, socket.TCP_NODELAY, 1)
         self._socket.setblocking(False)
         self._selector = selectors.DefaultSelector()
@@ -35,6 +35,11 @@ class Connection:
         self._sent = 0
         self._received = FrameBuffer()
         self._is_new = True
+
+    @classmethod
+    def open(cls, host: str, port: int, timeout: float) -> Connection:
+        """The connection with a server, which may take a number of seconds to be made."""
+        return cls(socket.create_connection((host, port), timeout))
 
     def close(self) -> None:
         """Closes the connection. Bytes that were not sent are dropped."""
@@ -71,16 +76,12 @@ class Connection:
         TimeoutError where neither can be done in this number of seconds, and ConnectionEnded at the
         connection's end.
         """
-        events = EVENT_READ | EVENT_WRITE if self._unsent else EVENT_READ
-        self._selector.modify(self._socket, events)
+        self._selector.modify(self._socket, self._events())
         ready = self._selector.select(max(timeout, 0.0))
         if not ready:
             raise TimeoutError
         ((_, mask),) = ready
-        if mask & EVENT_WRITE:
-            self._send()
-        if mask & EVENT_READ:
-            self._receive()
+        self._act(mask)
 
     def contents(self) -> Iterator[bytes]:
         """The contents of the whole frames that were received, each once.
@@ -92,6 +93,17 @@ class Connection:
                 raise TurnedAway(Code.NO_SEAT.meaning)
             self._is_new = False
             yield content
+
+    def _events(self) -> int:
+        """What a transfer waits for."""
+        return EVENT_READ | EVENT_WRITE if self._unsent else EVENT_READ
+
+    def _act(self, ready: int) -> None:
+        """Sends and receives once, as far as the socket is ready."""
+        if ready & EVENT_WRITE:
+            self._send()
+        if ready & EVENT_READ:
+            self._receive()
 
     def _send(self) -> None:
         try:

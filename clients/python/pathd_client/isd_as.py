@@ -26,3 +26,8 @@ def isd_as_text(number: int) -> str:
     if asn < 1 << 32:
         return f"{isd}-{asn}"
     return f"{isd}-{asn >> 32:x}:{asn >> 16 & 0xFFFF:x}:{asn & 0xFFFF:x}"
+
+
+def isd_as_of(it: int | str) -> int:
+    """The number that is given, or that of a text."""
+    return parse_isd_as(it) if isinstance(it, str) else it

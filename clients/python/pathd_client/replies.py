@@ -8,7 +8,7 @@ from dataclasses import dataclass
 from google.protobuf.message import DecodeError
 
 from . import segments_pb2 as pb
-from .codes import PASSING_CODES, Code
+from .codes import PASSING_CODES, UNSETTLED_CODES, Code
 from .errors import FrameError
 from .frames import REFUSED, REPLY_BIT
 from .requests import Lookup, Request
@@ -45,11 +45,12 @@ class Found:
         return "\n".join(f"{kind.name.lower()} {path}" for kind, path in paths) or "nothing"
 
 
-@dataclass(frozen=True)
-class Refused:
-    """A request was refused. It changed nothing, unless the code is OUTCOME_UNKNOWN.
+@dataclass(unsafe_hash=True)
+class Refused(Exception):
+    """A request was refused. It changed nothing, unless `is_unsettled`.
 
-    The code is a `Code`, or a plain number where this client knows no name for it.
+    The code is a `Code`, or a plain number where this client knows no name for it. It is the reply
+    that `ask` answers, and the error that `register`, `look_up`, `purge` and `remove` raise.
     """
 
     code: Code | int
@@ -59,12 +60,31 @@ class Refused:
         """Whether the same request may succeed later, while the server changed nothing."""
         return self.code in PASSING_CODES
 
+    @property
+    def is_unsettled(self) -> bool:
+        """Whether the command may be committed in spite of the refusal."""
+        return self.code in UNSETTLED_CODES
+
     def __str__(self) -> str:
         meaning = self.code.meaning if isinstance(self.code, Code) else f"code {self.code:#04x}"
         return f"refused: {meaning}"
 
 
 Reply = Ack | Found | Refused
+
+
+def ack_of(reply: Reply) -> Ack:
+    """The acknowledgement that a reply to a command is. Raises the refusal."""
+    if isinstance(reply, Ack):
+        return reply
+    raise reply if isinstance(reply, Refused) else FrameError(f"no acknowledgement: {reply}")
+
+
+def rows_of(reply: Reply) -> Sequence[Row]:
+    """The segments that a reply to a lookup has. Raises the refusal."""
+    if isinstance(reply, Found):
+        return reply.rows
+    raise reply if isinstance(reply, Refused) else FrameError(f"no segments: {reply}")
 
 
 def code_of(number: int) -> Code | int:

@@ -3,11 +3,13 @@ from __future__ import annotations
 
 import struct
 from collections.abc import Sequence
-from dataclasses import dataclass
+from dataclasses import dataclass, field
+from datetime import datetime, timezone
 from typing import ClassVar
 
 from . import segments_pb2 as pb
 from .isd_as import isd_as_text
+from .moments import half_seconds_of
 from .segments import Row, SegmentType
 
 # The most segments of one registration.
@@ -70,21 +72,33 @@ class Lookup:
 
 @dataclass(frozen=True)
 class Purge:
-    """Drops the segments that have expired by a moment, in half seconds since 1970."""
+    """Drops the segments that have expired by a moment: `Purge.now()`, `Purge.at(moment)`, or by a
+    number of half seconds since 1970, which needs its name."""
 
-    moment: int
+    half_seconds: int = field(kw_only=True)
     kind: ClassVar[int] = 3
     is_repeatable: ClassVar[bool] = True
 
     def __post_init__(self) -> None:
-        check_number(self.moment, "the moment")
+        check_number(self.half_seconds, "the moment")
+
+    @classmethod
+    def at(cls, moment: datetime) -> Purge:
+        """The purge by a moment, which has a time zone. ValueError where it has none, or is before
+        1970."""
+        return cls(half_seconds=half_seconds_of(moment))
+
+    @classmethod
+    def now(cls) -> Purge:
+        """The purge of what has expired by this machine's clock."""
+        return cls.at(datetime.now(timezone.utc))
 
     def body(self) -> bytes:
         """The moment, in eight bytes."""
-        return struct.pack(">Q", self.moment)
+        return struct.pack(">Q", self.half_seconds)
 
     def __str__(self) -> str:
-        return f"purge at {self.moment}"
+        return f"purge at {self.half_seconds}"
 
 
 @dataclass(frozen=True)

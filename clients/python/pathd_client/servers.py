@@ -2,6 +2,7 @@
 from __future__ import annotations
 
 import functools
+import ssl
 import threading
 import time
 from collections.abc import Sequence
@@ -29,8 +30,8 @@ class Servers:
     server that is away gets them once it is back. `acknowledge` says how many servers have to
     acknowledge a command before a call returns, and `within` how long a call may take, in seconds.
     `bounds` are those of each queue, and `when_full` says what is done where one has no room.
-    `connect_timeout` and `reply_timeout` are those of a session, and `retry` has the pauses between
-    two tries. README.md says which commands leave the servers with the same rows.
+    `connect_timeout`, `reply_timeout` and `tls` are those of a session, and `retry` has the pauses
+    between two tries. README.md says which commands leave the servers with the same rows.
     """
 
     def __init__(
@@ -44,6 +45,7 @@ class Servers:
         connect_timeout: float = 5.0,
         reply_timeout: float = 30.0,
         retry: Retry = FOR_EVER,
+        tls: ssl.SSLContext | None = None,
     ) -> None:
         if not addresses:
             raise ValueError("no servers")
@@ -59,7 +61,7 @@ class Servers:
         opened = [
             functools.partial(
                 Session, *address, retry=NO_RETRY,
-                connect_timeout=connect_timeout, reply_timeout=reply_timeout,
+                connect_timeout=connect_timeout, reply_timeout=reply_timeout, tls=tls,
             )
             for address in self._addresses
         ]

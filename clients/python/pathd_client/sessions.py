@@ -2,12 +2,15 @@
 from __future__ import annotations
 
 import io
+import ssl
 import subprocess
 import time
 from collections.abc import Iterable, Sequence
 from dataclasses import dataclass
 from typing import ClassVar
 
+from .addresses import Address
+from .calls import Calls
 from .connection import Connection
 from .deadlines import Deadline
 from .errors import (
@@ -17,6 +20,7 @@ from .frames import frame, read_frames
 from .replies import Refused, Reply, read_reply
 from .requests import Request
 from .retries import DEFAULT_RETRY, Retry
+from .tls import TlsConnection
 
 # How long a connection may take at least, in seconds.
 LEAST_TIMEOUT = 0.001
@@ -90,8 +94,11 @@ class Queue:
         return count == 0 or (count < self._most and after <= self._most_bytes)
 
 
-class Session:
+class Session(Calls):
     """A session with a server over TCP, as a context: the connection is closed at its end.
+
+    `tls` has it over TLS, with a server behind a proxy that ends TLS. Its certificate has to be one
+    of `server_name`, which is the host if left out.
 
     `connect_timeout` is how long a connection may take to be made, and `reply_timeout` how long the
     server may take for a reply after the one before it, both in seconds. `retry` bounds how often a
@@ -113,9 +120,12 @@ class Session:
         connect_timeout: float = 5.0,
         reply_timeout: float = 30.0,
         retry: Retry = DEFAULT_RETRY,
+        tls: ssl.SSLContext | None = None,
+        server_name: str | None = None,
     ) -> None:
-        self._host = host
-        self._port = port
+        self._address = Address(host, port)
+        self._tls = tls
+        self._server_name = host if server_name is None else server_name
         self._connect_timeout = connect_timeout
         self._reply_timeout = reply_timeout
         self._retry = retry
@@ -224,10 +234,15 @@ class Session:
             # A socket without any time to connect would not wait at all.
             timeout = max(min(self._connect_timeout, self._deadline.left()), LEAST_TIMEOUT)
             try:
-                self._connection = Connection(self._host, self._port, timeout)
+                self._connection = self._opened(timeout)
             except (OSError, UnicodeError) as fault:
-                raise ConnectionEnded(f"no connection: {fault}") from fault
+                raise ConnectionEnded(f"no connection with {self._address}: {fault}") from fault
         return self._connection
+
+    def _opened(self, timeout: float) -> Connection:
+        if self._tls is None:
+            return Connection.open(*self._address, timeout)
+        return TlsConnection(*self._address, timeout, self._tls, self._server_name)
 
     def _exchange_over(self, connection: Connection, queue: Queue) -> None:
         reply = Deadline.after(self._reply_timeout)
@@ -236,10 +251,24 @@ class Session:
             try:
                 connection.transfer(min(reply.left(), self._deadline.left()))
             except TimeoutError as fault:
-                raise ReplyTimeout("no reply in time") from fault
+                raise ReplyTimeout(f"{self._address}: no reply in time") from fault
+            except ConnectionEnded as fault:
+                self._answer_from(connection, queue)
+                if queue.is_done():
+                    return
+                raise type(fault)(f"{self._address}: {fault}") from fault
+            if self._answer_from(connection, queue):
+                reply = Deadline.after(self._reply_timeout)
+
+    def _answer_from(self, connection: Connection, queue: Queue) -> bool:
+        """Gives requests the replies that have come. Answers whether there was one."""
+        before = queue.answered
+        try:
             for content in connection.contents():
                 queue.answer(content)
-                reply = Deadline.after(self._reply_timeout)
+        except TurnedAway as fault:
+            raise TurnedAway(f"{self._address}: {fault}") from fault
+        return queue.answered > before
 
 
 def check_repeatable(under_way: Iterable[Asked], sent: int, ended: ConnectionEnded) -> None:

@@ -11,7 +11,7 @@ QUICKLY = Retry(attempts=3, first_pause=0.0, longest_pause=0.0)
 
 PATH = "1-ff00:0:110 1>2 1-ff00:0:111"
 LOOKUP = Lookup(parse_isd_as("1-ff00:0:110"), parse_isd_as("1-ff00:0:111"))
-PURGE = Purge(5)
+PURGE = Purge(half_seconds=5)
 REMOVE = Remove(SegmentType.DOWN, bytes(range(32)))
 
 # Segments of the year 2096, which have not expired by the machine's clock.

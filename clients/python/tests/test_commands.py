@@ -64,12 +64,15 @@ class Commands(unittest.TestCase):
             self.assertEqual(run(*at(server), "purge", "--at", "5")[0], 0)
             self.assertEqual(run(*at(server), "remove", "down", REMOVE.id.hex())[0], 0)
         self.assertEqual(server.requests, [[frame(PURGE)[4:]], [frame(REMOVE)[4:]]])
+        with FakeServer(answers(ack(0, 0x83))) as server:
+            self.assertEqual(run(*at(server), "purge", "--at", "1970-01-01T02:00:02.5+02:00")[0], 0)
+        self.assertEqual(server.requests, [[frame(PURGE)[4:]]])
 
     def test_servers_that_fail(self) -> None:
         with FakeServer(closes, closes) as server:
             status, printed, said = run(*at(server), "purge")
         self.assertEqual((status, printed), (1, ""))
-        self.assertIn("error: the server ended the connection", said)
+        self.assertIn(": the server ended the connection", said)
         with FakeServer(closes) as server:
             status, _, said = run(*at(server), "remove", "down", REMOVE.id.hex())
         self.assertEqual(status, 1)
@@ -100,7 +103,8 @@ class Commands(unittest.TestCase):
     def test_words_that_are_wrong(self) -> None:
         wrong: list[list[str]] = [
             ["remove", "sideways", "00" * 32], ["remove", "up", "00"], ["remove", "up", "zz"],
-            ["lookup", "1", "1-1"], ["purge", "--at", "-1"], ["purge", "--at", "x"], ["register"],
+            ["lookup", "1", "1-1"], ["purge", "--at", "-1"], ["purge", "--at", "x"],
+            ["purge", "--at", "2026-11-27T12:00:00"], ["register"],
             ["--connect", "nowhere", "purge"], ["--attempts", "0", "purge"], ["store"], [],
             ["--connect", ":1", "purge"], ["--connect", "a:1,a:1", "purge"],
             ["--connect", "a:65536", "purge"], ["--acknowledge", "some", "purge"],
@@ -111,6 +115,9 @@ class Commands(unittest.TestCase):
             self.assertNotIn("Traceback", said)
         for line in ("down", "down now 1-1 1", f"down x {PATH}", f"to now {PATH}"):
             self.assertEqual(run("register", "-", text=line)[0], 2, line)
+        for line in (f"down now {PATH} 3", "down now 1-1 1 1-2", f"down x {PATH}"):
+            status, _, said = run("register", "-", text=f"# a comment\n{line}\n")
+            self.assertEqual((status, "error: -:2: " in said), (2, True), said)
 
     def test_a_file_that_is_not_there(self) -> None:
         status, _, said = run("register", "/nowhere/segments.txt")

@@ -26,7 +26,8 @@ class Requests(unittest.TestCase):
         self.assertEqual(frame(Lookup(0, 0)), bytes.fromhex("0000000102"))
 
     def test_purge(self) -> None:
-        self.assertEqual(frame(Purge(3_400_043_199)), bytes.fromhex("00000009 03 00000000caa88abf"))
+        wanted = bytes.fromhex("00000009 03 00000000caa88abf")
+        self.assertEqual(frame(Purge(half_seconds=3_400_043_199)), wanted)
 
     def test_remove(self) -> None:
         request = Remove(SegmentType.DOWN, segment_id(HOPS))
@@ -41,7 +42,7 @@ class Requests(unittest.TestCase):
     def test_numbers_have_64_bits(self) -> None:
         for number in (-1, 2**64):
             with self.assertRaises(ValueError):
-                Purge(number)
+                Purge(half_seconds=number)
             with self.assertRaises(ValueError):
                 Lookup(0, number)
 

@@ -87,7 +87,8 @@ class Sessions(unittest.TestCase):
         with Server() as server, server.session() as session:
             self.assertEqual(session.ask(registration(0)), Ack(0, 1, 0, 0, 0))
             self.assertEqual(session.ask(LOOKUP), Found([(kind, segment)]))
-            replies = session.pipeline([registration(0), remove, remove, LOOKUP, Purge(5)])
+            purge = Purge(half_seconds=5)
+            replies = session.pipeline([registration(0), remove, remove, LOOKUP, purge])
         acks = [Ack(1, 0, 0, 1, 0), Ack(2, 0, 0, 0, 1), Ack(3, 0, 0, 0, 0)]
         self.assertEqual(replies, [*acks, Found([]), Ack(4, 0, 0, 0, 0)])
 
@@ -173,7 +174,7 @@ class Once(unittest.TestCase):
     """Sessions with `pathd once`."""
 
     def test_a_session(self) -> None:
-        requests: list[Request] = [registration(0), LOOKUP, Purge(2**64 - 1), LOOKUP]
+        requests: list[Request] = [registration(0), LOOKUP, Purge(half_seconds=2**64 - 1), LOOKUP]
         replies = run_session([PROGRAM, "once", "--cores", CORES], requests)
         wanted = [Ack(0, 1, 0, 0, 0), Found([row(0)]), Ack(1, 0, 0, 0, 1), Found([])]
         self.assertEqual(replies, wanted)

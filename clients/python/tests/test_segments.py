@@ -2,10 +2,11 @@
 from __future__ import annotations
 
 import unittest
+from datetime import datetime, timedelta, timezone
 
 from pathd_client import (
-    expiry, hops_of, isd_as_text, make_segment, parse_isd_as, parse_path, path_text, segment_id,
-    timestamp_of,
+    expires_at, expiry, hops_of, isd_as_text, made_at, make_segment, parse_isd_as, parse_path,
+    path_text, segment_id, timestamp_of,
 )
 from pathd_client.segments import keyed_signature
 
@@ -54,6 +55,14 @@ class Segments(unittest.TestCase):
         self.assertEqual(expiry(segment), 3_400_043_200)
         self.assertEqual(segment_id(hops_of(segment)).hex(), ID)
 
+    def test_a_segment_in_place_of_its_hops(self) -> None:
+        made = datetime(2023, 11, 14, 22, 13, 20, tzinfo=timezone.utc)
+        segment = make_segment(parse_path(PATH), made + timedelta(milliseconds=999))
+        self.assertEqual(path_text(segment), PATH)
+        self.assertEqual(segment_id(segment).hex(), ID)
+        self.assertEqual(made_at(segment), made)
+        self.assertEqual(expires_at(segment) - made_at(segment), timedelta(hours=6))
+
     def test_worked_signatures(self) -> None:
         first = keyed_signature(KEY, FIRST, [INFO])
         second = keyed_signature(KEY, SECOND, [INFO, FIRST, first])
@@ -68,7 +77,7 @@ class Segments(unittest.TestCase):
             covered += [signed, signature]
 
     def test_paths_that_are_none(self) -> None:
-        for text in ("", "1-1 1>2", "1-1 1 1-2", "1-1 a>b 1-2"):
+        for text in ("", "1-1 1>2", "1-1 1 1-2", "1-1 a>b 1-2", "1-1 1>2 1-2 3", "1-1 1>2>3 1-2"):
             with self.assertRaises(ValueError):
                 parse_path(text)
 

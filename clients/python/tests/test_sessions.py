@@ -243,7 +243,7 @@ class Ends(unittest.TestCase):
             peer.reset()
 
         with FakeServer(replies_and_resets) as server:
-            connection = Connection(*server.address, timeout=10.0)
+            connection = Connection.open(*server.address, timeout=10.0)
             server.wait_for_close()
             connection.queue(frame(LOOKUP))
             connection.transfer(10.0)
