@@ -2,6 +2,7 @@
 # package of them.
 #
 #     make install [DESTDIR=..] [PREFIX=/usr/local]
+#     make install-pages [DESTDIR=..] [PREFIX=/usr/local]     the pages alone
 #     make uninstall [DESTDIR=..] [PREFIX=/usr/local]
 #     make deb
 #
@@ -23,11 +24,20 @@ PAGES = README.md CHANGELOG.md docs/CLI.md docs/PROTOCOL.md docs/STORE.md docs/P
   docs/load.svg
 TASKS = $(wildcard docs/operating/*.md)
 EXAMPLES = deploy/pathd.nft deploy/pathd.rules.yml deploy/grafana-dashboard.json \
-  deploy/pathd-purge.service deploy/pathd-purge.timer deploy/pathd.service.d/status.conf
+  deploy/pathd.service.d/status.conf
+UNIT_FILES = pathd.service pathd-failed@.service pathd-purge.service pathd-purge.timer
 # The units and the man page name the paths of the default prefix.
 PLACED = sed 's|/usr/local/|$(PREFIX)/|g'
-# Links of pages lead to where docs/ and deploy/ are installed. Other files are not installed.
-LINKED = sed -E 's|\]\(docs/|](|g; s|\]\((\.\./)?((\.\./)?)deploy/([^)]*/)?|](\2examples/|g'
+# Of the pages that are installed, deploy/ and docs/ are other folders. What a link leads to that is
+# not installed is left out, and its text stays; a link's text may have two lines.
+nothing =
+NAMES = $(subst $(nothing) ,|,$(strip $(notdir $(PAGES) $(TASKS) $(EXAMPLES))))
+LINKED = sed -zE 's!\]\(docs/!](!g; s!\]\(\.\./(\.\./)?(README|CHANGELOG)\.md!](\1\2.md!g; \
+  s!\]\((\.\./)?((\.\./)?)deploy/([^)]*/)?!](\2examples/!g; \
+  s!\]\(((\.\./|operating/|examples/|\.\./examples/)?($(NAMES))(\#[^)]*)?|\#[^)]*|https?:[^)]*)\)!]\x01\1\x02!g; \
+  s!\[([^][]*)\]\([^)]*\)!\1!g; s/\x01/(/g; s/\x02/)/g; \
+  s!(^|[ \n`])deploy/([a-z.]*/)?(pathd\.nft|pathd\.rules\.yml|grafana-dashboard\.json|status\.conf)!\1$(PREFIX)/share/doc/pathd/examples/\3!g; \
+  s!/usr/local/(bin|lib)/!$(PREFIX)/\1/!g'
 
 help:
 	@sed -n '/^#/!q; s/^# \{0,1\}//p' Makefile
@@ -37,30 +47,32 @@ $(PROGRAM):
 	@echo 'PROGRAM=.. names a program that is somewhere else.' >&2
 	@exit 1
 
-install: $(PROGRAM)
-	install -d $(BIN) $(LIB) $(MAN) $(DOC)/examples $(DOC)/operating $(UNITS) $(BASH_COMPLETIONS) \
-	  $(ZSH_COMPLETIONS) $(dir $(SETTINGS))
+install: $(PROGRAM) install-pages
+	install -d $(BIN) $(LIB) $(MAN) $(UNITS) $(BASH_COMPLETIONS) $(ZSH_COMPLETIONS) $(dir $(SETTINGS))
 	install -m 755 $(PROGRAM) $(BIN)/pathd
-	install -m 755 deploy/pathd-probe $(LIB)/pathd-probe
-	$(PLACED) deploy/pathd.service >$(UNITS)/pathd.service
-	$(PLACED) 'deploy/pathd-failed@.service' >'$(UNITS)/pathd-failed@.service'
+	install -m 755 deploy/pathd-probe deploy/pathd-purge $(LIB)
+	for unit in $(UNIT_FILES); do \
+	  $(PLACED) "deploy/$$unit" >"$(UNITS)/$$unit" && chmod 644 "$(UNITS)/$$unit" || exit; done
 	$(PLACED) deploy/pathd.1 >$(MAN)/pathd.1
-	chmod 644 $(UNITS)/pathd.service '$(UNITS)/pathd-failed@.service' $(MAN)/pathd.1
+	chmod 644 $(MAN)/pathd.1
 	install -m 644 deploy/pathd.bash $(BASH_COMPLETIONS)/pathd
 	install -m 644 deploy/pathd.zsh $(ZSH_COMPLETIONS)/_pathd
+	test -e $(SETTINGS) || install -m 644 deploy/pathd.default $(SETTINGS)
+
+install-pages:
+	install -d $(DOC)/examples $(DOC)/operating
 	for page in $(PAGES); do $(LINKED) $$page >$(DOC)/$${page##*/} || exit; done
 	for page in $(TASKS); do $(LINKED) $$page >$(DOC)/operating/$${page##*/} || exit; done
 	chmod 644 $(patsubst %,$(DOC)/%,$(notdir $(PAGES))) $(DOC)/operating/*.md
 	install -m 644 $(EXAMPLES) $(DOC)/examples
-	test -e $(SETTINGS) || install -m 644 deploy/pathd.default $(SETTINGS)
 
 # The settings and the store stay.
 uninstall:
-	rm -f $(BIN)/pathd $(MAN)/pathd.1 $(UNITS)/pathd.service '$(UNITS)/pathd-failed@.service' \
+	rm -f $(BIN)/pathd $(MAN)/pathd.1 $(patsubst %,'$(UNITS)/%',$(UNIT_FILES)) \
 	  $(BASH_COMPLETIONS)/pathd $(ZSH_COMPLETIONS)/_pathd
 	rm -rf $(LIB) $(DOC)
 
 deb: $(PROGRAM)
 	deploy/debian/make-deb $(PROGRAM)
 
-.PHONY: help install uninstall deb
+.PHONY: help install install-pages uninstall deb

@@ -31,7 +31,7 @@ PROGRAMS = [
     ("root losetup", "block-device PROGRAM"),
     ("root ip nft wg haproxy stunnel openssl python3-protobuf", "network PROGRAM"),
     ("root btrfs", "snapshots --program PROGRAM"),
-    ("root losetup nspawn nft ip make protoc python3-protobuf python3-venv", "units --short PROGRAM"),
+    ("root losetup nspawn nft ip make protoc python3-protobuf", "units --short PROGRAM"),
     ("gcc python3", "refused-calls --program PROGRAM"),
     ("gcc python3", "power-cuts --program PROGRAM"),
     ("python3", "histories --program PROGRAM"),
@@ -71,4 +71,5 @@ def main(words: list[str]) -> int:
         results.append(LEFT_OUT)
     results.append(check("protoc python3-protobuf", "protobuf"))
     results.append(check("promtool", "alert-rules"))
+    results.append(check("make", "installed"))
     return FAILED if FAILED in results else max(results)

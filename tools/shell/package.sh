@@ -64,6 +64,8 @@ expect "the user is there, and the folder is its own" \
 expect "the settings have no core ASes" grep -qx 'CORES=' "$root/etc/default/pathd"
 expect "no file names /usr/local" sh_inside \
   '! dpkg -L pathd | grep -v /doc/ | xargs -d "\n" grep -ls /usr/local/'
+expect "each link of its pages leads to something, and no block needs the repository" \
+  "$top/tools/pathd-tools" installed --folder "$root/usr/share/doc/pathd"
 expect "the program prints its help" inside /usr/bin/pathd --help
 expect "a store is made and served, and the probe is answered" sh_inside '
   cd /var/lib/pathd
@@ -72,6 +74,13 @@ expect "a store is made and served, and the probe is answered" sh_inside '
     pathd run store --listen 127.0.0.1:39252 --cores 1-ff00:0:110 --sessions 1 &
   MAINPID=$! /usr/lib/pathd/pathd-probe --wait 127.0.0.1:39252
   wait $!'
+expect "a purge is acknowledged without a client" sh_inside '
+  cd /var/lib/pathd
+  setpriv --reuid pathd --regid pathd --clear-groups \
+    pathd run store --listen 127.0.0.1:39253 --cores 1-ff00:0:110 &
+  MAINPID=$! /usr/lib/pathd/pathd-probe --wait 127.0.0.1:39253
+  /usr/lib/pathd/pathd-purge 127.0.0.1:39253 | grep -x "place 0: 0 inserted, 0 updated, 0 kept, 0 purged"
+  kill $!'
 echo CORES=1-ff00:0:110 >"$root/etc/default/pathd"
 store=$(sha256sum <"$root/var/lib/pathd/store")
 expect "it is installed again" inside dpkg --install /tmp/pathd.deb

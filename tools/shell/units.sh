@@ -9,8 +9,8 @@
 #
 # PROGRAM is crates/pathd/out/pathd if left out, which `rt run` builds. With --short the timer's
 # times are seconds; without it they are its own, and the script waits six minutes for the second
-# purge. It has to be run as root, on Debian 12 with systemd-container, python3-venv,
-# python3-setuptools, python3-wheel, python3-protobuf, protobuf-compiler, nftables, iproute2 and make
+# purge. It has to be run as root, on Debian 12 with systemd-container, python3-protobuf,
+# protobuf-compiler, nftables, iproute2 and make
 # (tools/pathd-tools need says what is missing), and a free loop device, which nobody else may take
 # meanwhile.
 #
@@ -21,7 +21,7 @@
 # left out. On a machine that was started by systemd the script was not tried.
 set -euo pipefail
 top=$(cd "$(dirname "${BASH_SOURCE[0]}")/../.." && pwd)
-"$top/tools/pathd-tools" need root losetup nspawn nft ip make protoc python3-protobuf python3-venv || exit
+"$top/tools/pathd-tools" need root losetup nspawn nft ip make protoc python3-protobuf || exit
 if [ "${1:-}" != --in-own-mounts ]; then
   exec unshare --mount --propagation private "${BASH_SOURCE[0]}" --in-own-mounts "$@"
 fi
@@ -67,7 +67,7 @@ repository=$root/srv/pathd
 mkdir -p "$repository/crates/pathd/out" "$root/var/lib" "$root/tmp"
 cp "$program" "$repository/crates/pathd/out/pathd"
 cp -r "$top"/*.md "$top/Makefile" "$top/deploy" "$top/docs" "$top/clients" "$top/tools" "$repository"
-rm -rf "$root/var/lib/pathd" "$root/opt/pathd-client" "$root/var/log/journal" "$root/usr/local/bin/pathd" "$root/etc/default/pathd"
+rm -rf "$root/var/lib/pathd" "$root/var/log/journal" "$root/usr/local/bin/pathd" "$root/etc/default/pathd"
 sed -i '/^pathd:/d' "$root/etc/passwd" "$root/etc/group" "$root/etc/shadow" "$root/etc/gshadow" 2>/dev/null || true
 # Nothing of the machine's own services starts there, and nothing that sets the machine's clock, devices or kernel.
 rm -f "$root"/etc/systemd/system/*.wants/* "$root"/etc/systemd/system/*.requires/* "$root"/etc/rc?.d/S*

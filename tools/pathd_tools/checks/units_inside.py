@@ -296,7 +296,7 @@ def look_at_walls() -> None:
             STEPS.leave_out(f"{file} of the unit", f"this hierarchy of cgroups has no controller {controller}")
     for unit in ("pathd.service", "pathd-failed@.service", "pathd-purge.service", "pathd-purge.timer"):
         done = run("systemd-analyze", "verify", TOP / "deploy" / unit)
-        lines = [line for line in done.stderr.splitlines() if "pathd" in line and "pathd-client is not executable" not in line]
+        lines = [line for line in done.stderr.splitlines() if "pathd" in line]
         STEPS.expect(f"systemd-analyze verify prints nothing of {unit}", not lines, lines)
     rated = re.search(r"exposure level for pathd.service: (\S+)", must("systemd-analyze", "security", "--no-pager", "pathd.service"))
     said = re.search(r"rates its exposure as ([0-9]+\.[0-9]+)", text_of("install").replace("\n", " "))

@@ -28,12 +28,13 @@ def anchors(path: Path) -> frozenset[str]:
     return frozenset(found)
 
 
-def is_dead(page: Path, link: str) -> bool:
+def is_dead(page: Path, link: str, top: Path = TOP) -> bool:
+    """Whether a link of a page leads to nothing within a folder."""
     if re.match(r"[a-z]+:", link):
         return False
     name, _, anchor = link.partition("#")
     target = (page.parent / name).resolve() if name else page
-    if not target.exists() or TOP not in [target, *target.parents]:
+    if not target.exists() or top not in [target, *target.parents]:
         return True
     if not anchor:
         return False
