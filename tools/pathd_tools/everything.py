@@ -71,5 +71,4 @@ def main(words: list[str]) -> int:
         results.append(LEFT_OUT)
     results.append(check("protoc python3-protobuf", "protobuf"))
     results.append(check("promtool", "alert-rules"))
-    results.append(check("make", "installed"))
     return FAILED if FAILED in results else max(results)

@@ -1,7 +1,8 @@
 #!/usr/bin/env bash
 # Tries the tunnel and the proxies of docs/NETWORK.md, as the page has them, between two network
 # namespaces: a client looks up through each, one with no certificate and one of another authority
-# are turned away, and so are those who are too many. It needs root and Debian's iproute2, nftables,
+# are turned away, and so are those who are too many. The keys are for their owner alone, and the logs
+# of the proxies name who connected. It needs root and Debian's iproute2, nftables,
 # wireguard-tools, haproxy, stunnel4, openssl and python3-protobuf; where the kernel has no WireGuard,
 # wireguard-go. It is no part of the gate.
 #
@@ -82,6 +83,15 @@ sys.exit(answered != wanted or got != 3 * reply)
 PYTHON
 }
 
+logged() { # a pattern that a file of a proxy's log has to have, and what it is of
+  for _ in $(seq 50); do
+    grep -q "$1" "$2" && { echo "ok: the log of $3"; return; }
+    sleep 0.1
+  done
+  { echo "the log of $3 has no $1:"; tail -20 "$2"; } >&2
+  faults=$((faults + 1))
+}
+
 serve() { # a server at an address, with the segments of the Python client
   "$program" format "$work/store" --checkpoint 64 --journal 516 >"$work/log"
   start "$server" "$program" run "$work/store" --listen "$1" --cores 1-ff00:0:110
@@ -106,14 +116,30 @@ done
 
 # The block of certificates, in which nothing is to be replaced; and an authority of strangers.
 cd "$work"
-awk '/^openssl req -x509/ {on = 1} /^```/ {on = 0} on' "$top/docs/NETWORK.md" >certificates
+awk '/^## Certificates/ {found = 1} found && /^```/ {fences++; next} fences == 1' "$top/docs/NETWORK.md" >certificates
 bash -eu certificates >log 2>&1
+[ -z "$(find . -name '*.key' -perm /077 -o -name 'client.pem' -perm /077 -o -name 'server.pem' -perm /077)" ] ||
+  { echo "a key may be read by others" >&2; faults=$((faults + 1)); }
 openssl req -x509 -newkey ec -pkeyopt ec_paramgen_curve:P-256 -nodes -subj /CN=client -keyout stranger.key -out stranger.crt 2>log
 cat stranger.crt stranger.key >stranger.pem
 
+# The system's log, as far as haproxy uses it.
+cat >system_log.py <<'PYTHON'
+import os
+import socket
+os.umask(0)
+with socket.socket(socket.AF_UNIX, socket.SOCK_DGRAM) as log, open("haproxy.log", "ab", 0) as kept:
+    log.bind("log.socket")
+    while True:
+        kept.write(log.recv(9999) + b"\n")
+PYTHON
+
 serve 127.0.0.1:30252
 haproxies="/etc/haproxy/haproxy.cfg on the"
-block "$haproxies server" >server.cfg
+block "$haproxies server" | sed "s,/dev/log,$work/log.socket," >server.cfg
+chmod 711 .
+start "$server" /usr/bin/python3 -B system_log.py
+until [ -e log.socket ]; do sleep 0.1; done
 block "$haproxies client" >client.cfg
 sed 's/client.pem/stranger.pem/; s/127.0.0.1:30252/127.0.0.1:30253/' client.cfg >stranger.cfg
 sed 's/ crt [^ ]*//; s/127.0.0.1:30252/127.0.0.1:30254/' client.cfg >none.cfg
@@ -127,13 +153,13 @@ sees refused 127.0.0.1:30254 "haproxy, no certificate"
 sees refused 127.0.0.1:30255 "haproxy, a server of another name"
 sees refused 192.0.2.1:30252 "past haproxy"
 probes 8 30252
+logged '192\.0\.2\.2:[0-9]* "client" ' haproxy.log haproxy
 end
 
 serve 127.0.0.1:30252
 stunnels="/etc/stunnel/pathd.conf on the"
-foreground() { { echo "foreground = yes"; cat; } >"$1"; }
-block "$stunnels server" | foreground server.conf
-block "$stunnels client" | foreground client.conf
+block "$stunnels server" >server.conf
+block "$stunnels client" >client.conf
 sed 's/client.pem/stranger.pem/; s/127.0.0.1:30252/127.0.0.1:30253/' client.conf >stranger.conf
 sed '/^cert/d; s/127.0.0.1:30252/127.0.0.1:30254/' client.conf >none.conf
 sed 's/pathd.example/other.example/; s/127.0.0.1:30252/127.0.0.1:30255/' client.conf >other.conf
@@ -144,6 +170,8 @@ sees found 127.0.0.1:30252 "stunnel, a certificate"
 sees refused 127.0.0.1:30253 "stunnel, a certificate of another authority"
 sees refused 127.0.0.1:30254 "stunnel, no certificate"
 sees refused 127.0.0.1:30255 "stunnel, a server of another name"
+logged 'accepted connection from 192\.0\.2\.2:' said stunnel
+logged 'Certificate accepted at depth=0: CN=client' said "stunnel's certificates"
 probes 10 30252
 sed "s/30252/30262/" "$top/deploy/pathd.nft" >proxy.nft
 ip netns exec "$server" nft -f proxy.nft
