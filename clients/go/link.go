@@ -15,14 +15,17 @@ type link struct {
 	window   int
 
 	current atomic.Pointer[session]
+	tried   atomic.Int64  // when openSoon was called last to any effect, in nanoseconds
 	turn    chan struct{} // has one element, which a goroutine takes while it opens a session
 	failed  time.Time     // when a session could not be opened last, and why; with the turn
 	err     error
-	closed  bool
+	life    context.Context // ends with close
+	end     context.CancelFunc
 }
 
 func newLink(address string, dialer Dialer, patience time.Duration, window int) *link {
 	l := &link{address: address, dialer: dialer, patience: patience, window: window, turn: make(chan struct{}, 1)}
+	l.life, l.end = context.WithCancel(context.Background())
 	l.turn <- struct{}{}
 	return l
 }
@@ -48,7 +51,7 @@ func (l *link) session(ctx context.Context) (*session, error) {
 		return nil, ctx.Err()
 	}
 	defer func() { l.turn <- struct{}{} }()
-	if l.closed {
+	if l.life.Err() != nil {
 		return nil, ErrClosed
 	}
 	if s := l.open(); s != nil {
@@ -66,6 +69,14 @@ func (l *link) session(ctx context.Context) (*session, error) {
 	return s, nil
 }
 
+// openSoon has a session opened meanwhile, once in a pause at most: a server may have no room for it.
+func (l *link) openSoon() {
+	now, before := time.Now().UnixNano(), l.tried.Load()
+	if now-before >= int64(longestPause) && l.tried.CompareAndSwap(before, now) {
+		go l.session(l.life)
+	}
+}
+
 // fail answers the error of an attempt, with the turn. An attempt that ended with its own context says
 // nothing to others.
 func (l *link) fail(ctx context.Context, err error) error {
@@ -78,8 +89,8 @@ func (l *link) fail(ctx context.Context, err error) error {
 
 // close ends the session, for good.
 func (l *link) close() {
+	l.end()
 	<-l.turn
-	l.closed = true
 	if s := l.current.Load(); s != nil {
 		s.fail(ErrClosed)
 	}

@@ -6,7 +6,7 @@ import "context"
 type pool []*link
 
 // pick answers the open session with the fewest requests under way, and whether it was open before.
-// Where all that are open have some, it opens another if there may be more.
+// Where all that are open have some, another is opened for later calls if there may be more.
 func (p pool) pick(ctx context.Context) (*session, bool, error) {
 	var best *session
 	var free *link
@@ -18,14 +18,14 @@ func (p pool) pick(ctx context.Context) (*session, bool, error) {
 			best = s
 		}
 	}
-	if best != nil && (free == nil || best.underWay() == 0) {
-		return best, true, nil
+	if best == nil {
+		opened, err := free.session(ctx)
+		return opened, false, err
 	}
-	opened, err := free.session(ctx)
-	if err != nil && best != nil {
-		return best, true, nil
+	if free != nil && best.underWay() > 0 {
+		free.openSoon()
 	}
-	return opened, false, err
+	return best, true, nil
 }
 
 // ask answers the body of the reply to a request, and whether it was sent over a session that had been

@@ -56,12 +56,14 @@ func TestManyCallersHaveTheirOwnReplies(t *testing.T) {
 		}(caller)
 	}
 	all.Wait()
-	for begun := time.Now(); time.Since(begun) < limit; time.Sleep(time.Millisecond) {
-		if client.lookups[0].open().underWay()+client.lookups[1].open().underWay()+client.lookups[2].open().underWay() == 0 {
-			return
+	for _, it := range client.lookups {
+		s := it.open()
+		for begun := time.Now(); s != nil && s.underWay() > 0; time.Sleep(time.Millisecond) {
+			if time.Since(begun) > limit {
+				t.Fatal("requests whose callers have left keep their places")
+			}
 		}
 	}
-	t.Error("requests whose callers have left keep their places")
 }
 
 func TestAServerThatIsStartedAgainIsAskedAgain(t *testing.T) {
@@ -191,6 +193,46 @@ func TestACallerDoesNotWaitForTheConnection(t *testing.T) {
 	if _, err := client.Lookup(ctx, 1, 2); !errors.Is(err, context.DeadlineExceeded) {
 		t.Error(err)
 	}
+}
+
+// A second session that can't be opened holds up nobody.
+func TestCallsDoNotWaitForMoreSessions(t *testing.T) {
+	var lock sync.Mutex
+	came, bothCame := 0, make(chan struct{})
+	store := running(t, func(content []byte) []byte {
+		lock.Lock()
+		defer lock.Unlock()
+		if came++; came == 2 {
+			close(bothCame)
+		}
+		return nil
+	})
+	dials := make(chan struct{}, 2)
+	dialer := Dialer{Connect: func(ctx context.Context, network, address string) (net.Conn, error) {
+		if dials <- struct{}{}; len(dials) == 1 {
+			return new(net.Dialer).DialContext(ctx, network, address)
+		}
+		<-ctx.Done()
+		return nil, ctx.Err()
+	}}
+	client, ctx := clientOf(t, store, ClientOptions{Dialer: dialer, Lookups: 2})
+	ctx, cancel := context.WithCancel(ctx)
+	var all sync.WaitGroup
+	for number := 0; number < 2; number++ {
+		all.Add(1)
+		go func() {
+			defer all.Done()
+			client.Lookup(ctx, 1, 2)
+		}()
+		for begun := time.Now(); number == 0 && time.Since(begun) < limit; time.Sleep(time.Millisecond) {
+			if s := client.lookups[1].open(); s != nil && s.underWay() == 1 {
+				break
+			}
+		}
+	}
+	<-bothCame
+	cancel()
+	all.Wait()
 }
 
 func TestErrorsNameTheServer(t *testing.T) {
