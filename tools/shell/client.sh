@@ -84,6 +84,9 @@ grep '^\$ ' "$top/clients/python/commands.txt" | while read -r _ words; do
 done >"$work/out"
 diff -u "$top/clients/python/commands.txt" "$work/out" || differences=$((differences + 1))
 sessions=$((sessions + 7))
+# Those on the page are among them, with what they print.
+sed -n '/^\$ .*-m pathd_client /,+1p' "$top/clients/python/README.md" | sed 's,/usr/bin/python3 -m pathd_client ,,' >"$work/shown"
+grep -vFxf "$top/clients/python/commands.txt" "$work/shown" && differences=$((differences + 1))
 kill "$server"
 wait "$server" 2>/dev/null || true
 
@@ -103,6 +106,14 @@ echo "$sessions sessions, $differences differ"
 
 # The programs of the client's page.
 "$top/tools/pathd-tools" examples --program "$program" "$top/clients/python/README.md" || differences=$((differences + 1))
+
+# Types, where Debian's mypy is there.
+if command -v mypy >/dev/null; then
+  (cd "$top/clients/python" && mypy --cache-dir=/dev/null --python-executable /usr/bin/python3 pathd_client tests demo.py restart.py) ||
+    differences=$((differences + 1))
+else
+  echo "left out: the types of clients/python, as there is no mypy" >&2
+fi
 
 export PATHD=$program PYTHONDONTWRITEBYTECODE=1
 (cd "$top/clients/python" && /usr/bin/python3 -m unittest --quiet) || differences=$((differences + 1))
