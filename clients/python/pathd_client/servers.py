@@ -162,7 +162,7 @@ class Servers:
                 with self._pools[number].session() as session:
                     reply = session.ask(lookup, within=deadline.left() / (count - tried))
             except SessionError as fault:
-                faults.append(f"{self._addresses[number]}: {fault}")
+                faults.append(str(fault))
                 continue
             if not isinstance(reply, Refused) or not reply.is_passing:
                 self._first = number
