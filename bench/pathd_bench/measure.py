@@ -120,8 +120,9 @@ def formatted(programs: Programs, store: Path, checkpoint: int = 65_536, journal
     return store
 
 
-def serving(programs: Programs, name: str, folder: Path, microseconds: int | None = None) -> Server:
-    """A new server of a name: `pathd`, `echo` or a rival's, over an empty store in a folder."""
+def serving(programs: Programs, name: str, folder: Path, microseconds: int | None = None, commits: str = "each") -> Server:
+    """A new server of a name: `pathd`, `echo` or a rival's, over an empty store in a folder. A rival commits
+    `each` registration, or those of one read in `batches`."""
     if name == "pathd":
         return pathd(programs, formatted(programs, folder / "store"), microseconds)
     if name == "echo":
@@ -129,7 +130,7 @@ def serving(programs: Programs, name: str, folder: Path, microseconds: int | Non
     shutil.rmtree(folder / "rival", ignore_errors=True)
     (folder / "rival").mkdir()
     slow = programs.slow_sync if microseconds is not None else None
-    return Server([programs.servers, name, folder / "rival"], folder, slow, microseconds or 0)
+    return Server([programs.servers, name, folder / "rival", commits], folder, slow, microseconds or 0)
 
 
 @dataclass(frozen=True)

@@ -197,7 +197,8 @@ def panel_of(place: Place) -> tuple[str, str]:
         where = "; ".join(part for part in (figure, place.sync(), place.who()) if part)
         return where, percentile
     if place.kind == "registrations":
-        return f"syncs {place.sync() or 'as they are'}", place.who()
+        beside = place.figure.removeprefix("registrations")
+        return f"syncs {place.sync() or 'as they are'}{beside}", place.who()
     return place.figure, place.who()
 
 

@@ -1,10 +1,11 @@
 """Fills a server with rows: down segments of two entries from 1-ff00:0:110 to 1-ff00:0:111, each
 with interfaces of its own.
 
-    bench/pathd-bench server-rows PORT ROWS
+    bench/pathd-bench server-rows PORT ROWS [--signature BYTES]
 
-A registration has 16 segments; 64 registrations are sent before their replies are read. It ends
-with the status 1 where one isn't acknowledged.
+A segment has 88 bytes, and 220 with signatures of 64 bytes. A registration has 16 segments; 64
+registrations are sent before their replies are read. It ends with the status 1 where one isn't
+acknowledged.
 """
 from __future__ import annotations
 
@@ -23,15 +24,28 @@ MADE = 4_000_000_000
 REPLY = 29
 
 
-def segment(number: int) -> bytes:
-    """The segment of a number."""
+def segment(number: int, signature: bytes) -> bytes:
+    """The segment of a number, each of whose entries has this signature."""
     hops = [Hop(CORE, 0, 1 + number % 1_000, CORE_MAC), Hop(LEAF, 1 + number // 1_000, 0, LEAF_MAC)]
-    return messages.make_segment(hops, MADE)
+    return messages.make_segment(hops, MADE, signature=signature)
 
 
-def registration(first: int, last: int) -> bytes:
+def registration(first: int, last: int, signature: bytes) -> bytes:
     """The frame that registers the segments of these numbers as down segments."""
-    return messages.registration((DOWN, segment(number)) for number in range(first, last))
+    return messages.registration((DOWN, segment(number, signature)) for number in range(first, last))
+
+
+def fill(port: int, rows: int, signature: bytes = b"") -> bool:
+    """Fills the server of a port. Answers whether each registration was acknowledged."""
+    firsts = list(range(0, rows, IN_A_REGISTRATION))
+    with socket.create_connection(("127.0.0.1", port), 60) as connection, connection.makefile("rb") as replies:
+        for at in range(0, len(firsts), AT_ONCE):
+            sent = firsts[at : at + AT_ONCE]
+            connection.sendall(b"".join(registration(first, min(first + IN_A_REGISTRATION, rows), signature) for first in sent))
+            for _ in sent:
+                if replies.read(REPLY)[4:5] != b"\x81":
+                    return False
+    return True
 
 
 def main(words: list[str]) -> int:
@@ -39,13 +53,6 @@ def main(words: list[str]) -> int:
     parser = toolbox.parser(__doc__)
     parser.add_argument("port", type=int, metavar="PORT")
     parser.add_argument("rows", type=int, metavar="ROWS")
+    parser.add_argument("--signature", type=int, default=0, metavar="BYTES", help="the bytes of an entry's signature [0]")
     options = parser.parse_args(words)
-    firsts = list(range(0, options.rows, IN_A_REGISTRATION))
-    with socket.create_connection(("127.0.0.1", options.port), 60) as connection, connection.makefile("rb") as replies:
-        for at in range(0, len(firsts), AT_ONCE):
-            sent = firsts[at : at + AT_ONCE]
-            connection.sendall(b"".join(registration(first, min(first + IN_A_REGISTRATION, options.rows)) for first in sent))
-            for _ in sent:
-                if replies.read(REPLY)[4:5] != b"\x81":
-                    return 1
-    return 0
+    return 0 if fill(options.port, options.rows, bytes(options.signature)) else 1

@@ -6,9 +6,10 @@ the raw figures to a CSV file.
 PATHD is the built program, and ECHO that of bench/echo_server.rattle; `bench/pathd-bench build`
 makes both without proofs. The kinds of figures:
 
-- registrations: by 1, 8 and 64 sessions, and by one that sends 32 and 128 ahead, with syncs as they
-  are, 0.1 ms and 1 ms longer; beside LevelDB, RocksDB, SQLite and LMDB over the same sockets
-  (bench/server_rivals.cc), each put synced;
+- registrations: by 1, 8 and 64 sessions, by one that sends 32 and 128 ahead, and by 64 that send 8
+  ahead, with syncs as they are, 0.1 ms and 1 ms longer; beside LevelDB, RocksDB, SQLite and LMDB
+  over the same sockets (bench/server_rivals.cc), which commit each registration, and, where
+  requests are sent ahead, beside these with those of one read as one batch;
 - lookups: of one row, by 1, 8 and 64 sessions and in batches of 100; beside these and the echo
   server;
 - latencies: of a lookup by 4 sessions, while nobody registers, and while 8 sessions register at
@@ -18,7 +19,8 @@ makes both without proofs. The kinds of figures:
   so that checkpoints of all rows are made; of pathd alone;
 - opening: seconds until a server of a store serves, beside a rival that opens a store of as many
   values of as many bytes and reads each, and the memory that is resident then;
-- memory: resident before a session, after 64, after sessions of one request, with all rows;
+- memory: resident before a session, after 64, after sessions of one request, with rows of segments
+  of 88 bytes, and with as many of 220;
 - once: seconds of the processor for the same registrations, beside Google's protobuf, which parses
   them alone;
 - growth: registrations by one session that sends 32 ahead, and lookups by 8, among more and more
@@ -50,7 +52,7 @@ from collections.abc import Iterator
 from dataclasses import dataclass, field
 from pathlib import Path
 
-from pathd_bench import frames, measure, store_image
+from pathd_bench import frames, measure, server_rows, store_image
 from pathd_bench.measure import AFTER_FILLING, RIVALS, Load, Programs, WrongReply
 from pathd_tools import need, toolbox
 from pathd_tools.load.load import epoch_of
@@ -58,15 +60,17 @@ from pathd_tools.load.load import epoch_of
 COLUMNS = ["round", "kind", "figure", "program", "sync_us", "sessions", "ahead", "rows", "value", "unit", "load"]
 SYNCS = [0, 100, 1000]
 # Sessions, and how many requests each sends before it reads their replies.
-REGISTERING = [(1, 1), (8, 1), (64, 1), (1, 32), (1, 128)]
+REGISTERING = [(1, 1), (8, 1), (64, 1), (1, 32), (1, 128), (64, 8)]
 LOOKING = [(1, 1), (8, 1), (64, 1), (1, 100)]
 PERCENTILES = {"50 %": "p50", "99 %": "p99", "99.9 %": "p999", "most": "most"}
 ROWS = [1_000, 10_000, 100_000, 1_000_000]
 QUICK_ROWS = [1_000, 10_000, 100_000]
 # The rows below which a store is too small for figures of checkpoints and of opening.
 MANY = 10_000
-# The bytes of the record of a row of tools/native/load.c.
-RECORD = 93
+# The bytes of a segment of tools/native/load.c, and of one with a signature of so many bytes in both of its entries.
+SEGMENT, SIGNED, SIGNATURE = 88, 220, 64
+# What the record of a row has before its segment.
+BEFORE_SEGMENT = 5
 SECTOR = 512
 # How many registrations `once` gets: each with a lookup after it, and each of 16 segments.
 PAIRS, BATCHES = 200_000, 4_000
@@ -121,7 +125,7 @@ class Bench:
     def _filled(self, rows: int, journal: int) -> Path:
         store = self.folder / f"rows-{rows}-{journal}"
         # Room for as many rows again.
-        checkpoint = max(2_048, 2 * rows * RECORD // SECTOR)
+        checkpoint = max(2_048, 2 * sectors_of(rows, SEGMENT))
         measure.formatted(self.programs, store, checkpoint, journal)
         with measure.pathd(self.programs, store) as server:
             words = [self.programs.load, "127.0.0.1", str(server.port), "--rows", str(rows), "--seconds", "0.01"]
@@ -130,6 +134,11 @@ class Bench:
             while epoch_of(store) == before:
                 measure.put_load(self.programs, server, "register", 8, 0.5, 128)
         return store
+
+
+def sectors_of(rows: int, segment: int) -> int:
+    """How many sectors the records of so many rows take, whose segments have so many bytes."""
+    return -(-rows * (BEFORE_SEGMENT + segment) // SECTOR)
 
 
 def percentiles(load: Load, kind: str, program: str, **more: int) -> Iterator[Figure]:
@@ -142,15 +151,25 @@ def percentiles(load: Load, kind: str, program: str, **more: int) -> Iterator[Fi
 
 
 def registrations(bench: Bench) -> Iterator[Figure]:
-    """Registrations a second, and their percentiles."""
+    """Registrations a second, and their percentiles: beside rivals that commit each, and beside rivals that commit batches."""
     for sync_us in SYNCS:
         for sessions, ahead in REGISTERING:
-            for name in ["pathd", *RIVALS]:
-                with measure.serving(bench.programs, name, bench.folder, sync_us) as server:
-                    load = measure.put_load(bench.programs, server, "register", sessions, bench.seconds, ahead)
-                where = {"sync_us": sync_us, "sessions": sessions, "ahead": ahead}
-                yield Figure("registrations", name, load.rate, "a second", **where)
-                yield from percentiles(load, "registration", name, **where)
+            where = {"sync_us": sync_us, "sessions": sessions, "ahead": ahead}
+            ours = registering(bench, "pathd", "each", where)
+            for commits, figure, times in [("each", "registrations", "registration"), ("batches", "registrations beside batches", "registration beside batches")]:
+                # Of requests that don't come together a batch has one.
+                if commits == "batches" and ahead == 1:
+                    continue
+                loads = {"pathd": ours, **{name: registering(bench, name, commits, where) for name in RIVALS}}
+                for name, load in loads.items():
+                    yield Figure(figure, name, load.rate, "a second", **where)
+                    yield from percentiles(load, times, name, **where)
+
+
+def registering(bench: Bench, name: str, commits: str, where: dict[str, int]) -> Load:
+    """The load of registrations on a new server."""
+    with measure.serving(bench.programs, name, bench.folder, where["sync_us"], commits) as server:
+        return measure.put_load(bench.programs, server, "register", where["sessions"], bench.seconds, where["ahead"])
 
 
 def lookups(bench: Bench) -> Iterator[Figure]:
@@ -209,9 +228,12 @@ def opening(bench: Bench) -> Iterator[Figure]:
         empty = server.status("VmRSS")
     for rows in [rows for rows in bench.rows if rows >= MANY]:
         image, length = bench.image(rows)
+        assert length == SIGNED
         with measure.pathd(bench.programs, image) as server:
             yield Figure("opening", "pathd", server.seconds_to_start, "seconds", rows=rows)
             yield Figure("opening, processor", "pathd", server.processor_seconds(), "seconds", rows=rows)
+            yield Figure("memory, opened", "pathd", server.status("VmRSS"), "KiB", rows=rows)
+            yield Figure("memory at the most, opened", "pathd", server.status("VmHWM"), "KiB", rows=rows)
             yield Figure("memory of a row, opened", "pathd", 1024 * (server.status("VmRSS") - empty) / rows, "bytes", rows=rows)
         for name in RIVALS:
             place = values_of(bench, name, rows, length)
@@ -237,8 +259,7 @@ def values_of(bench: Bench, name: str, rows: int, length: int) -> Path:
 def memory(bench: Bench) -> Iterator[Figure]:
     """Resident memory, and the memory of a row that was registered."""
     rows = max(rows for rows in bench.rows if rows <= 100_000)
-    store = measure.formatted(bench.programs, bench.folder / "copy", 2 * rows * RECORD // SECTOR + 2_048)
-    with measure.pathd(bench.programs, store) as server:
+    with measure.pathd(bench.programs, store_for(bench, rows, SEGMENT)) as server:
         none, threads = server.status("VmRSS"), server.status("Threads")
         yield Figure("before a session", "pathd", none, "KiB")
         measure.put_load(bench.programs, server, "lookup", 64, bench.seconds)
@@ -251,7 +272,17 @@ def memory(bench: Bench) -> Iterator[Figure]:
         yield Figure("after sessions of one request", "pathd", server.status("VmRSS"), "KiB", sessions=32)
         words = [bench.programs.load, "127.0.0.1", str(server.port), "--rows", str(rows), "--seconds", "0.01"]
         subprocess.run(words, check=True, stdout=subprocess.DEVNULL)
-        yield Figure("memory of a row, registered", "pathd", 1024 * (server.status("VmRSS") - few) / rows, "bytes", rows=rows)
+        yield Figure(f"memory of a row of {SEGMENT} bytes, registered", "pathd", 1024 * (server.status("VmRSS") - few) / rows, "bytes", rows=rows)
+    with measure.pathd(bench.programs, store_for(bench, rows, SIGNED)) as server:
+        none = server.status("VmRSS")
+        if not server_rows.fill(server.port, rows, bytes(SIGNATURE)):
+            raise WrongReply("a registration was not acknowledged")
+        yield Figure(f"memory of a row of {SIGNED} bytes, registered", "pathd", 1024 * (server.status("VmRSS") - none) / rows, "bytes", rows=rows)
+
+
+def store_for(bench: Bench, rows: int, segment: int) -> Path:
+    """An empty store with room for so many rows and as many again."""
+    return measure.formatted(bench.programs, bench.folder / "copy", 2 * sectors_of(rows, segment) + 2_048)
 
 
 def once(bench: Bench) -> Iterator[Figure]:

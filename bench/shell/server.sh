@@ -77,7 +77,7 @@ pathd_started() { # with this preloaded library, or none, and this many microsec
 rival_started() { # this rival
   rm -rf "$store/rival"
   mkdir "$store/rival"
-  started env LD_PRELOAD="$2" SYNC_MICROSECONDS="$3" "$work/rivals" "$1" "$store/rival"
+  started env LD_PRELOAD="$2" SYNC_MICROSECONDS="$3" "$work/rivals" "$1" "$store/rival" each
 }
 
 lookups() {
