@@ -5,11 +5,16 @@
 #     make install-pages [DESTDIR=..] [PREFIX=/usr/local]     the pages alone
 #     make uninstall [DESTDIR=..] [PREFIX=/usr/local]
 #     make deb
+#     make install-gateway [DESTDIR=..] [PREFIX=/usr/local]
+#     make uninstall-gateway [DESTDIR=..] [PREFIX=/usr/local]
+#     make gateway-deb
 #
+# The last three are of pathd-gateway, which they build where it is not there (gateway/build).
 # `make deb` needs dpkg-deb, git and readelf, and writes out/pathd_VERSION_ARCH.deb. Settings that
 # are there are kept by both.
 PREFIX = /usr/local
 PROGRAM = crates/pathd/out/pathd
+GATEWAY = gateway/out/pathd-gateway
 BIN = $(DESTDIR)$(PREFIX)/bin
 LIB = $(DESTDIR)$(PREFIX)/lib/pathd
 MAN = $(DESTDIR)$(PREFIX)/share/man/man1
@@ -18,6 +23,8 @@ UNITS = $(DESTDIR)$(PREFIX)/lib/systemd/system
 BASH_COMPLETIONS = $(DESTDIR)$(PREFIX)/share/bash-completion/completions
 ZSH_COMPLETIONS = $(DESTDIR)$(PREFIX)/share/zsh/site-functions
 SETTINGS = $(DESTDIR)/etc/default/pathd
+GATEWAY_DOC = $(DESTDIR)$(PREFIX)/share/doc/pathd-gateway
+GATEWAY_SETTINGS = $(DESTDIR)/etc/default/pathd-gateway
 
 PAGES = README.md CHANGELOG.md docs/CLI.md docs/PROTOCOL.md docs/STORE.md docs/POWER-CUT.md \
   docs/WATCHING.md docs/NETWORK.md docs/CAPACITY.md docs/LIMITS.md docs/codes.csv docs/segments.proto \
@@ -75,4 +82,29 @@ uninstall:
 deb: $(PROGRAM)
 	deploy/debian/make-deb $(PROGRAM)
 
-.PHONY: help install install-pages uninstall deb
+$(GATEWAY):
+	mkdir -p $(dir $(GATEWAY))
+	gateway/build $(GATEWAY)
+
+install-gateway: $(GATEWAY)
+	install -d $(BIN) $(MAN) $(GATEWAY_DOC) $(UNITS) $(BASH_COMPLETIONS) $(ZSH_COMPLETIONS) $(dir $(GATEWAY_SETTINGS))
+	install -m 755 $(GATEWAY) $(BIN)/pathd-gateway
+	$(PLACED) deploy/pathd-gateway.service >$(UNITS)/pathd-gateway.service
+	$(PLACED) deploy/pathd-gateway.1 >$(MAN)/pathd-gateway.1
+	chmod 644 $(UNITS)/pathd-gateway.service $(MAN)/pathd-gateway.1
+	install -m 644 deploy/pathd-gateway.bash $(BASH_COMPLETIONS)/pathd-gateway
+	install -m 644 deploy/pathd-gateway.zsh $(ZSH_COMPLETIONS)/_pathd-gateway
+	install -m 644 docs/GATEWAY.md docs/segments.proto gateway/control_plane.proto gateway/trust_material.proto \
+	  $(GATEWAY_DOC)
+	test -e $(GATEWAY_SETTINGS) || install -m 644 deploy/pathd-gateway.default $(GATEWAY_SETTINGS)
+
+# The settings, certificates and trust stay.
+uninstall-gateway:
+	rm -f $(BIN)/pathd-gateway $(MAN)/pathd-gateway.1 $(UNITS)/pathd-gateway.service \
+	  $(BASH_COMPLETIONS)/pathd-gateway $(ZSH_COMPLETIONS)/_pathd-gateway
+	rm -rf $(GATEWAY_DOC)
+
+gateway-deb: $(GATEWAY)
+	deploy/debian/make-gateway-deb $(GATEWAY)
+
+.PHONY: help install install-pages uninstall deb install-gateway uninstall-gateway gateway-deb

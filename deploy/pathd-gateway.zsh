@@ -1,0 +1,22 @@
+#compdef pathd-gateway
+# Completion of pathd-gateway for zsh. `tools/pathd-tools gateway` compares it with the program's help.
+
+_arguments \
+  '--listen[the address to listen at]:ADDR:' \
+  '--pathd[the address of pathd]:ADDR:' \
+  '--lookups[sessions with pathd for lookups]:N:' \
+  '--registrations[sessions with pathd for registrations]:N:' \
+  '--deadline[the longest that a call may take]:SECONDS:' \
+  '--idle[the longest that a connection may have no call]:SECONDS:' \
+  '--streams[calls under way in a connection]:N:' \
+  '--calls[calls under way in all]:N:' \
+  '--connections[open connections]:N:' \
+  '--peer-connections[open connections of one address]:N:' \
+  '--cert[a certificate and its chain]:FILE:_files' \
+  '--key[the key of the certificate]:FILE:_files' \
+  '--client-ca[authorities of clients]:FILE:_files' \
+  '--trust[TRCs and chains]:FOLDER:_files -/' \
+  '--trust-server[a control service with chains and TRCs]:ADDR:' \
+  '--status[the address of the numbers]:ADDR:' \
+  '(- *)--version[print the version]' \
+  '(- *)--help[print help]'

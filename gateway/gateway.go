@@ -1,0 +1,167 @@
+package main
+
+import (
+	"context"
+	"fmt"
+	"io"
+	"log"
+	"net"
+	"net/http"
+	"strings"
+	"time"
+
+	"golang.org/x/net/http2"
+	"google.golang.org/grpc"
+	"google.golang.org/grpc/health"
+
+	"pathd/gateway/internal/calls"
+	"pathd/gateway/internal/connectapi"
+	"pathd/gateway/internal/door"
+	"pathd/gateway/internal/grpcapi"
+	"pathd/gateway/internal/settings"
+	"pathd/gateway/internal/trust"
+	"pathd/gateway/internal/upstream"
+)
+
+const (
+	headerLimit = 10 * time.Second // to send the headers of a request by HTTP/1
+	owedByOne   = 8 << 20
+	owedByAll   = 128 << 20
+	h2Buffer    = 65_535  // bytes of a request that a stream has in memory
+	h2Conn      = 1 << 18 // and all streams of a connection
+	h2Frame     = 1 << 14 // bytes of a frame
+	h2Headers   = 320     // what http2 adds to the most bytes of headers that it announces
+	mostHeader  = door.MostHeader - h2Headers
+)
+
+// gateway is all that serves.
+type gateway struct {
+	settings      *settings.Settings
+	certificates  *certificates // nil without TLS
+	keeper        *trust.Keeper // nil without trust material
+	lookups       *upstream.Pool
+	registrations *upstream.Pool
+	desk          *calls.Desk
+	methods       []*calls.Method
+	checks        *health.Server
+	watcher       *watcher
+	grpc          *grpc.Server
+	web           *http.Server
+	h2            *http2.Server
+	door          *door.Door
+	begun         time.Time
+	reloads       reloads
+}
+
+// newGateway makes ready what serves at a listener, and starts nothing.
+func newGateway(s *settings.Settings, listener net.Listener) (g *gateway, err error) {
+	g = &gateway{settings: s, begun: time.Now(), checks: health.NewServer()}
+	if g.certificates, err = newCertificates(s); err != nil {
+		return nil, err
+	}
+	if s.Trust != "" {
+		if g.keeper, err = trust.Open(trust.Options{Folder: s.Trust, Server: s.TrustServer}); err != nil {
+			return nil, err
+		}
+	}
+	pool := upstream.Options{Address: s.Pathd, Sessions: s.Lookups, Patience: s.Deadline}
+	g.lookups = upstream.NewPool(pool)
+	pool.Sessions = s.Registrations
+	g.registrations = upstream.NewPool(pool)
+	g.door = door.New(listener, door.Options{
+		Connections: s.Connections, PeerConnections: s.PeerConnections,
+		Streams: uint32(s.Streams), Stuck: s.Deadline, TLS: g.certificates.current(),
+	}, g.serveHTTP2)
+	options := calls.Options{
+		Lookups: g.lookups, Registrations: g.registrations, Deadline: s.Deadline,
+		Calls: s.Calls, OwedByOne: owedByOne, OwedByAll: owedByAll, Owed: g.door.Owed,
+	}
+	if g.keeper != nil {
+		options.Verifier = g.keeper
+	}
+	g.desk = calls.NewDesk(options)
+	g.methods = methodsOf(g.desk, g.keeper)
+	g.watcher = &watcher{asker: g.lookups, checks: g.checks, services: g.services()}
+	g.grpc = grpcapi.NewServer(g.desk, g.methods, g.checks, grpcapi.Options{Streams: uint32(s.Streams), Idle: s.Idle})
+	return g, g.makeWeb()
+}
+
+// services answers the names by which health is asked for.
+func (g *gateway) services() []string {
+	names := []string{""}
+	for _, m := range g.methods {
+		if names[len(names)-1] != m.Service {
+			names = append(names, m.Service)
+		}
+	}
+	return names
+}
+
+// makeWeb makes the server of HTTP/1 and of HTTP/2 that is not gRPC's. A connection of HTTP/2 whose
+// first request is Connect's may have calls of gRPC later.
+func (g *gateway) makeWeb() error {
+	connect := connectapi.NewHandler(g.desk, g.methods)
+	g.web = &http.Server{
+		Handler: http.HandlerFunc(func(w http.ResponseWriter, r *http.Request) {
+			if r.ProtoMajor == 2 && strings.HasPrefix(r.Header.Get("Content-Type"), "application/grpc") {
+				g.grpc.ServeHTTP(w, r)
+			} else {
+				connect.ServeHTTP(w, r)
+			}
+		}),
+		ReadHeaderTimeout: headerLimit,
+		ReadTimeout:       headerLimit + g.settings.Deadline,
+		WriteTimeout:      headerLimit + 3*g.settings.Deadline,
+		IdleTimeout:       g.settings.Idle,
+		MaxHeaderBytes:    mostHeader,
+		ErrorLog:          log.New(io.Discard, "", 0),
+		ConnContext: func(ctx context.Context, conn net.Conn) context.Context {
+			it, _ := conn.(*door.Conn)
+			return connectapi.WithConn(ctx, it)
+		},
+	}
+	g.h2 = &http2.Server{
+		MaxConcurrentStreams:         uint32(g.settings.Streams),
+		MaxReadFrameSize:             h2Frame,
+		IdleTimeout:                  g.settings.Idle,
+		MaxUploadBufferPerStream:     h2Buffer,
+		MaxUploadBufferPerConnection: h2Conn,
+	}
+	if err := http2.ConfigureServer(g.web, g.h2); err != nil {
+		return fmt.Errorf("HTTP/2: %w", err)
+	}
+	return nil
+}
+
+// serveHTTP2 serves a connection whose first request is not gRPC's, until it ends.
+func (g *gateway) serveHTTP2(conn *door.Conn) {
+	ctx := connectapi.WithConn(context.Background(), conn)
+	g.h2.ServeConn(conn, &http2.ServeConnOpts{Context: ctx, BaseConfig: g.web, Handler: g.web.Handler})
+}
+
+// drain lets calls under way end, for as long as the deadline, and then ends all.
+func (g *gateway) drain() {
+	ctx, cancel := context.WithTimeout(context.Background(), g.settings.Deadline)
+	defer cancel()
+	g.checks.Shutdown()
+	g.door.Close()
+	drained := make(chan struct{})
+	go func() {
+		g.grpc.GracefulStop()
+		close(drained)
+	}()
+	if err := g.web.Shutdown(ctx); err != nil {
+		log.Printf("calls of Connect were cut short: %v", err)
+	}
+	g.door.Wait(ctx)
+	select {
+	case <-drained:
+	case <-ctx.Done():
+		log.Print("calls of gRPC were cut short")
+	}
+	g.grpc.Stop()
+	g.web.Close()
+	g.door.End()
+	g.lookups.Close()
+	g.registrations.Close()
+}

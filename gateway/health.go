@@ -1,0 +1,58 @@
+package main
+
+import (
+	"context"
+	"errors"
+	"sync/atomic"
+	"time"
+
+	"google.golang.org/grpc/health"
+	healthpb "google.golang.org/grpc/health/grpc_health_v1"
+
+	"pathd/gateway/internal/refusal"
+	"pathd/gateway/internal/upstream"
+)
+
+const (
+	checkPause = time.Second
+	checkLimit = 2 * time.Second
+)
+
+// watcher asks pathd each second whether it answers, and has health checks say so.
+type watcher struct {
+	asker    upstream.Asker
+	checks   *health.Server
+	services []string
+	isUp     atomic.Bool
+}
+
+// run asks until the context ends.
+func (w *watcher) run(ctx context.Context) {
+	for ctx.Err() == nil {
+		w.ask(ctx)
+		select {
+		case <-time.After(checkPause):
+		case <-ctx.Done():
+		}
+	}
+}
+
+// ask sends the lookup without sides, which pathd refuses. After the context has ended it notes
+// nothing, as the checks then say that the gateway ends.
+func (w *watcher) ask(ctx context.Context) {
+	limited, cancel := context.WithTimeout(ctx, checkLimit)
+	defer cancel()
+	_, err := w.asker.Ask(limited, upstream.Lookup, nil)
+	if ctx.Err() != nil {
+		return
+	}
+	isUp := errors.Is(err, refusal.NullDestination)
+	w.isUp.Store(isUp)
+	status := healthpb.HealthCheckResponse_NOT_SERVING
+	if isUp {
+		status = healthpb.HealthCheckResponse_SERVING
+	}
+	for _, name := range w.services {
+		w.checks.SetServingStatus(name, status)
+	}
+}

@@ -1,0 +1,140 @@
+// Package calls carries calls out, whatever they came by: it bounds them, asks pathd, and counts.
+package calls
+
+import (
+	"context"
+	"sync/atomic"
+	"time"
+
+	"google.golang.org/grpc/codes"
+
+	"pathd/gateway/internal/door"
+	"pathd/gateway/internal/numbers"
+	"pathd/gateway/internal/upstream"
+)
+
+// Verifier verifies registrations.
+type Verifier interface {
+	// Verify answers an error where a SegmentsRegistrationRequest has an entry whose signature is not
+	// good, or where the context has ended before it knows.
+	Verify(ctx context.Context, registration []byte) error
+}
+
+// Options of a Desk.
+type Options struct {
+	// Lookups and Registrations ask pathd. They are apart, as the reply to a registration waits for
+	// the device, and the replies of a session come in order.
+	Lookups, Registrations upstream.Asker
+	// Verifier verifies registrations before pathd gets them. Nil is none.
+	Verifier Verifier
+	// Deadline is the longest that a call may take.
+	Deadline time.Duration
+	// Calls is how many calls may be under way.
+	Calls int
+	// OwedByOne is how many bytes of replies one connection may leave untaken; OwedByAll all of them.
+	OwedByOne, OwedByAll int64
+	// Owed answers how many bytes all connections leave untaken.
+	Owed func() int64
+}
+
+// Desk is where calls are carried out.
+type Desk struct {
+	options  Options
+	underWay atomic.Int64
+	turned   atomic.Uint64
+}
+
+// NewDesk answers a desk without calls.
+func NewDesk(options Options) *Desk { return &Desk{options: options} }
+
+// Numbers answers how many calls are under way, and how many were turned away for want of room.
+func (d *Desk) Numbers() (underWay int64, turned uint64) {
+	return d.underWay.Load(), d.turned.Load()
+}
+
+// Deadline answers the longest that a call may take.
+func (d *Desk) Deadline() time.Duration { return d.options.Deadline }
+
+// Segments is SegmentLookupService/Segments: the body of the reply is the response.
+func (d *Desk) Segments(ctx context.Context, request []byte) ([]byte, error) {
+	return d.options.Lookups.Ask(ctx, upstream.Lookup, request)
+}
+
+// Registration is SegmentRegistrationService/SegmentsRegistration: the response is empty.
+func (d *Desk) Registration(ctx context.Context, request []byte) ([]byte, error) {
+	if d.options.Verifier != nil {
+		if err := d.options.Verifier.Verify(ctx, request); err != nil {
+			return nil, err
+		}
+	}
+	_, err := d.options.Registrations.Ask(ctx, upstream.Register, request)
+	return nil, err
+}
+
+// enter makes a place for a call, which leave gives back.
+func (d *Desk) enter(conn *door.Conn) *Fault {
+	o := &d.options
+	fault := (*Fault)(nil)
+	switch underWay := d.underWay.Add(1); {
+	case underWay > int64(o.Calls):
+		fault = NewFault(codes.ResourceExhausted, "%d calls are under way", o.Calls)
+	case conn != nil && conn.Owed() > o.OwedByOne:
+		fault = NewFault(codes.ResourceExhausted, "the connection has not taken its earlier replies")
+	case o.Owed() > o.OwedByAll:
+		fault = NewFault(codes.ResourceExhausted, "the connections have not taken their earlier replies")
+	}
+	if fault != nil {
+		d.leave()
+		d.turned.Add(1)
+	}
+	return fault
+}
+
+func (d *Desk) leave() { d.underWay.Add(-1) }
+
+// Call is a call as whoever serves it has it.
+type Call struct {
+	By   numbers.Protocol
+	Conn *door.Conn // nil where it is not known
+	// Read answers the request's body.
+	Read func(ctx context.Context) ([]byte, error)
+}
+
+// Serve carries a call of a method out, and answers its response or how it has ended.
+func (d *Desk) Serve(ctx context.Context, m *Method, call Call) ([]byte, *Fault) {
+	begun := time.Now()
+	response, fault := d.serve(ctx, m, call)
+	status := codes.OK
+	if fault != nil {
+		status = fault.Status
+	} else if call.Conn != nil {
+		call.Conn.Owe(len(response))
+	}
+	m.Numbers().Count(call.By, status, time.Since(begun))
+	return response, fault
+}
+
+func (d *Desk) serve(ctx context.Context, m *Method, call Call) ([]byte, *Fault) {
+	if fault := d.enter(call.Conn); fault != nil {
+		return nil, fault
+	}
+	defer d.leave()
+	limit := time.Now().Add(d.options.Deadline)
+	if soonest, isBounded := ctx.Deadline(); !isBounded || limit.Before(soonest) {
+		var cancel context.CancelFunc
+		ctx, cancel = context.WithDeadline(ctx, limit)
+		defer cancel()
+	}
+	request, err := call.Read(ctx)
+	if err != nil {
+		return nil, FaultOf(err)
+	}
+	if len(request) > upstream.MostRequest {
+		return nil, NewFault(codes.ResourceExhausted, "a request has more than %d bytes", upstream.MostRequest)
+	}
+	response, err := m.Serve(ctx, request)
+	if err != nil {
+		return nil, FaultOf(err)
+	}
+	return response, nil
+}

@@ -1,0 +1,62 @@
+package calls
+
+import (
+	"context"
+	"errors"
+	"fmt"
+
+	"google.golang.org/grpc/codes"
+	"google.golang.org/grpc/status"
+
+	"pathd/gateway/internal/refusal"
+	"pathd/gateway/internal/upstream"
+)
+
+// CodeKey is the key of the trailing metadata, and the header of Connect, that has pathd's code.
+const CodeKey = "pathd-code"
+
+// Fault is how a call ends that has no response. Code is 0 where nothing was refused by a code.
+type Fault struct {
+	Status codes.Code
+	Code   refusal.Code
+	Text   string
+}
+
+// Error answers the text.
+func (f *Fault) Error() string { return f.Text }
+
+// NewFault answers a fault without a code.
+func NewFault(status codes.Code, format string, words ...any) *Fault {
+	return &Fault{Status: status, Text: fmt.Sprintf(format, words...)}
+}
+
+// Refuse answers the fault of a code, with what there is to say in addition.
+func Refuse(code refusal.Code, more string) *Fault {
+	text := code.Error()
+	if more != "" {
+		text += ": " + more
+	}
+	return &Fault{Status: code.Meaning().Status, Code: code, Text: text}
+}
+
+// FaultOf answers the fault of an error that is not nil.
+func FaultOf(err error) *Fault {
+	var known *Fault
+	var code refusal.Code
+	switch {
+	case errors.As(err, &known):
+		return known
+	case errors.As(err, &code):
+		return Refuse(code, "")
+	case errors.Is(err, context.DeadlineExceeded):
+		return NewFault(codes.DeadlineExceeded, "there was no reply in time")
+	case errors.Is(err, context.Canceled):
+		return NewFault(codes.Canceled, "the client has ended the call")
+	case errors.Is(err, upstream.ErrEnded):
+		return NewFault(codes.Unavailable, "%v", err)
+	}
+	if it, isStatus := status.FromError(err); isStatus {
+		return NewFault(it.Code(), "%s", it.Message())
+	}
+	return NewFault(codes.Internal, "%v", err)
+}

@@ -1,0 +1,39 @@
+package calls
+
+import (
+	"context"
+	"sync"
+
+	"google.golang.org/protobuf/proto"
+
+	"pathd/gateway/internal/numbers"
+)
+
+// The services, whose names are those that daemons of SCION hosts call.
+const (
+	LookupService       = "proto.control_plane.v1.SegmentLookupService"
+	RegistrationService = "proto.control_plane.v1.SegmentRegistrationService"
+	TrustService        = "proto.control_plane.v1.TrustMaterialService"
+)
+
+// Method is a method that is served.
+type Method struct {
+	// Service is the whole name of the service, and File the file of its descriptor.
+	Service, Name, File string
+	// Serve answers the body of the response to the body of a request.
+	Serve func(ctx context.Context, request []byte) ([]byte, error)
+	// Request and Response answer empty messages, by which JSON is read and written.
+	Request, Response func() proto.Message
+
+	once    sync.Once
+	numbers *numbers.Method
+}
+
+// Numbers answers the method's numbers.
+func (m *Method) Numbers() *numbers.Method {
+	m.once.Do(func() { m.numbers = numbers.NewMethod(m.Service[len("proto.control_plane.v1."):] + "/" + m.Name) })
+	return m.numbers
+}
+
+// Path answers the path by which the method is called, such as /package.Service/Method.
+func (m *Method) Path() string { return "/" + m.Service + "/" + m.Name }

@@ -1,0 +1,223 @@
+package door
+
+import (
+	"bytes"
+	"errors"
+	"io"
+	"math/rand"
+	"net"
+	"testing"
+	"testing/iotest"
+	"time"
+
+	"golang.org/x/net/http2"
+	"golang.org/x/net/http2/hpack"
+)
+
+// request answers what a client sends: its preface, the frames of a request, and one of another kind.
+func request(contentType string, isSplit bool) []byte {
+	out := bytes.NewBufferString(http2.ClientPreface)
+	frames := http2.NewFramer(out, nil)
+	frames.WriteSettings(http2.Setting{ID: http2.SettingInitialWindowSize, Val: 1 << 20})
+	frames.WriteWindowUpdate(0, 1<<20)
+	frames.WriteSettingsAck()
+	var block bytes.Buffer
+	encoder := hpack.NewEncoder(&block)
+	for _, it := range [][2]string{{":method", "POST"}, {":scheme", "http"}, {":path", "/a/b"}, {"content-type", contentType}} {
+		encoder.WriteField(hpack.HeaderField{Name: it[0], Value: it[1]})
+	}
+	half := block.Len()
+	if isSplit {
+		half /= 2
+	}
+	frames.WriteHeaders(http2.HeadersFrameParam{StreamID: 1, BlockFragment: block.Bytes()[:half], EndHeaders: !isSplit})
+	if isSplit {
+		frames.WriteContinuation(1, true, block.Bytes()[half:])
+	}
+	frames.WriteData(1, false, make([]byte, 5000))
+	frames.WriteData(1, true, nil)
+	frames.WritePing(false, [8]byte{1})
+	return out.Bytes()
+}
+
+// scripted is a connection whose reader has what a peer sends.
+type scripted struct {
+	net.Conn
+	io.Reader
+	written bytes.Buffer
+}
+
+func (c *scripted) Read(p []byte) (int, error)       { return c.Reader.Read(p) }
+func (c *scripted) Write(p []byte) (int, error)      { return c.written.Write(p) }
+func (c *scripted) SetDeadline(time.Time) error      { return nil }
+func (c *scripted) SetReadDeadline(time.Time) error  { return nil }
+func (c *scripted) SetWriteDeadline(time.Time) error { return nil }
+func (c *scripted) Close() error                     { return nil }
+
+// connOf answers a connection through a door.
+func connOf(reader io.Reader) (*Conn, *scripted) {
+	inner := &scripted{Reader: reader}
+	return &Conn{Conn: inner, door: &Door{options: Options{Streams: 100}}}, inner
+}
+
+func TestWhatAConnectionSpeaks(t *testing.T) {
+	readers := map[string]func(io.Reader) io.Reader{
+		"whole":  func(r io.Reader) io.Reader { return r },
+		"bytes":  iotest.OneByteReader,
+		"halves": iotest.HalfReader,
+	}
+	for contentType, wanted := range map[string]Kind{"application/grpc": GRPC, "application/grpc+proto": GRPC, "application/proto": HTTP2} {
+		for _, isSplit := range []bool{false, true} {
+			sent := request(contentType, isSplit)
+			for name, of := range readers {
+				conn, inner := connOf(of(bytes.NewReader(sent)))
+				kind, err := conn.sniff()
+				if err != nil || kind != wanted {
+					t.Fatal(name, kind, err)
+				}
+				if got, err := io.ReadAll(conn); err != nil || !bytes.Equal(got, sent) {
+					t.Errorf("%s: %d bytes, not %d: %v", name, len(got), len(sent), err)
+				}
+				frame, err := http2.NewFramer(nil, &inner.written).ReadFrame()
+				settings, isSettings := frame.(*http2.SettingsFrame)
+				if err != nil || !isSettings || settings.NumSettings() != 2 {
+					t.Error(name, frame, err)
+				}
+			}
+		}
+	}
+}
+
+func TestHTTP1(t *testing.T) {
+	for _, text := range []string{"POST / HTTP/1.1\r\n\r\n", "PRI * HTTP/1.1\r\n\r\n", "G"} {
+		conn, _ := connOf(bytes.NewReader([]byte(text)))
+		kind, err := conn.sniff()
+		if err != nil || kind != HTTP1 {
+			t.Fatal(kind, err)
+		}
+		if got, _ := io.ReadAll(conn); string(got) != text {
+			t.Error(string(got))
+		}
+	}
+}
+
+func TestTheServersSettingsAreCut(t *testing.T) {
+	var settings bytes.Buffer
+	http2.NewFramer(&settings, nil).WriteSettings(http2.Setting{ID: http2.SettingMaxFrameSize, Val: 1 << 14})
+	for size := 1; size < 40; size++ {
+		conn, inner := connOf(bytes.NewReader(request("application/grpc", false)))
+		if _, err := conn.sniff(); err != nil {
+			t.Fatal(err)
+		}
+		inner.written.Reset()
+		for left := append(settings.Bytes(), "the rest"...); len(left) > 0; {
+			n := size
+			if n > len(left) {
+				n = len(left)
+			}
+			if wrote, err := conn.Write(left[:n]); wrote != n || err != nil {
+				t.Fatal(wrote, err)
+			}
+			left = left[n:]
+		}
+		if got := inner.written.String(); got != "the rest" {
+			t.Errorf("%d: %q", size, got)
+		}
+	}
+}
+
+func TestWhatIsOwed(t *testing.T) {
+	conn, _ := connOf(bytes.NewReader(nil))
+	conn.Owe(100)
+	conn.Write(make([]byte, 40))
+	if conn.Owed() != 60 || conn.door.Owed() != 60 {
+		t.Error(conn.Owed(), conn.door.Owed())
+	}
+	if conn.isStuck(time.Now().Add(-time.Minute)) || !conn.isStuck(time.Now().Add(time.Minute)) {
+		t.Error("stuck")
+	}
+	conn.Write(make([]byte, 100))
+	if conn.Owed() != 0 || conn.isStuck(time.Now().Add(time.Minute)) {
+		t.Error(conn.Owed())
+	}
+}
+
+func TestFloods(t *testing.T) {
+	write := map[string]func(*http2.Framer, int){
+		"reset":    func(f *http2.Framer, i int) { f.WriteRSTStream(uint32(2*i+1), http2.ErrCodeCancel) },
+		"ping":     func(f *http2.Framer, i int) { f.WritePing(false, [8]byte{}) },
+		"settings": func(f *http2.Framer, i int) { f.WriteSettings() },
+		"priority": func(f *http2.Framer, i int) { f.WritePriority(1, http2.PriorityParam{StreamDep: 3}) },
+		"empty":    func(f *http2.Framer, i int) { f.WriteData(1, false, nil) },
+		"continued": func(f *http2.Framer, i int) {
+			f.AllowIllegalWrites = true
+			f.WriteContinuation(1, false, []byte{0})
+		},
+	}
+	for name, one := range write {
+		out := bytes.NewBuffer(request("application/grpc", false))
+		frames := http2.NewFramer(out, nil)
+		for i := 0; i < 3000; i++ {
+			one(frames, i)
+		}
+		conn, inner := connOf(out)
+		if _, err := conn.sniff(); err != nil {
+			t.Fatal(name, err)
+		}
+		_, err := io.ReadAll(conn)
+		var flood *Flood
+		if !errors.As(err, &flood) {
+			t.Error(name, err)
+		}
+		if !bytes.Contains(inner.written.Bytes(), []byte{0, 0, 0, byte(http2.ErrCodeEnhanceYourCalm)}) {
+			t.Error(name, "is not told")
+		}
+	}
+}
+
+func TestABucketFills(t *testing.T) {
+	b := bucket{most: 2, level: 2}
+	now := time.Now()
+	for i, wanted := range []bool{true, true, false} {
+		if b.take(now) != wanted {
+			t.Error(i)
+		}
+	}
+	if !b.take(now.Add(15*time.Millisecond)) || b.take(now.Add(15*time.Millisecond)) {
+		t.Error("two frames after as long as for one")
+	}
+}
+
+func TestNoise(t *testing.T) {
+	random := rand.New(rand.NewSource(1))
+	for i := 0; i < 5000; i++ {
+		sent := request("application/grpc", i%2 == 0)
+		for n := random.Intn(4); n >= 0; n-- {
+			sent[24+random.Intn(100)] = byte(random.Int())
+		}
+		conn, _ := connOf(bytes.NewReader(sent))
+		if _, err := conn.sniff(); err == nil {
+			if got, err := io.ReadAll(conn); err == nil && !bytes.Equal(got, sent) {
+				t.Fatal(i, "other bytes")
+			}
+		}
+	}
+}
+
+// FuzzFirstBytes has what is read again be what was sent, whatever that is.
+func FuzzFirstBytes(f *testing.F) {
+	f.Add(request("application/grpc", false))
+	f.Add(request("application/proto", true))
+	f.Add([]byte("POST / HTTP/1.1\r\n\r\n"))
+	f.Fuzz(func(t *testing.T, sent []byte) {
+		conn, _ := connOf(bytes.NewReader(sent))
+		kind, err := conn.sniff()
+		if err != nil {
+			return
+		}
+		got, err := io.ReadAll(conn)
+		if !bytes.HasPrefix(sent, got) || err == nil && len(got) != len(sent) {
+			t.Fatalf("%d: %d bytes of %d: %v", kind, len(got), len(sent), err)
+		}
+	})
+}

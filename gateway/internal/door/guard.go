@@ -1,0 +1,144 @@
+package door
+
+import (
+	"fmt"
+	"time"
+
+	"golang.org/x/net/http2"
+)
+
+// What a peer of HTTP/2 may send. The servers of Debian 12 bound neither the frames of a request's
+// headers (CVE-2023-45288) nor requests that are reset at once (CVE-2023-44487).
+const (
+	mostHeaderFrames = 9       // HEADERS with its CONTINUATION
+	mostHeaderBytes  = 1 << 16 // of these, in one request
+	mostOfFrame      = 1 << 14
+
+	controlBurst = 1000 // frames such as RST_STREAM and PING at once, beside those of open streams
+	controlRate  = 100  // such frames a second
+	emptyBurst   = 1000 // DATA without bytes at once
+)
+
+// Flood is the error of a connection that sends what a guard does not let pass.
+type Flood struct{ reason string }
+
+func (f *Flood) Error() string { return f.reason }
+
+// guard looks at the heads of the frames that a peer sends.
+type guard struct {
+	preface int // bytes of the preface that are still to come
+	head    [frameHead]byte
+	have    int // bytes of head
+	left    int // bytes of the frame after its head
+
+	headerFrames, headerBytes int
+	empty                     int
+	control                   bucket
+}
+
+func newGuard(streams uint32) *guard {
+	most := controlBurst + 4*float64(streams)
+	return &guard{preface: len(http2.ClientPreface), control: bucket{most: most, level: most}}
+}
+
+// look answers an error where bytes are not let pass.
+func (g *guard) look(p []byte, now func() time.Time) error {
+	for len(p) > 0 {
+		switch {
+		case g.preface > 0:
+			p = g.pass(p, &g.preface)
+		case g.left > 0:
+			p = g.pass(p, &g.left)
+		default:
+			n := copy(g.head[g.have:], p)
+			g.have += n
+			p = p[n:]
+			if g.have == frameHead {
+				g.have = 0
+				if err := g.frame(now); err != nil {
+					return err
+				}
+			}
+		}
+	}
+	return nil
+}
+
+func (g *guard) pass(p []byte, left *int) []byte {
+	n := len(p)
+	if n > *left {
+		n = *left
+	}
+	*left -= n
+	return p[n:]
+}
+
+// frame looks at a whole head.
+func (g *guard) frame(now func() time.Time) error {
+	length := int(g.head[0])<<16 | int(g.head[1])<<8 | int(g.head[2])
+	kind, flags := http2.FrameType(g.head[3]), http2.Flags(g.head[4])
+	g.left = length
+	if length > mostOfFrame {
+		return http2.ConnectionError(http2.ErrCodeFrameSize)
+	}
+	switch kind {
+	case http2.FrameHeaders, http2.FrameContinuation:
+		return g.headers(length, flags)
+	case http2.FrameData:
+		return g.data(length, flags)
+	case http2.FrameWindowUpdate:
+		return nil
+	case http2.FrameSettings, http2.FramePing:
+		if flags.Has(http2.FlagPingAck) {
+			return nil
+		}
+	}
+	if !g.control.take(now()) {
+		return &Flood{fmt.Sprintf("too many frames of the kind %v", kind)}
+	}
+	return nil
+}
+
+func (g *guard) headers(length int, flags http2.Flags) error {
+	g.headerFrames++
+	g.headerBytes += length
+	if g.headerFrames > mostHeaderFrames || g.headerBytes > mostHeaderBytes {
+		return &Flood{"the headers of a request are too large"}
+	}
+	if flags.Has(http2.FlagHeadersEndHeaders) {
+		g.headerFrames, g.headerBytes = 0, 0
+	}
+	return nil
+}
+
+func (g *guard) data(length int, flags http2.Flags) error {
+	if length > 0 || flags.Has(http2.FlagDataEndStream) {
+		g.empty = 0
+		return nil
+	}
+	if g.empty++; g.empty > emptyBurst {
+		return &Flood{"too many frames without bytes"}
+	}
+	return nil
+}
+
+// bucket has as many places as may be taken now, and fills by controlRate a second.
+type bucket struct {
+	most, level float64
+	last        time.Time
+}
+
+func (b *bucket) take(now time.Time) bool {
+	if !b.last.IsZero() {
+		b.level += now.Sub(b.last).Seconds() * controlRate
+		if b.level > b.most {
+			b.level = b.most
+		}
+	}
+	b.last = now
+	if b.level < 1 {
+		return false
+	}
+	b.level--
+	return true
+}

@@ -1,0 +1,118 @@
+// Package settings reads the command line of the gateway.
+package settings
+
+import (
+	"errors"
+	"flag"
+	"fmt"
+	"io"
+	"net"
+	"strconv"
+	"time"
+)
+
+// The most of numbers on the command line.
+const (
+	mostSessions    = 60 // of the 64 that pathd has
+	mostSeconds     = 3600
+	mostStreams     = 4096
+	mostConnections = 65_536
+	mostCalls       = 65_536
+)
+
+// Settings are what the command line says.
+type Settings struct {
+	Listen, Pathd, Status      string
+	Lookups, Registrations     int
+	Deadline, Idle             time.Duration
+	Streams, Connections       int
+	PeerConnections, Calls     int
+	Certificate, Key, ClientCA string
+	Trust, TrustServer         string
+	Version                    bool
+}
+
+const about = `Answers what daemons and control services of a SCION AS call, by asking pathd: SegmentLookupService,
+SegmentRegistrationService and TrustMaterialService, by gRPC and by Connect. SIGHUP has it read
+certificates and trust again. SIGTERM ends it once the calls under way have ended.
+
+usage: pathd-gateway [OPTIONS]
+
+`
+
+// Read reads the words of a command line. Where they are wrong it writes why to out; with --help it
+// writes the help there, and answers flag.ErrHelp.
+func Read(words []string, out io.Writer) (*Settings, error) {
+	s := &Settings{}
+	set := flag.NewFlagSet("pathd-gateway", flag.ContinueOnError)
+	set.SetOutput(io.Discard)
+	var help help
+	add := adder{set, &help}
+	add.address(&s.Listen, "listen", "127.0.0.1:30262", "where it listens; port 0 is any free one")
+	add.address(&s.Pathd, "pathd", "127.0.0.1:30252", "the address of pathd, which may be started later")
+	add.number(&s.Lookups, "lookups", 2, 1, mostSessions, "sessions with pathd for lookups")
+	add.number(&s.Registrations, "registrations", 1, 1, mostSessions, "sessions with pathd for registrations")
+	add.seconds(&s.Deadline, "deadline", 10*time.Second, "the longest that a call may take")
+	add.seconds(&s.Idle, "idle", 300*time.Second, "the longest that a connection may have no call")
+	add.number(&s.Streams, "streams", 256, 1, mostStreams, "calls under way in a connection")
+	add.number(&s.Calls, "calls", 1024, 1, mostCalls, "calls under way in all")
+	add.number(&s.Connections, "connections", 1024, 1, mostConnections, "open connections")
+	add.number(&s.PeerConnections, "peer-connections", 0, 0, mostConnections, "open connections of one address; 0 is no bound")
+	add.text(&s.Certificate, "cert", "FILE", "a certificate and its chain in PEM, for TLS; without it there is no TLS")
+	add.text(&s.Key, "key", "FILE", "the key of the certificate, in PEM")
+	add.text(&s.ClientCA, "client-ca", "FILE", "authorities in PEM: clients need a certificate of one")
+	add.text(&s.Trust, "trust", "FOLDER", "TRCs and chains, by which registrations are verified; without it none is")
+	add.text(&s.TrustServer, "trust-server", "ADDR", "a control service that is asked for chains and TRCs that the folder lacks")
+	add.text(&s.Status, "status", "ADDR", "where GET /metrics is answered with numbers; without it nowhere")
+	set.BoolVar(&s.Version, "version", false, "")
+	help.add("version", "", "prints the version")
+	help.add("help", "", "prints help")
+	err := set.Parse(words)
+	if err == nil && set.NArg() > 0 {
+		err = fmt.Errorf("what is %q?", set.Arg(0))
+	}
+	if err == nil {
+		err = s.check()
+	}
+	switch {
+	case errors.Is(err, flag.ErrHelp):
+		fmt.Fprint(out, about, help.String())
+	case err != nil:
+		fmt.Fprintf(out, "pathd-gateway: %v\n", err)
+	}
+	return s, err
+}
+
+// check answers an error where settings don't fit each other.
+func (s *Settings) check() error {
+	switch {
+	case (s.Certificate == "") != (s.Key == ""):
+		return errors.New("--cert and --key are given together")
+	case s.ClientCA != "" && s.Certificate == "":
+		return errors.New("--client-ca needs --cert")
+	case s.TrustServer != "" && s.Trust == "":
+		return errors.New("--trust-server needs --trust: the folder has the TRCs to begin with")
+	case s.Lookups+s.Registrations > mostSessions:
+		return fmt.Errorf("pathd has no room for %d sessions", s.Lookups+s.Registrations)
+	}
+	for name, it := range map[string]string{"status": s.Status, "trust-server": s.TrustServer} {
+		if it == "" {
+			continue
+		}
+		if err := checkAddress(it); err != nil {
+			return fmt.Errorf("--%s: %w", name, err)
+		}
+	}
+	return nil
+}
+
+func checkAddress(text string) error {
+	host, port, err := net.SplitHostPort(text)
+	if err != nil || host == "" {
+		return fmt.Errorf("%q is no address such as 127.0.0.1:30262 or [::1]:30262", text)
+	}
+	if _, err := strconv.ParseUint(port, 10, 16); err != nil {
+		return fmt.Errorf("%q has no port", text)
+	}
+	return nil
+}

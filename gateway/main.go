@@ -1,0 +1,41 @@
+// pathd-gateway answers what daemons and control services of a SCION AS call, by asking pathd.
+// docs/GATEWAY.md has its options, statuses and bounds.
+package main
+
+import (
+	"errors"
+	"flag"
+	"fmt"
+	"log"
+	"os"
+
+	"pathd/gateway/internal/settings"
+)
+
+// version is set by the linker: gateway/build has it from the last commit.
+var version = "unknown"
+
+// Statuses of the process.
+const (
+	statusFault = 1
+	statusWords = 2
+)
+
+func main() {
+	log.SetFlags(0)
+	log.SetPrefix("pathd-gateway: ")
+	s, err := settings.Read(os.Args[1:], os.Stdout)
+	switch {
+	case errors.Is(err, flag.ErrHelp):
+		return
+	case err != nil:
+		os.Exit(statusWords)
+	case s.Version:
+		fmt.Println("pathd-gateway", version)
+		return
+	}
+	if err := run(s); err != nil {
+		log.Print(err)
+		os.Exit(statusFault)
+	}
+}

@@ -1,0 +1,44 @@
+package main
+
+import (
+	"google.golang.org/protobuf/proto"
+
+	"pathd/gateway/internal/calls"
+	control "pathd/gateway/internal/pb/controlplanepb"
+	"pathd/gateway/internal/pb/segmentspb"
+	"pathd/gateway/internal/trust"
+)
+
+// The files of the services, as their descriptors name them.
+const (
+	segmentsFile = "control_plane.proto"
+	trustFile    = "trust_material.proto"
+)
+
+// methodsOf answers what is served. keeper is nil where there is no trust material.
+func methodsOf(desk *calls.Desk, keeper *trust.Keeper) []*calls.Method {
+	methods := []*calls.Method{
+		{
+			Service: calls.LookupService, Name: "Segments", File: segmentsFile, Serve: desk.Segments,
+			Request:  func() proto.Message { return new(segmentspb.SegmentsRequest) },
+			Response: func() proto.Message { return new(segmentspb.SegmentsResponse) },
+		},
+		{
+			Service: calls.RegistrationService, Name: "SegmentsRegistration", File: segmentsFile, Serve: desk.Registration,
+			Request:  func() proto.Message { return new(segmentspb.SegmentsRegistrationRequest) },
+			Response: func() proto.Message { return new(control.SegmentsRegistrationResponse) },
+		},
+	}
+	if keeper == nil {
+		return methods
+	}
+	return append(methods, &calls.Method{
+		Service: calls.TrustService, Name: "TRC", File: trustFile, Serve: keeper.TRC,
+		Request:  func() proto.Message { return new(control.TRCRequest) },
+		Response: func() proto.Message { return new(control.TRCResponse) },
+	}, &calls.Method{
+		Service: calls.TrustService, Name: "Chains", File: trustFile, Serve: keeper.Chains,
+		Request:  func() proto.Message { return new(control.ChainsRequest) },
+		Response: func() proto.Message { return new(control.ChainsResponse) },
+	})
+}

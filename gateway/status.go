@@ -1,0 +1,136 @@
+package main
+
+import (
+	"fmt"
+	"io"
+	"log"
+	"net"
+	"net/http"
+	"runtime"
+	"time"
+
+	"pathd/gateway/internal/numbers"
+	"pathd/gateway/internal/upstream"
+)
+
+const statusLimit = 10 * time.Second
+
+// serveNumbers answers GET /metrics at a listener, and GET /healthz by 200 where pathd answers.
+func (g *gateway) serveNumbers(listener net.Listener) *http.Server {
+	paths := http.NewServeMux()
+	paths.HandleFunc("/metrics", func(w http.ResponseWriter, r *http.Request) {
+		w.Header().Set("Content-Type", "text/plain; version=0.0.4; charset=utf-8")
+		w.Write(g.page().Bytes())
+	})
+	paths.HandleFunc("/healthz", func(w http.ResponseWriter, r *http.Request) {
+		if !g.watcher.isUp.Load() {
+			http.Error(w, "pathd does not answer", http.StatusServiceUnavailable)
+			return
+		}
+		fmt.Fprintln(w, "ok")
+	})
+	server := &http.Server{
+		Handler: paths, ReadTimeout: statusLimit, WriteTimeout: statusLimit, IdleTimeout: statusLimit,
+		MaxHeaderBytes: mostHeader, ErrorLog: log.New(io.Discard, "", 0),
+	}
+	go server.Serve(listener)
+	return server
+}
+
+// page writes all numbers.
+func (g *gateway) page() *numbers.Page {
+	p := new(numbers.Page)
+	p.Gauge("pathd_gateway_info", "The version of the program.")
+	p.Row("pathd_gateway_info", fmt.Sprintf("version=%q", version), 1)
+	p.Gauge("pathd_gateway_uptime_seconds", "Seconds since the start.")
+	p.Row("pathd_gateway_uptime_seconds", "", float64(int(time.Since(g.begun).Seconds())))
+	p.Gauge("pathd_gateway_pathd_up", "1 while pathd answers a lookup each second.")
+	p.Row("pathd_gateway_pathd_up", "", number(g.watcher.isUp.Load()))
+	var each []*numbers.Method
+	for _, m := range g.methods {
+		each = append(each, m.Numbers())
+	}
+	numbers.WriteCalls(p, each)
+	g.writeCalls(p)
+	g.writeDoor(p)
+	g.writeUpstream(p)
+	g.writeFiles(p)
+	return p
+}
+
+func (g *gateway) writeCalls(p *numbers.Page) {
+	underWay, turned := g.desk.Numbers()
+	p.Gauge("pathd_gateway_calls", "Calls under way.")
+	p.Row("pathd_gateway_calls", "", float64(underWay))
+	p.Counter("pathd_gateway_calls_turned_away_total", "Calls that were ended at once, for want of room.")
+	p.Row("pathd_gateway_calls_turned_away_total", "", float64(turned))
+	var memory runtime.MemStats
+	runtime.ReadMemStats(&memory)
+	p.Gauge("pathd_gateway_memory_bytes", "Bytes that the program has from the system.")
+	p.Row("pathd_gateway_memory_bytes", "", float64(memory.Sys-memory.HeapReleased))
+	p.Gauge("pathd_gateway_goroutines", "Goroutines.")
+	p.Row("pathd_gateway_goroutines", "", float64(runtime.NumGoroutine()))
+}
+
+func (g *gateway) writeDoor(p *numbers.Page) {
+	n := g.door.Numbers()
+	p.Gauge("pathd_gateway_connections", "Open connections.")
+	p.Row("pathd_gateway_connections", "", float64(n.Open))
+	p.Gauge("pathd_gateway_owed_bytes", "Bytes of replies that clients have not taken yet.")
+	p.Row("pathd_gateway_owed_bytes", "", float64(n.Owed))
+	p.Counter("pathd_gateway_connections_total", "Connections by what they spoke.")
+	for i, kind := range []string{"http1", "http2", "grpc"} {
+		p.Row("pathd_gateway_connections_total", fmt.Sprintf("kind=%q", kind), float64(n.Kinds[i]))
+	}
+	p.Counter("pathd_gateway_connections_closed_total", "Connections that the gateway has closed, by why.")
+	for _, it := range []struct {
+		why   string
+		count uint64
+	}{{"no_room", n.Refused}, {"faulty", n.Faulty}, {"flood", n.Flooded}, {"stuck", n.Stuck}} {
+		p.Row("pathd_gateway_connections_closed_total", fmt.Sprintf("why=%q", it.why), float64(it.count))
+	}
+}
+
+func (g *gateway) writeUpstream(p *numbers.Page) {
+	pools := []struct {
+		name string
+		n    upstream.Numbers
+	}{{"lookups", g.lookups.Numbers()}, {"registrations", g.registrations.Numbers()}}
+	each := func(name string, value func(upstream.Numbers) float64) {
+		for _, it := range pools {
+			p.Row(name, fmt.Sprintf("pool=%q", it.name), value(it.n))
+		}
+	}
+	p.Gauge("pathd_gateway_sessions", "Open sessions with pathd.")
+	each("pathd_gateway_sessions", func(n upstream.Numbers) float64 { return float64(n.Open) })
+	p.Gauge("pathd_gateway_requests", "Requests to pathd under way.")
+	each("pathd_gateway_requests", func(n upstream.Numbers) float64 { return float64(n.UnderWay) })
+	p.Counter("pathd_gateway_sessions_opened_total", "Sessions with pathd that were opened.")
+	each("pathd_gateway_sessions_opened_total", func(n upstream.Numbers) float64 { return float64(n.Opened) })
+	p.Counter("pathd_gateway_sessions_ended_total", "Sessions with pathd that have ended.")
+	each("pathd_gateway_sessions_ended_total", func(n upstream.Numbers) float64 { return float64(n.Ended) })
+	p.Counter("pathd_gateway_connects_failed_total", "Connections to pathd that failed.")
+	each("pathd_gateway_connects_failed_total", func(n upstream.Numbers) float64 { return float64(n.Failed) })
+	p.Counter("pathd_gateway_requests_repeated_total", "Requests that were sent twice, as their session ended.")
+	each("pathd_gateway_requests_repeated_total", func(n upstream.Numbers) float64 { return float64(n.Repeated) })
+}
+
+func (g *gateway) writeFiles(p *numbers.Page) {
+	p.Counter("pathd_gateway_reloads_total", "How often certificates and trust were to be read again.")
+	p.Row("pathd_gateway_reloads_total", `result="good"`, float64(g.reloads.good.Load()))
+	p.Row("pathd_gateway_reloads_total", `result="faulty"`, float64(g.reloads.faulty.Load()))
+	if g.certificates != nil {
+		p.Gauge("pathd_gateway_certificate_expires_seconds", "When the TLS certificate expires, in seconds since 1970.")
+		p.Row("pathd_gateway_certificate_expires_seconds", "", float64(g.certificates.expiresAt().Unix()))
+	}
+	if g.keeper != nil {
+		g.keeper.WriteNumbers(p)
+	}
+}
+
+func number(is bool) float64 {
+	if is {
+		return 1
+	}
+	return 0
+}

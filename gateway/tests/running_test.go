@@ -1,0 +1,183 @@
+// Package tests tries the built program from outside. GATEWAY is its path and PATHD that of pathd.
+package tests
+
+import (
+	"bufio"
+	"context"
+	"encoding/binary"
+	"io"
+	"net"
+	"os"
+	"os/exec"
+	"path/filepath"
+	"strings"
+	"syscall"
+	"testing"
+	"time"
+
+	"google.golang.org/grpc"
+
+	pki "pathd/gateway/internal/testpki"
+)
+
+const limit = time.Minute
+
+// process is a program that a test has started.
+type process struct {
+	t       *testing.T
+	command *exec.Cmd
+	address string
+	log     *strings.Builder
+	ended   chan error
+}
+
+// start starts a program whose lines a function looks for the address in.
+func start(t *testing.T, address func(line string) string, words ...string) *process {
+	t.Helper()
+	p := &process{t: t, command: exec.Command(words[0], words[1:]...), log: new(strings.Builder), ended: make(chan error, 1)}
+	out, in, err := os.Pipe()
+	pki.Must(t, err)
+	p.command.Stdout, p.command.Stderr = in, in
+	pki.Must(t, p.command.Start())
+	in.Close()
+	t.Cleanup(func() { p.command.Process.Kill() })
+	found := make(chan string, 1)
+	go func() {
+		lines := bufio.NewScanner(out)
+		for lines.Scan() {
+			p.log.WriteString(lines.Text() + "\n")
+			if it := address(lines.Text()); it != "" && len(found) == 0 {
+				found <- it
+			}
+		}
+		close(found)
+		p.ended <- p.command.Wait()
+	}()
+	select {
+	case p.address = <-found:
+	case <-time.After(limit):
+	}
+	if p.address == "" {
+		t.Fatal("the program does not serve: ", p.log)
+	}
+	return p
+}
+
+// end has a process end by a signal, and answers its status.
+func (p *process) end(by os.Signal) error {
+	p.command.Process.Signal(by)
+	return p.wait()
+}
+
+func (p *process) wait() error {
+	select {
+	case err := <-p.ended:
+		return err
+	case <-time.After(limit):
+		p.t.Fatal("the process does not end")
+		return nil
+	}
+}
+
+func (p *process) signal(by syscall.Signal) { p.command.Process.Signal(by) }
+
+// gateway starts a gateway before a pathd.
+func gateway(t *testing.T, pathd string, words ...string) *process {
+	t.Helper()
+	program := os.Getenv("GATEWAY")
+	if program == "" {
+		t.Skip("GATEWAY is the path of pathd-gateway")
+	}
+	all := append([]string{program, "--listen", "127.0.0.1:0", "--pathd", pathd}, words...)
+	return start(t, func(line string) string {
+		if rest := strings.TrimPrefix(line, "serves at "); rest != line {
+			return rest
+		}
+		return ""
+	}, all...)
+}
+
+// pathd starts a server with a new store, at an address.
+func pathd(t *testing.T, listen string) *process {
+	t.Helper()
+	store := filepath.Join(t.TempDir(), "store")
+	program := os.Getenv("PATHD")
+	if program == "" {
+		t.Skip("PATHD is the path of pathd")
+	}
+	if out, err := exec.Command(program, "format", store, "--checkpoint", "64", "--journal", "516").CombinedOutput(); err != nil {
+		t.Fatal(err, string(out))
+	}
+	return start(t, addressOfPathd, program, "run", store, "--listen", listen, "--cores", "1-ff00:0:110")
+}
+
+func addressOfPathd(line string) string {
+	at := strings.Index(line, "127.0.0.1:")
+	if at < 0 {
+		return ""
+	}
+	return strings.TrimRight(strings.Fields(line[at:])[0], ",;.")
+}
+
+// fake plays a pathd that answers each frame by a function: nil ends the session, and an empty reply
+// is none.
+func fake(t *testing.T, answer func(content []byte) []byte) string {
+	listener, err := net.Listen("tcp", "127.0.0.1:0")
+	pki.Must(t, err)
+	t.Cleanup(func() { listener.Close() })
+	go func() {
+		for {
+			conn, err := listener.Accept()
+			if err != nil {
+				return
+			}
+			go serveFake(conn, answer)
+		}
+	}()
+	return listener.Addr().String()
+}
+
+func serveFake(conn net.Conn, answer func([]byte) []byte) {
+	defer conn.Close()
+	for {
+		var length uint32
+		if binary.Read(conn, binary.BigEndian, &length) != nil {
+			return
+		}
+		content := make([]byte, length)
+		if _, err := io.ReadFull(conn, content); err != nil {
+			return
+		}
+		reply := answer(content)
+		if reply == nil {
+			return
+		}
+		if len(reply) > 0 {
+			conn.Write(append(binary.BigEndian.AppendUint32(nil, uint32(len(reply))), reply...))
+		}
+	}
+}
+
+// healthy answers as a pathd without segments.
+func healthy(content []byte) []byte {
+	switch {
+	case len(content) == 1 && content[0] == 2:
+		return []byte{0xff, 0x41}
+	case content[0] == 2:
+		return []byte{0x82}
+	}
+	return append([]byte{0x81}, make([]byte, 24)...)
+}
+
+// dial answers a connection of gRPC, and a context for its calls.
+func dial(t *testing.T, address string, options ...grpc.DialOption) (*grpc.ClientConn, context.Context) {
+	t.Helper()
+	ctx, cancel := context.WithTimeout(context.Background(), limit)
+	if len(options) == 0 {
+		options = []grpc.DialOption{grpc.WithInsecure()}
+	}
+	conn, err := grpc.DialContext(ctx, address, append(options, grpc.WithBlock())...)
+	pki.Must(t, err)
+	t.Cleanup(func() { conn.Close(); cancel() })
+	return conn, ctx
+}
