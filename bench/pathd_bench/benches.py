@@ -11,6 +11,7 @@ TABLES = [
 SERVING = [
     Tool("server", "server.sh", "sessions over the loopback, beside an echo server, LevelDB and SQLite"),
     Tool("hub", "hub.sh", "lookups and registrations by several threads; `stress` checks each lookup"),
+    Tool("gateway", "gateway.sh", "lookups and registrations through the gateway, beside a server of gRPC that echoes"),
     Tool("run", "run.sh", "`pathd once`, beside Google's protobuf"),
     Tool("lookups", "lookups.sh", "lookups that show 1, 8 and 64 segments"),
     Tool("profile", "profile.sh", "where the program's instructions go"),

@@ -143,3 +143,11 @@ func TestGRPCAfterConnect(t *testing.T) {
 		}
 	}
 }
+
+// clientOverTLS answers a client of the first protocol of a configuration.
+func clientOverTLS(config *tls.Config) *http.Client {
+	if config.NextProtos[0] == "h2" {
+		return &http.Client{Timeout: limit, Transport: &http2.Transport{TLSClientConfig: config}}
+	}
+	return &http.Client{Timeout: limit, Transport: &http.Transport{TLSClientConfig: config}}
+}

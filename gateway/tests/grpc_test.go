@@ -171,9 +171,11 @@ func TestReflection(t *testing.T) {
 }
 
 func TestDeadlines(t *testing.T) {
+	quit := make(chan struct{})
+	t.Cleanup(func() { close(quit) })
 	address := fake(t, func(content []byte) []byte {
 		if len(content) > 1 {
-			return []byte{}
+			<-quit
 		}
 		return healthy(content)
 	})
@@ -209,6 +211,7 @@ func TestMoreCallsThanThereIsRoomFor(t *testing.T) {
 	conn, ctx := dial(t, gateway(t, address, "--calls", "10", "--lookups", "2").address)
 	var wait sync.WaitGroup
 	var mu sync.Mutex
+	var once sync.Once
 	count := map[codes.Code]int{}
 	for i := 0; i < 30; i++ {
 		wait.Add(1)
@@ -218,7 +221,7 @@ func TestMoreCallsThanThereIsRoomFor(t *testing.T) {
 			mu.Lock()
 			defer mu.Unlock()
 			if count[status.Code(err)]++; count[codes.ResourceExhausted] == 20 {
-				close(quit)
+				once.Do(func() { close(quit) })
 			}
 		}()
 	}

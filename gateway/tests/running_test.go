@@ -5,11 +5,13 @@ import (
 	"bufio"
 	"context"
 	"encoding/binary"
+	"errors"
 	"io"
 	"net"
 	"os"
 	"os/exec"
 	"path/filepath"
+	"regexp"
 	"strings"
 	"syscall"
 	"testing"
@@ -111,16 +113,11 @@ func pathd(t *testing.T, listen string) *process {
 	return start(t, addressOfPathd, program, "run", store, "--listen", listen, "--cores", "1-ff00:0:110")
 }
 
-func addressOfPathd(line string) string {
-	at := strings.Index(line, "127.0.0.1:")
-	if at < 0 {
-		return ""
-	}
-	return strings.TrimRight(strings.Fields(line[at:])[0], ",;.")
-}
+var loopback = regexp.MustCompile(`127\.0\.0\.1:[0-9]+`)
 
-// fake plays a pathd that answers each frame by a function: nil ends the session, and an empty reply
-// is none.
+func addressOfPathd(line string) string { return loopback.FindString(line) }
+
+// fake plays a pathd that answers each frame by a function: nil ends the session.
 func fake(t *testing.T, answer func(content []byte) []byte) string {
 	listener, err := net.Listen("tcp", "127.0.0.1:0")
 	pki.Must(t, err)
@@ -152,9 +149,7 @@ func serveFake(conn net.Conn, answer func([]byte) []byte) {
 		if reply == nil {
 			return
 		}
-		if len(reply) > 0 {
-			conn.Write(append(binary.BigEndian.AppendUint32(nil, uint32(len(reply))), reply...))
-		}
+		conn.Write(append(binary.BigEndian.AppendUint32(nil, uint32(len(reply))), reply...))
 	}
 }
 
@@ -180,4 +175,14 @@ func dial(t *testing.T, address string, options ...grpc.DialOption) (*grpc.Clien
 	pki.Must(t, err)
 	t.Cleanup(func() { conn.Close(); cancel() })
 	return conn, ctx
+}
+
+// run carries out a command, and answers what it prints and its status.
+func run(words ...string) (string, int) {
+	out, err := exec.Command(words[0], words[1:]...).CombinedOutput()
+	var ended *exec.ExitError
+	if errors.As(err, &ended) {
+		return string(out), ended.ExitCode()
+	}
+	return string(out), 0
 }

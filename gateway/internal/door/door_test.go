@@ -144,7 +144,7 @@ func TestWhatIsOwed(t *testing.T) {
 
 func TestFloods(t *testing.T) {
 	write := map[string]func(*http2.Framer, int){
-		"reset":    func(f *http2.Framer, i int) { f.WriteRSTStream(uint32(2*i+1), http2.ErrCodeCancel) },
+		"reset":    func(f *http2.Framer, i int) { f.WriteRSTStream(1, http2.ErrCodeCancel) },
 		"ping":     func(f *http2.Framer, i int) { f.WritePing(false, [8]byte{}) },
 		"settings": func(f *http2.Framer, i int) { f.WriteSettings() },
 		"priority": func(f *http2.Framer, i int) { f.WritePriority(1, http2.PriorityParam{StreamDep: 3}) },

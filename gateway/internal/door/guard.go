@@ -1,6 +1,7 @@
 package door
 
 import (
+	"encoding/binary"
 	"fmt"
 	"time"
 
@@ -30,6 +31,8 @@ type guard struct {
 	head    [frameHead]byte
 	have    int // bytes of head
 	left    int // bytes of the frame after its head
+
+	newest uint32 // the stream that was opened last
 
 	headerFrames, headerBytes int
 	empty                     int
@@ -81,6 +84,9 @@ func (g *guard) frame(now func() time.Time) error {
 	if length > mostOfFrame {
 		return http2.ConnectionError(http2.ErrCodeFrameSize)
 	}
+	if !g.mayBeOn(kind, binary.BigEndian.Uint32(g.head[5:])&(1<<31-1)) {
+		return http2.ConnectionError(http2.ErrCodeProtocol)
+	}
 	switch kind {
 	case http2.FrameHeaders, http2.FrameContinuation:
 		return g.headers(length, flags)
@@ -97,6 +103,22 @@ func (g *guard) frame(now func() time.Time) error {
 		return &Flood{fmt.Sprintf("too many frames of the kind %v", kind)}
 	}
 	return nil
+}
+
+// mayBeOn answers whether a client may send a frame of a kind on a stream: grpc-go lets pass what is on
+// streams that were not opened yet, and pushes.
+func (g *guard) mayBeOn(kind http2.FrameType, stream uint32) bool {
+	switch kind {
+	case http2.FrameHeaders:
+		if stream > g.newest {
+			g.newest = stream
+		}
+	case http2.FrameData, http2.FrameRSTStream, http2.FrameWindowUpdate:
+		return stream <= g.newest
+	case http2.FramePushPromise:
+		return false
+	}
+	return true
 }
 
 func (g *guard) headers(length int, flags http2.Flags) error {

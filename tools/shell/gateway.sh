@@ -1,0 +1,40 @@
+#!/usr/bin/env bash
+# Builds pathd-gateway, and runs its tests: those of its packages, and those that try the built
+# program from outside, before a pathd that they imitate and before the built one. It needs the
+# packages of Debian that `tools/pathd-tools need` lists, uses the loopback alone, and is no part of
+# the gate. What is generated and built is removed at the end; Go keeps its own cache of what it
+# compiled, which makes the first run minutes longer than the others.
+#
+#     tools/pathd-tools gateway [PROGRAM]
+#
+# PROGRAM is crates/pathd/out/pathd if left out, which `rt run` builds.
+set -euo pipefail
+top=$(cd "$(dirname "${BASH_SOURCE[0]}")/../.." && pwd)
+"$top/tools/pathd-tools" need protoc go protoc-gen-go protoc-gen-go-grpc golang-google-protobuf-dev \
+  golang-github-golang-protobuf-1-5-dev golang-google-grpc-dev golang-golang-x-net-dev openssl
+program=$(realpath "${1:-$top/crates/pathd/out/pathd}")
+[ -x "$program" ] || { echo "no program: $program" >&2; exit 2; }
+work=$(mktemp -d)
+trap 'rm -rf "$work"' EXIT
+
+unformatted=$(gofmt -l "$top/gateway")
+[ -z "$unformatted" ] || { echo "gofmt would change: $unformatted" >&2; exit 1; }
+"$top/gateway/build" "$work/pathd-gateway"
+
+# The page, the man page and the completions have the options of the program's help.
+"$work/pathd-gateway" --help | sed -n 's/^  \(--[a-z-]*\).*/\1/p' | sort >"$work/options"
+options() { grep -oE -- '--[a-z][a-z-]*' | sort -u | comm -13 - "$work/options"; }
+for page in docs/GATEWAY.md deploy/pathd-gateway.bash deploy/pathd-gateway.zsh; do
+  lacks=$(options <"$top/$page" | tr '\n' ' ')
+  [ -z "$lacks" ] || { echo "$page lacks $lacks" >&2; exit 1; }
+done
+lacks=$(sed 's/\\-/-/g' "$top/deploy/pathd-gateway.1" | options | tr '\n' ' ')
+[ -z "$lacks" ] || { echo "deploy/pathd-gateway.1 lacks $lacks" >&2; exit 1; }
+
+"$top/gateway/build" --tree "$work/go"
+# The flags are those of gateway/build, so that Go's cache has the packages.
+export GO111MODULE=off GOFLAGS=-trimpath CGO_ENABLED=0 GOPATH="$work/go:/usr/share/gocode"
+export GATEWAY=$work/pathd-gateway PATHD=$program CODES=$top/docs/codes.csv TOP=$top
+cd "$work/go/src/pathd/gateway"
+go vet ./...
+go test -p "${GO_JOBS:-2}" -count=1 ./...
