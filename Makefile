@@ -27,7 +27,7 @@ GATEWAY_DOC = $(DESTDIR)$(PREFIX)/share/doc/pathd-gateway
 GATEWAY_SETTINGS = $(DESTDIR)/etc/default/pathd-gateway
 
 PAGES = README.md CHANGELOG.md docs/CLI.md docs/PROTOCOL.md docs/STORE.md docs/POWER-CUT.md \
-  docs/WATCHING.md docs/NETWORK.md docs/CAPACITY.md docs/LIMITS.md docs/codes.csv docs/segments.proto \
+  docs/WATCHING.md docs/NETWORK.md docs/CAPACITY.md docs/LIMITS.md docs/GATEWAY.md docs/codes.csv docs/segments.proto \
   docs/load.svg
 TASKS = $(wildcard docs/operating/*.md)
 EXAMPLES = deploy/pathd.nft deploy/pathd.rules.yml deploy/grafana-dashboard.json \
@@ -87,15 +87,17 @@ $(GATEWAY):
 	gateway/build $(GATEWAY)
 
 install-gateway: $(GATEWAY)
-	install -d $(BIN) $(MAN) $(GATEWAY_DOC) $(UNITS) $(BASH_COMPLETIONS) $(ZSH_COMPLETIONS) $(dir $(GATEWAY_SETTINGS))
+	install -d $(BIN) $(MAN) $(GATEWAY_DOC)/examples $(UNITS) $(BASH_COMPLETIONS) $(ZSH_COMPLETIONS) $(dir $(GATEWAY_SETTINGS))
 	install -m 755 $(GATEWAY) $(BIN)/pathd-gateway
 	$(PLACED) deploy/pathd-gateway.service >$(UNITS)/pathd-gateway.service
 	$(PLACED) deploy/pathd-gateway.1 >$(MAN)/pathd-gateway.1
 	chmod 644 $(UNITS)/pathd-gateway.service $(MAN)/pathd-gateway.1
 	install -m 644 deploy/pathd-gateway.bash $(BASH_COMPLETIONS)/pathd-gateway
 	install -m 644 deploy/pathd-gateway.zsh $(ZSH_COMPLETIONS)/_pathd-gateway
-	install -m 644 docs/GATEWAY.md docs/segments.proto gateway/control_plane.proto gateway/trust_material.proto \
-	  $(GATEWAY_DOC)
+	$(LINKED) docs/GATEWAY.md >$(GATEWAY_DOC)/GATEWAY.md
+	chmod 644 $(GATEWAY_DOC)/GATEWAY.md
+	install -m 644 docs/segments.proto gateway/control_plane.proto gateway/trust_material.proto $(GATEWAY_DOC)
+	install -m 644 deploy/pathd-gateway.rules.yml deploy/pathd-gateway-dashboard.json $(GATEWAY_DOC)/examples
 	test -e $(GATEWAY_SETTINGS) || install -m 644 deploy/pathd-gateway.default $(GATEWAY_SETTINGS)
 
 # The settings, certificates and trust stay.

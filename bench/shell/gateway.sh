@@ -2,10 +2,12 @@
 # Lookups and registrations through pathd-gateway, by 1, 8 and 64 callers, beside a server of grpc-go
 # that answers by as many bytes and does nothing else. It prints medians of ROUNDS rounds (5 where
 # none is given), each with the least and the greatest; a ratio is of one round. The callers, the
-# servers and pathd share the machine: ratios count.
+# servers and pathd share the machine: ratios count. Where other work has the processors, the ratio of
+# processor time counts alone: that of the callers and the echo to that of the callers, the gateway
+# and pathd, for a call each.
 #
 # It needs what `tools/pathd-tools gateway` needs. PROGRAM is crates/pathd/out/pathd if left out.
-# Further targets NAME=grpc@ADDR are measured in the same rounds, if they serve already. A part of a
+# Further targets NAME=grpc@ADDR@PID,PID are measured in the same rounds, if they serve already. A part of a
 # round takes SECONDS_EACH seconds, 1 where that variable is not set.
 #
 #     bench/pathd-bench gateway [ROUNDS [PROGRAM [TARGET ..]]]
@@ -41,7 +43,7 @@ started() { # a server, whose first lines have its address; sets `address`
 "$program" format "$store/store" --checkpoint 65536 --journal 65536 >/dev/null
 started "$program" run "$store/store" --listen 127.0.0.1:0 --cores 1-ff00:0:110
 started "$work/pathd-gateway" --listen 127.0.0.1:0 --pathd "$address"
-gateway=$address
+gateway=$address@${servers[1]},${servers[0]}
 length=${SECONDS_EACH:-1}s
 for ask in lookup register; do
   size=0
@@ -49,5 +51,5 @@ for ask in lookup register; do
   started "$work/bench" -echo 127.0.0.1:0 -size "$size"
   echo "$ask:"
   "$work/bench" -ask "$ask" -rounds "$rounds" -length "$length" \
-    "echo=grpc@$address" "gateway=grpc@$gateway" "Connect=connect@$gateway" "$@"
+    "echo=grpc@$address@${servers[-1]}" "gateway=grpc@$gateway" "Connect=connect@$gateway" "$@"
 done

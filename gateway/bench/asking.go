@@ -20,16 +20,24 @@ const (
 	mostConnections    = 8 // of gRPC, which callers share
 )
 
-// target is a server that is measured.
-type target struct{ name, protocol, address string }
+// target is a server that is measured, with the processes whose processor time its calls take.
+type target struct {
+	name, protocol, address string
+	processes               []string
+}
 
+// parseTarget reads NAME=PROTOCOL@ADDR or NAME=PROTOCOL@ADDR@PID,PID.
 func parseTarget(text string) (target, error) {
 	name, rest, isNamed := strings.Cut(text, "=")
-	protocol, address, isWhole := strings.Cut(rest, "@")
-	if !isNamed || !isWhole || protocol != "grpc" && protocol != "connect" {
+	parts := strings.Split(rest, "@")
+	if !isNamed || len(parts) < 2 || parts[0] != "grpc" && parts[0] != "connect" {
 		return target{}, fmt.Errorf("%q is no target", text)
 	}
-	return target{name, protocol, address}, nil
+	it := target{name: name, protocol: parts[0], address: parts[1]}
+	if len(parts) > 2 {
+		it.processes = strings.Split(parts[2], ",")
+	}
+	return it, nil
 }
 
 // asker carries out a call of a caller, and answers the body of its response.

@@ -23,7 +23,7 @@ func main() {
 	ask := flag.String("ask", "lookup", "lookup or register")
 	wanted := flag.Int("wanted", -1, "bytes of each reply; -1 is any number")
 	flag.Usage = func() {
-		fmt.Fprintln(os.Stderr, "usage: bench [OPTIONS] NAME=grpc@ADDR|NAME=connect@ADDR ..\nThe first target is what the others are compared with.")
+		fmt.Fprintln(os.Stderr, "usage: bench [OPTIONS] NAME=grpc@ADDR|NAME=connect@ADDR[@PID,PID] ..\nThe first target is what the others are compared with.")
 		flag.PrintDefaults()
 	}
 	flag.Parse()

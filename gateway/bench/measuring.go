@@ -75,8 +75,10 @@ func (b *bench) registration(caller int) []byte {
 
 // figure is what one target did in one round.
 type figure struct {
-	rate          float64 // calls a second
-	median, worst time.Duration
+	calls           int
+	rate            float64 // calls a second
+	median, worst   time.Duration
+	client, servers float64 // microseconds of processor time a call
 }
 
 // measure prints the medians of rounds, each beside the first target's of the same round.
@@ -94,16 +96,20 @@ func (b *bench) measure(rounds, callers int) {
 	base := figures[b.targets[0].name]
 	for _, it := range b.targets {
 		its := figures[it.name]
-		var rates, ratios, medians, worsts []float64
+		var rates, ratios, medians, worsts, servers, costs []float64
 		for round, one := range its {
 			rates = append(rates, one.rate)
 			ratios = append(ratios, one.rate/base[round].rate)
 			medians = append(medians, float64(one.median.Microseconds()))
 			worsts = append(worsts, float64(one.worst.Microseconds()))
+			servers = append(servers, one.servers)
+			costs = append(costs, (base[round].client+base[round].servers)/(one.client+one.servers))
 		}
-		fmt.Printf("%3d callers, %-16s %7.0f a second (%.0f to %.0f); beside %s %.2f (%.2f to %.2f); 50 %% %.0f us, 99 %% %.0f us\n",
+		fmt.Printf("%3d callers, %-8s %6.0f a second (%.0f to %.0f), beside %s %.2f (%.2f to %.2f); 50 %% %.0f us, 99 %% %.0f us; "+
+			"processor %.0f us a call in servers, all of %s's beside it %.2f (%.2f to %.2f)\n",
 			callers, it.name, middle(rates), least(rates), most(rates), b.targets[0].name,
-			middle(ratios), least(ratios), most(ratios), middle(medians), middle(worsts))
+			middle(ratios), least(ratios), most(ratios), middle(medians), middle(worsts),
+			middle(servers), b.targets[0].name, middle(costs), least(costs), most(costs))
 	}
 }
 
@@ -119,7 +125,15 @@ func (b *bench) run(it target, callers int) (figure, error) {
 	if _, err := b.count(ctx, ask, callers, b.length/5); err != nil {
 		return figure{}, err
 	}
-	return b.count(ctx, ask, callers, b.length)
+	client, servers := ownProcessor(), processorOf(it.processes)
+	got, err := b.count(ctx, ask, callers, b.length)
+	got.client = perCall(ownProcessor()-client, got.calls)
+	got.servers = perCall(processorOf(it.processes)-servers, got.calls)
+	return got, err
+}
+
+func perCall(took time.Duration, calls int) float64 {
+	return float64(took.Nanoseconds()) / 1000 / float64(calls)
 }
 
 func (b *bench) count(ctx context.Context, ask asker, callers int, length time.Duration) (figure, error) {
@@ -154,7 +168,7 @@ func (b *bench) count(ctx context.Context, ask asker, callers int, length time.D
 		all = append(all, its...)
 	}
 	sort.Slice(all, func(i, j int) bool { return all[i] < all[j] })
-	return figure{float64(len(all)) / took, all[len(all)/2], all[len(all)*99/100]}, nil
+	return figure{calls: len(all), rate: float64(len(all)) / took, median: all[len(all)/2], worst: all[len(all)*99/100]}, nil
 }
 
 func middle(of []float64) float64 {

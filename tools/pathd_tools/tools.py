@@ -26,7 +26,7 @@ CHECKS = [
     Tool("client", "client.sh", "sessions of the Python client, with and without a key, and after a kill"),
     Tool("go-client", "go_client.sh", "the tests of the Go client"),
     Tool("examples", "checks.examples", "the programs on the clients' pages, and the one in Rust: each prints what its page says"),
-    Tool("grpc", "grpc.sh", "the tests of the bridge for gRPC, with clients in Python and in Go"),
+    Tool("gateway", "gateway.sh", "the tests of pathd-gateway, from outside too: gRPC, Connect, malformed frames, verification"),
     Tool("protobuf", "checks.protobuf", "docs/segments.proto and the worked example, with Google's protobuf"),
     Tool("syscalls", "syscalls.sh", "the calls on a store's file, in the order that docs/STORE.md has"),
     Tool("server-calls", "checks.server_calls", "the reads and writes of a session"),

@@ -163,23 +163,22 @@ func TestChainsThatAreRefused(t *testing.T) {
 	}
 }
 
-func TestATRCOfOpenSSL(t *testing.T) {
-	for _, curve := range []elliptic.Curve{elliptic.P256(), elliptic.P384()} {
-		isd := pki.NewISD(t, curve, 1)
-		raw := pki.SignByOpenSSL(t, isd.Base, isd.Sensitive, isd.Regular)
-		pki.Must(t, parseTRC(t, raw).VerifyBase())
-		matter := 0
-		for at := range raw {
-			bad := append([]byte(nil), raw...)
-			bad[at] ^= 0x01
-			if trc, err := ParseTRC(bad); err != nil || trc.VerifyBase() != nil {
-				matter++
-			}
+func TestTRCsOfOpenSSL(t *testing.T) {
+	isd := pki.NewISD(t, elliptic.P384(), 1)
+	pki.Must(t, parseTRC(t, pki.SignByOpenSSL(t, isd.Base, isd.Sensitive, isd.Regular)).VerifyBase())
+	isd = pki.NewISD(t, elliptic.P256(), 1)
+	raw := pki.SignByOpenSSL(t, isd.Base, isd.Sensitive, isd.Regular)
+	left := 0
+	for at := range raw {
+		bad := append([]byte(nil), raw...)
+		bad[at] ^= 0x01
+		if trc, err := ParseTRC(bad); err == nil && trc.VerifyBase() == nil {
+			left++
 		}
-		// Versions, unsigned parameters and the list of digests are not signed.
-		if left := len(raw) - matter; left > 40 {
-			t.Errorf("%d of %d bytes do not matter", left, len(raw))
-		}
+	}
+	// Versions, unsigned parameters and the list of digests are not signed.
+	if left > 40 {
+		t.Errorf("%d of %d bytes do not matter", left, len(raw))
 	}
 }
 

@@ -4,6 +4,7 @@ import (
 	"encoding/csv"
 	"os"
 	"strconv"
+	"strings"
 	"testing"
 
 	"google.golang.org/grpc/codes"
@@ -22,7 +23,7 @@ func TestTheTableHasTheCodesOfTheProject(t *testing.T) {
 	}
 	seen := map[Code]bool{}
 	for _, row := range rows[1:] {
-		number, err := strconv.ParseUint(row[0], 0, 8)
+		number, err := strconv.ParseUint(strings.TrimPrefix(row[0], "0x"), 16, 8)
 		if err != nil {
 			t.Fatal(err)
 		}

@@ -4,7 +4,7 @@ differs, and nothing else, of
 - the table of docs/PROTOCOL.md, which --write puts there,
 - crates/reply_codes, in specs/ and in src/,
 - the clients in Python and in Go,
-- the statuses on the page of the bridge for gRPC, and the model of tools/pathd_model.
+- the statuses on the page of the gateway, and the model of tools/pathd_model.
 
 A row of docs/codes.csv has a code of two hexadecimal digits, its name where it has one, what is
 refused, and when it helps to send the request again (nothing where it never does). A code has its
@@ -27,7 +27,7 @@ CODES = TOP / "docs/codes.csv"
 PROTOCOL = TOP / "docs/PROTOCOL.md"
 PYTHON = TOP / "clients/python/pathd_client/codes.py"
 GO = TOP / "clients/go/codes.go"
-BRIDGE = TOP / "clients/grpc/README.md"
+GATEWAY = TOP / "docs/GATEWAY.md"
 BEGIN = "<!-- tools/pathd-tools codes --write -->"
 HEAD = ["| code | refusal; 'again' says when it helps to send the request again |", "|---|---|"]
 
@@ -83,9 +83,9 @@ def in_go() -> list[tuple[int, str]]:
     return [(int(code, 16), name) for name, code in re.findall(r"^\t(\w+) +Code = 0x([0-9a-f]{2})$", GO.read_text(), re.M)]
 
 
-def in_bridge() -> set[int]:
-    """The codes of the statuses on the bridge's page, if there is a bridge."""
-    text = BRIDGE.read_text() if BRIDGE.exists() else ""
+def in_gateway() -> set[int]:
+    """The codes of the statuses on the gateway's page."""
+    text = GATEWAY.read_text()
     return in_ranges(" ".join(re.findall(r"^\| (0x.*?) \| `[A-Z_]+` \|", text, re.M)))
 
 
@@ -116,7 +116,7 @@ def problems() -> list[str]:
     for where, its in named.items():
         found += unlike(where, {code for code, _ in its}) + misnamed(where, its)
     found += unlike("tools/pathd_model/model.py", model.CODES)
-    return found + (unlike("clients/grpc/README.md", in_bridge()) if BRIDGE.exists() else [])
+    return found + unlike("docs/GATEWAY.md", in_gateway())
 
 
 def main(words: list[str]) -> int:

@@ -12,11 +12,11 @@ from pathd_tools.testing.jobs import Job, Result
 LIMIT = 600
 # The checks of pages, each with its words.
 PAGES = ["links", "complete", "uses", "proofs", "apart", "unsafe", "codes", "help-texts", "metric-names", "widths", "installed", "reading --check"]
-GRPC = """protoc python3-protobuf python3-grpcio grpc_python_plugin grpc-proto go protoc-gen-go protoc-gen-go-grpc
-golang-google-protobuf-dev golang-github-golang-protobuf-1-5-dev golang-google-grpc-dev"""
+GATEWAY = """protoc go protoc-gen-go protoc-gen-go-grpc golang-google-protobuf-dev golang-github-golang-protobuf-1-5-dev
+golang-google-grpc-dev golang-golang-x-net-dev openssl"""
 # What each suite needs, and its words, in which PROGRAM is the program's path.
 SUITES = [
-    (GRPC, "grpc PROGRAM"),
+    (GATEWAY, "gateway PROGRAM"),
     ("protoc go protoc-gen-go golang-google-protobuf-dev", "go-client PROGRAM"),
     ("python3-protobuf", "client PROGRAM"),
     ("rustc", "examples --program PROGRAM clients/rust/client.rs"),
@@ -24,7 +24,7 @@ SUITES = [
     ("", "help-texts PROGRAM"),
 ]
 # A suite whose folder is not there is none of these.
-FOLDERS = {"grpc": "clients/grpc", "go-client": "clients/go", "client": "clients/python"}
+FOLDERS = {"gateway": "gateway", "go-client": "clients/go", "client": "clients/python"}
 
 
 def run(words: list[str]) -> Result:
