@@ -67,6 +67,9 @@ func NewPool(options Options) *Pool {
 // Ask is as Asker has it. A request is sent a second time where a session that was open before ended
 // without the reply: a lookup changes nothing, and a registration may be carried out twice.
 func (p *Pool) Ask(ctx context.Context, kind Kind, body []byte) ([]byte, error) {
+	if err := ctx.Err(); err != nil {
+		return nil, err
+	}
 	s, isNew, err := p.pick(ctx)
 	if err != nil {
 		return nil, err
