@@ -21,5 +21,5 @@ pub use claims::{Accepted, Logged};
 pub use gathering::{LogDesk, LoggedList};
 pub use log::CommandLog;
 pub use name::LogName;
-pub use rule::{Claim, LogPass, LogRule, LogTable, LogView};
+pub use rule::{Claim, CommitMoment, LogPass, LogRule, LogTable, LogView};
 pub use unnamed::{UnnamedClaim, UnnamedList, UnnamedLog};

@@ -5,7 +5,8 @@ ghost use Rattle.command_log.specs.Log.{log_with, with_committed, next_claim};
 ghost use Rattle.command_log.specs.Passes.{keeper_view, claim_view, no_view, gathered_view, log_in, claim_in, known_in, IsKeeper, IsTrueOf};
 
 use crate::rule::{
-    Appends, Checks, Chosen, Commits, Confirms, Copies, Gathers, Issues, LogPass, LogTable, Takes,
+    Appends, Checks, Chosen, CommitMoment, Commits, Confirms, Copies, Gathers, Issues, LogPass,
+    LogTable, Takes,
 };
 use path_rows::Command;
 use std::marker::Brand;
@@ -39,11 +40,11 @@ fn append_chosen<C: Chosen>(
 }
 
 /// The keeper notes that this many more commands are committed.
-pub(crate) fn commit(table: &LogTable, keeper: &mut LogPass, more: u64)
+pub(crate) fn commit<M: CommitMoment>(table: &LogTable, keeper: &mut LogPass, more: u64)
     requires table { (keeper.old.table_id ≡ table.now.shared.table_id) × (table.now.shared.table_id.words ≡ 1) }
     requires keeper { IsKeeper keeper.old.me.0 }
     ensures table { keeper.new.table_id ≡ keeper.old.table_id }
-    ensures log { keeper.new.me.0 ≡ keeper_view (with_committed more (log_in keeper.old.me.0)) }
+    ensures log { keeper.new.me.0 ≡ keeper_view (with_committed more M.moment (log_in keeper.old.me.0)) }
 {
     commit_chosen::<Brand>(table, keeper, more)
 }
@@ -53,7 +54,7 @@ fn commit_chosen<C: Chosen>(table: &LogTable, keeper: &mut LogPass, more: u64)
     requires table { (keeper.old.table_id ≡ table.now.shared.table_id) × (table.now.shared.table_id.words ≡ 1) }
     requires keeper { IsKeeper keeper.old.me.0 }
     ensures table { keeper.new.table_id ≡ keeper.old.table_id }
-    ensures log { keeper.new.me.0 ≡ keeper_view (with_committed more (log_in keeper.old.me.0)) }
+    ensures log { keeper.new.me.0 ≡ keeper_view (with_committed more C.moment (log_in keeper.old.me.0)) }
 {
     let _ = more;
     drop(table.shared.split_seat::<Commits<C>>(keeper));

@@ -5,7 +5,9 @@ ghost use Rattle.std.specs.List.{AllByRecursion};
 ghost use Rattle.path_rows.specs.Database.{RowView};
 ghost use Rattle.store_layout.specs.Opening.{StoreValue};
 ghost use Rattle.command_log.specs.Log.{IsCommitted};
+ghost use Rattle.sector_dev.specs.Disk.{History};
 ghost use Rattle.logged_state.specs.Left.{OpensToLog, OpensWith, OpensWithAll};
+ghost use Rattle.logged_state.specs.Kept.{AllKept, AllClaimsKept};
 
 use command_log::{UnnamedClaim, UnnamedList, UnnamedLog};
 use std::marker::Model;
@@ -50,6 +52,8 @@ impl Left {
         ensures found { AllByRecursion (IsCommitted self.old.log) self.old.acknowledged }
         ensures opens { (opening : StoreValue (List RowView)) (image : List ℕ)
             → OpensToLog opening self.old.log image → OpensWithAll opening self.old.acknowledged image }
+        ensures since { (opening : StoreValue (List RowView)) (history : History)
+            → AllKept opening self.old.log history → AllClaimsKept opening self.old.log history self.old.acknowledged }
     {
         self.log.find_all(&mut self.acknowledged);
     }

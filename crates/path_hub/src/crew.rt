@@ -6,7 +6,9 @@ ghost use Rattle.sector_dev.specs.Image.{EveryImage};
 ghost use Rattle.group_core.specs.Starting.{value_of_store};
 ghost use Rattle.path_rows.specs.declared.command.Command.{Command};
 ghost use Rattle.path_hub.specs.declared.error.HubError.TheVariants.{NoMemory, NoReader};
-ghost use Rattle.logged_state.specs.Left.{OpensToLog, OpensWithAll};
+ghost use Rattle.sector_dev.specs.Stretch.{Stretch};
+ghost use Rattle.logged_state.specs.Left.{OpensToFrontOf, OpensToLog, OpensWithAll};
+ghost use Rattle.logged_state.specs.Kept.{AllClaimsKept};
 
 use crate::error::HubError;
 use crate::hub::Hub;
@@ -95,6 +97,15 @@ pub fn with_crew<
     // That has each command at its place whose claim was handed in as acknowledged.
     ensures acknowledged { IfSome result.1 (λ left. IsHonest (D.disk result.0)
         → EveryImage (D.disk result.0).history.now (OpensWithAll (value_of_store store) left.acknowledged)) }
+
+    // At every moment since the store was opened, what a stop of the device leaves opens to the
+    // store's rows and place after a front of the log.
+    ensures moments { IfSome result.1 (λ left.
+        Stretch store.disk (D.disk result.0) (OpensToFrontOf (value_of_store store) left.log.commands 0)) }
+
+    // It has each of these commands at its place from the moment on at which it was committed.
+    ensures since { IfSome result.1 (λ left. IsHonest store.disk
+        → AllClaimsKept (value_of_store store) left.log (D.disk result.0).history left.acknowledged) }
     ensures unmade { IfNone result.1 (D.disk result.0 ≡ store.disk) }
     ensures made { OnOk result.2 (IsSome result.1) }
     ensures why { IfErr result.2 (λ e. (e ≡ NoMemory) ⊎ (e ≡ NoReader)) }
@@ -120,12 +131,17 @@ fn named_crew<
     crew: &C,
 ) -> (D, Option<Left>, Result<u64, HubError>)
     requires opening { value_of_store store ≡ N.opening }
+    requires start { store.disk ≡ N.start }
     requires log { name.log.table ≡ N.table }
     requires history { name.history.seen.book ≡ N.history }
     requires refusals { (command : Command) → N.refused command ≡ true }
     ensures left { IfSome result.1 (λ left. IsHonest (D.disk result.0) → EveryImage (D.disk result.0).history.now (OpensToLog N.opening left.log)) }
     ensures acknowledged { IfSome result.1 (λ left. IsHonest (D.disk result.0)
         → EveryImage (D.disk result.0).history.now (OpensWithAll N.opening left.acknowledged)) }
+    ensures moments { IfSome result.1 (λ left.
+        Stretch N.start (D.disk result.0) (OpensToFrontOf N.opening left.log.commands 0)) }
+    ensures since { IfSome result.1 (λ left. IsHonest N.start
+        → AllClaimsKept N.opening left.log (D.disk result.0).history left.acknowledged) }
     ensures unmade { IfNone result.1 (D.disk result.0 ≡ store.disk) }
     ensures made { OnOk result.2 (IsSome result.1) }
     ensures why { IfErr result.2 (λ e. (e ≡ NoMemory) ⊎ (e ≡ NoReader)) }

@@ -8,7 +8,9 @@ ghost use Rattle.group_core.specs.Starting.{value_of_store};
 ghost use Rattle.path_rows.specs.declared.command.Command.{Command};
 ghost use Rattle.path_hub.specs.declared.error.HubError.TheVariants.{NoMemory, NoReader};
 ghost use Rattle.path_hub.specs.Shown.{IsShownAfter};
-ghost use Rattle.logged_state.specs.Left.{OpensToLog, OpensWithAll};
+ghost use Rattle.sector_dev.specs.Stretch.{Stretch};
+ghost use Rattle.logged_state.specs.Left.{OpensToFrontOf, OpensToLog, OpensWithAll};
+ghost use Rattle.logged_state.specs.Kept.{AllClaimsKept};
 
 use crate::error::HubError;
 use crate::handing::{AllUnderWay, MOST_UNDER_WAY, give_up_all};
@@ -63,6 +65,10 @@ pub fn with_hub<D: Device, J: HubJob<D, R>, R: Wait + Clock + Copy>(
     ensures left { IfOk result (λ done. IsHonest (D.disk done.1) → EveryImage (D.disk done.1).history.now (OpensToLog (value_of_store store) done.2.log)) }
     ensures acknowledged { IfOk result (λ done. IsHonest (D.disk done.1)
         → EveryImage (D.disk done.1).history.now (OpensWithAll (value_of_store store) done.2.acknowledged)) }
+    ensures moments { IfOk result (λ done.
+        Stretch store.disk (D.disk done.1) (OpensToFrontOf (value_of_store store) done.2.log.commands 0)) }
+    ensures since { IfOk result (λ done. IsHonest store.disk
+        → AllClaimsKept (value_of_store store) done.2.log (D.disk done.1).history done.2.acknowledged) }
     ensures back { IfErr result (λ back. (back.0 ≡ store) × (back.1 ≡ job)) }
     ensures why { IfErr result (λ back. (back.2 ≡ NoMemory) ⊎ (back.2 ≡ NoReader)) }
 {
@@ -82,6 +88,7 @@ fn do_with<N: HubName + Send + Sync, D: Device, J: HubJob<D, R>, R: Wait + Clock
     job: J,
 ) -> Result<(J::Out, D, Left), (Store<D>, J, HubError)>
     requires opening { value_of_store store ≡ N.opening }
+    requires start { store.disk ≡ N.start }
     requires log { name.log.table ≡ N.table }
     requires history { name.history.seen.book ≡ N.history }
     requires refusals { (command : Command) → N.refused command ≡ true }
@@ -89,6 +96,10 @@ fn do_with<N: HubName + Send + Sync, D: Device, J: HubJob<D, R>, R: Wait + Clock
     ensures left { IfOk result (λ done. IsHonest (D.disk done.1) → EveryImage (D.disk done.1).history.now (OpensToLog N.opening done.2.log)) }
     ensures acknowledged { IfOk result (λ done. IsHonest (D.disk done.1)
         → EveryImage (D.disk done.1).history.now (OpensWithAll N.opening done.2.acknowledged)) }
+    ensures moments { IfOk result (λ done.
+        Stretch N.start (D.disk done.1) (OpensToFrontOf N.opening done.2.log.commands 0)) }
+    ensures since { IfOk result (λ done. IsHonest N.start
+        → AllClaimsKept N.opening done.2.log (D.disk done.1).history done.2.acknowledged) }
     ensures back { IfErr result (λ back. (back.0 ≡ store) × (back.1 ≡ job)) }
     ensures why { IfErr result (λ back. (back.2 ≡ NoMemory) ⊎ (back.2 ≡ NoReader)) }
 {
@@ -114,6 +125,7 @@ impl<D: Device, N: HubName, R: Wait + Clock> Hub<D, N, R> {
     where
         R: Copy,
         requires opening { value_of_store store ≡ N.opening }
+        requires start { store.disk ≡ N.start }
         requires log { name.log.table ≡ N.table }
         requires history { name.history.seen.book ≡ N.history }
         requires refusals { (command : Command) → N.refused command ≡ true }
@@ -166,6 +178,8 @@ impl<D: Device, N: HubName, R: Wait + Clock> Hub<D, N, R> {
         R: Drop,
         ensures left { IsHonest (D.disk result.0) → EveryImage (D.disk result.0).history.now (OpensToLog N.opening result.1.log) }
         ensures acknowledged { IsHonest (D.disk result.0) → EveryImage (D.disk result.0).history.now (OpensWithAll N.opening result.1.acknowledged) }
+        ensures moments { Stretch N.start (D.disk result.0) (OpensToFrontOf N.opening result.1.log.commands 0) }
+        ensures since { IsHonest N.start → AllClaimsKept N.opening result.1.log (D.disk result.0).history result.1.acknowledged }
         ensures table { result.1.table ≡ N.table }
     {
         let Hub {

@@ -4,7 +4,9 @@ ghost use Rattle.std.specs.Prelude.{◌≡◌, IfNone, IfSome, IsSome, OnOk};
 ghost use Rattle.sector_dev.specs.Disk.{IsHonest};
 ghost use Rattle.sector_dev.specs.Image.{EveryImage};
 ghost use Rattle.group_core.specs.Starting.{value_of_store};
-ghost use Rattle.logged_state.specs.Left.{OpensToLog, OpensWithAll};
+ghost use Rattle.sector_dev.specs.Stretch.{Stretch};
+ghost use Rattle.logged_state.specs.Left.{OpensToFrontOf, OpensToLog, OpensWithAll};
+ghost use Rattle.logged_state.specs.Kept.{AllClaimsKept};
 
 use crate::error::RunError;
 use crate::listeners::Listeners;
@@ -76,6 +78,10 @@ pub fn serve_store<
         → EveryImage (D.disk result.0).history.now (OpensToLog (value_of_store store) left.log)) }
     ensures acknowledged { IfSome result.1 (λ left. IsHonest (D.disk result.0)
         → EveryImage (D.disk result.0).history.now (OpensWithAll (value_of_store store) left.acknowledged)) }
+    ensures moments { IfSome result.1 (λ left.
+        Stretch store.disk (D.disk result.0) (OpensToFrontOf (value_of_store store) left.log.commands 0)) }
+    ensures since { IfSome result.1 (λ left. IsHonest store.disk
+        → AllClaimsKept (value_of_store store) left.log (D.disk result.0).history left.acknowledged) }
     ensures unmade { IfNone result.1 (D.disk result.0 ≡ store.disk) }
     ensures made { OnOk result.2 (IsSome result.1) }
 {
@@ -105,6 +111,10 @@ fn serve_checked<
         → EveryImage (D.disk result.0).history.now (OpensToLog (value_of_store store) left.log)) }
     ensures acknowledged { IfSome result.1 (λ left. IsHonest (D.disk result.0)
         → EveryImage (D.disk result.0).history.now (OpensWithAll (value_of_store store) left.acknowledged)) }
+    ensures moments { IfSome result.1 (λ left.
+        Stretch store.disk (D.disk result.0) (OpensToFrontOf (value_of_store store) left.log.commands 0)) }
+    ensures since { IfSome result.1 (λ left. IsHonest store.disk
+        → AllClaimsKept (value_of_store store) left.log (D.disk result.0).history left.acknowledged) }
     ensures unmade { IfNone result.1 (D.disk result.0 ≡ store.disk) }
     ensures made { OnOk result.2 (IsSome result.1) }
 {
