@@ -20,7 +20,7 @@ use Rattle.session_core.specs.Reply.{ReplyView, Registered, Purged, Removed}
 use Rattle.once_store.specs.Taking.{FitStore}
 use Rattle.group_core.specs.declared.submit_error.SubmitError.TheVariants as submit
 use Rattle.reply_codes.specs.declared.refusal.Refusal.{Refusal}
-use Rattle.reply_codes.specs.declared.refusal.Refusal.TheVariants.{NoMemory, Message, Check, Lookup, Submit, NoReader, Stopped}
+use Rattle.reply_codes.specs.declared.refusal.Refusal.TheVariants.{NoMemory, Message, Check, Lookup, Submit, NoReader, Stopped, NotAwaited, Future}
 use Rattle.reply_codes.specs.Codes.{submit_code}
 use Rattle.reply_codes.specs.Checking.{first_refusal}
 use Rattle.reply_codes.specs.Replies.{reply_to_command}
@@ -93,6 +93,8 @@ module _ (reply : Ack → ReplyView) (old : Served) (message : MessageView) (c :
   command_answered (Err (Submit submit.OldStore)) left may took = absurd took
   command_answered (Err NoReader) left may took = absurd took
   command_answered (Err Stopped) left may took = absurd took
+  command_answered (Err NotAwaited) left may took = absurd took
+  command_answered (Err Future) left may took = absurd took
 
 -- ---- which command a message is
 

@@ -8,7 +8,7 @@ use Rattle.once_store.specs.declared.error.TakeError.{TakeError}
 use Rattle.once_store.specs.declared.error.TakeError.TheVariants as take
 use Rattle.once_store.specs.Taking.{FitStore}
 use Rattle.reply_codes.specs.declared.refusal.Refusal.{Refusal}
-use Rattle.reply_codes.specs.declared.refusal.Refusal.TheVariants.{NoMemory, Message, Check, Lookup, Submit, NoReader, Stopped}
+use Rattle.reply_codes.specs.declared.refusal.Refusal.TheVariants.{NoMemory, Message, Check, Lookup, Submit, NoReader, Stopped, NotAwaited, Future}
 use Rattle.cli_once.specs.Memory.{Served, ack_of, after_command}
 
 -- The refusal that says why a store did not take a command.
@@ -42,3 +42,5 @@ MayAcknowledge old c (Err (Submit submit.NoMemory)) new = ⊥
 MayAcknowledge old c (Err (Submit submit.OldStore)) new = ⊥
 MayAcknowledge old c (Err NoReader) new = ⊥
 MayAcknowledge old c (Err Stopped) new = ⊥
+MayAcknowledge old c (Err NotAwaited) new = ⊥
+MayAcknowledge old c (Err Future) new = ⊥

@@ -3,12 +3,12 @@
 ghost use Rattle.std.specs.Prelude.{◌≡◌, ℕ, ◌*◌, codes, option_map, IfOk};
 ghost use Rattle.std.specs.Duration.{as_nanos};
 ghost use Rattle.clap.specs.Words.{first_value, found_of};
-ghost use Rattle.cli_program.specs.Options.{IsKeyOf, IsNumberOf, limit_of};
+ghost use Rattle.cli_program.specs.Options.{IsKeyOf, IsNumberOf, limit_of, bound_of};
 
 use crate::failure::Failure;
 use crate::options::{cores_in, key_in, u32_in, u64_in};
 use clap::ArgMatches;
-use cli_words::{GRACE, IDLE, PEER_SESSIONS, SESSIONS};
+use cli_words::{FUTURE, GRACE, IDLE, PEER_SESSIONS, SESSIONS, SPARE};
 use path_server::Options;
 use seg_lookup::Roster;
 use std::alloc::Global;
@@ -16,6 +16,9 @@ use std::time::Duration;
 
 /// The number of seconds that a peer may be silent where no option names it.
 const IDLE_SECONDS: u32 = 300;
+
+/// The number of seats that commands under way leave to others where no option names it.
+const SPARE_SEATS: u32 = 8;
 
 /// The number of seconds that open sessions have where the server is asked to end, if no option
 /// names it.
@@ -28,6 +31,9 @@ pub(crate) fn options_of<'a>(alloc: Global, words: &ArgMatches<'a>) -> Result<Op
     ensures peers { IfOk result (λ options. IsNumberOf (found_of words.now) (codes "peer-sessions") 64 0 options.peer_sessions) }
     ensures idle { IfOk result (λ options. (count : ℕ) × IsNumberOf (found_of words.now) (codes "idle") 32 300 count
         × (option_map as_nanos options.idle ≡ limit_of count)) }
+    ensures future { IfOk result (λ options. (count : ℕ) × IsNumberOf (found_of words.now) (codes "future") 32 0 count
+        × (options.future ≡ bound_of count)) }
+    ensures spare { IfOk result (λ options. IsNumberOf (found_of words.now) (codes "spare") 32 8 options.spare) }
     ensures grace { IfOk result (λ options. (count : ℕ) × IsNumberOf (found_of words.now) (codes "grace") 32 10 count
         × (as_nanos options.grace ≡ count * 1_000_000_000)) }
 {
@@ -39,6 +45,8 @@ pub(crate) fn options_of<'a>(alloc: Global, words: &ArgMatches<'a>) -> Result<Op
         sessions: u64_in(words, SESSIONS),
         peer_sessions: u64_in(words, PEER_SESSIONS),
         idle: limit(u32_in(words, IDLE, IDLE_SECONDS)),
+        future: bound(u32_in(words, FUTURE, 0)),
+        spare: u64::from(u32_in(words, SPARE, SPARE_SEATS)),
         grace: seconds(u32_in(words, GRACE, GRACE_SECONDS)),
     })
 }
@@ -51,6 +59,16 @@ fn limit(count: u32) -> Option<Duration>
         return None;
     }
     Some(seconds(count))
+}
+
+/// This number of seconds, of which 0 is no bound.
+fn bound(count: u32) -> Option<u64>
+    ensures { result ≡ bound_of count }
+{
+    if count == 0 {
+        return None;
+    }
+    Some(u64::from(count))
 }
 
 /// The time of this number of seconds.

@@ -16,4 +16,6 @@ pub record HasPlainNumbers (rows : List Row) : Type 0 where
   pub sessions : IsPlainNumber rows (codes "sessions")
   pub peer_sessions : IsPlainNumber rows (codes "peer-sessions")
   pub idle : IsPlainNumber rows (codes "idle")
+  pub future : IsPlainNumber rows (codes "future")
+  pub spare : IsPlainNumber rows (codes "spare")
   pub grace : IsPlainNumber rows (codes "grace")

@@ -64,6 +64,15 @@ pub const IDLE: &str = "idle";
 /// The name of its option with the number of sessions that one address may have open.
 pub const PEER_SESSIONS: &str = "peer-sessions";
 
+/// The name of its option with the seconds by which a time may lie in the future.
+pub const FUTURE: &str = "future";
+
+/// The name of its option with the number of seats that commands under way leave to others.
+pub const SPARE: &str = "spare";
+
+/// The most such seats: eight of a server's 64 are for commands.
+const MOST_SPARE: i64 = 56;
+
 /// The name of its flag by which the end of standard input ends the server.
 pub const STOP_ON_END_OF_INPUT: &str = "stop-on-end-of-input";
 
@@ -214,6 +223,7 @@ fn run_command<'a>(alloc: Global) -> Result<Command<'a>, AllocError>
         .arg(option(alloc, CORES, "LIST", CORES_HELP))?
         .arg(option(alloc, KEY, "HEX", KEY_HELP))?;
     let command = with_limits(alloc, command)?;
+    let command = with_refusals(alloc, command)?;
     with_end(alloc, command)
 }
 
@@ -231,6 +241,22 @@ fn with_limits<'a>(alloc: Global, command: Command<'a>) -> Result<Command<'a>, A
         .arg(option(alloc, SESSIONS, "N", sessions).value_parser(value_parser!(u64)))?
         .arg(option(alloc, PEER_SESSIONS, "N", peers).value_parser(value_parser!(u64)))?
         .arg(option(alloc, IDLE, "SECONDS", idle).value_parser(value_parser!(u32)))
+}
+
+/// Gives the command that serves sessions the options for what it refuses of commands.
+fn with_refusals<'a>(alloc: Global, command: Command<'a>) -> Result<Command<'a>, AllocError>
+    requires { (out-Command command).name.now ≡ codes "run" }
+    ensures { IfOk result (λ new. (out-Command new).name.now ≡ codes "run") }
+{
+    let future =
+        "Refuse a time that lies this number of seconds after now; 0 is no bound [default: 0]";
+    let spare =
+        "Keep this number of the 64 seats for sessions without commands under way, 0 to 56 [default: 8]";
+    command
+        .arg(option(alloc, FUTURE, "SECONDS", future).value_parser(value_parser!(u32)))?
+        .arg(option(alloc, SPARE, "SEATS", spare).value_parser(value_parser!(u32).range(
+            0..=MOST_SPARE,
+        )))
 }
 
 /// Gives the command that serves sessions the options for its end and its lines.

@@ -7,7 +7,9 @@ ghost use Rattle.clap.specs.Words.{found_of, rows_of};
 ghost use Rattle.cli_words.specs.Numbers.{IsPlainNumber, HasPlainNumbers};
 
 use crate::command_line::{CommandLine, command_line};
-use crate::{CHECKPOINT, GRACE, IDLE, JOURNAL, NOW, PEER_SESSIONS, SESSIONS, command};
+use crate::{
+    CHECKPOINT, FUTURE, GRACE, IDLE, JOURNAL, NOW, PEER_SESSIONS, SESSIONS, SPARE, command,
+};
 use clap::error::ErrorKind;
 use clap::{ArgMatches, Command, Error};
 use std::alloc::Global;
@@ -54,6 +56,8 @@ fn check_numbers(
     check_number(alloc, command, options, SESSIONS)?;
     check_number(alloc, command, options, PEER_SESSIONS)?;
     check_number(alloc, command, options, IDLE)?;
+    check_number(alloc, command, options, FUTURE)?;
+    check_number(alloc, command, options, SPARE)?;
     check_number(alloc, command, options, GRACE)
 }
 

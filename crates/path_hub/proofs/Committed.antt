@@ -1,5 +1,5 @@
 -- What a hub's receipt of a command says.
-use Rattle.std.proofs.Common.{◌≡◌, ℕ, ◌+◌, ◌<◌, ◌∙◌, Bool, true, List, Option, Some, None, Result, Ok, Err, IfOk, OnErr, MatchOption, refl, subst, sym, ap, arith}
+use Rattle.std.proofs.Common.{◌≡◌, ℕ, ◌+◌, ◌<◌, ◌∙◌, Bool, true, false, List, Option, Some, None, Result, Ok, Err, IfOk, OnErr, MatchOption, refl, subst, sym, ap, arith}
 use Rattle.std.proofs.lemmas.Bool.Decides.{nat_tests}
 use Rattle.std.specs.Result.{ForOk, ForErr}
 use Rattle.path_rows.specs.Database.{RowView}
@@ -14,7 +14,9 @@ use Rattle.logged_state.specs.Claims.{receipt_in}
 use Rattle.logged_state.specs.ReceiptView.{ReceiptView}
 use Rattle.store_loops.specs.Receipts.{IsShownAbove}
 use Rattle.store_loops.proofs.Through.{is_redeemed}
-use Rattle.path_hub.specs.Committed.{ReceiptShows, is_above}
+use Rattle.path_hub.specs.declared.error.HubError.{HubError}
+use Rattle.path_hub.specs.declared.error.HubError.TheVariants as hub
+use Rattle.path_hub.specs.Committed.{ReceiptShows, RefusesCommand, EndsWaiting, is_above}
 
 -- a hub's note is the place of what was shown
 noted : (place : ℕ) (note : Option ℕ) → MatchOption note ⊥ (IsShownAbove (λ value shown. shown ≡ value.place) place) → MatchOption note ⊥ (λ shown. place < shown)
@@ -56,3 +58,26 @@ pub answer_refuses : {R E : Type 0} (refused : Command → Bool) (claimed comman
     → claimed ≡ command → OnErr outcome (refused command ≡ true)
 answer_refuses refused claimed command (Ok receipt) known same = tt
 answer_refuses refused claimed command (Err e) known same = sym (ap refused same) ∙ known e refl
+
+-- a command that the hub refused has no receipt, whoever waits for it
+pub ends_waiting : (left refused : Bool) (e : HubError) → RefusesCommand e → refused ≡ true → EndsWaiting left refused e
+ends_waiting left refused hub.NoMemory why known = absurd why
+ends_waiting left refused hub.NoReader why known = absurd why
+ends_waiting left refused (hub.Stopped place) why known = known
+ends_waiting left refused (hub.Submit e) why known = known
+ends_waiting left refused hub.NotAwaited why known = absurd why
+
+-- the wait of who never leaves ends by a refusal alone
+pub refuses : (refused : Bool) (e : HubError) → EndsWaiting false refused e → RefusesCommand e
+refuses refused hub.NoMemory why = absurd why
+refuses refused hub.NoReader why = absurd why
+refuses refused (hub.Stopped place) why = tt
+refuses refused (hub.Submit e) why = tt
+refuses refused hub.NotAwaited why = absurd (cc why)
+
+pub is_refused : (refused : Bool) (e : HubError) → EndsWaiting false refused e → refused ≡ true
+is_refused refused hub.NoMemory why = absurd why
+is_refused refused hub.NoReader why = absurd why
+is_refused refused (hub.Stopped place) why = why
+is_refused refused (hub.Submit e) why = why
+is_refused refused hub.NotAwaited why = absurd (cc why)

@@ -1,5 +1,5 @@
 -- What a hub returns for a command that was handed in.
-use Rattle.std.specs.Prelude.{◌≡◌, ℕ, ◌+◌, ◌<◌, nat_lt, Bool, false, List, Option, Some, None, MatchOption}
+use Rattle.std.specs.Prelude.{◌≡◌, ℕ, ◌+◌, ◌<◌, nat_lt, Bool, true, false, List, Option, Some, None, MatchOption}
 use Rattle.path_rows.specs.Database.{RowView}
 use Rattle.path_rows.specs.declared.command.Command.{Command}
 use Rattle.store_layout.specs.Opening.{StoreValue}
@@ -22,6 +22,16 @@ RefusesCommand hub.NoMemory = ⊥
 RefusesCommand hub.NoReader = ⊥
 RefusesCommand (hub.Stopped place) = Unit {0}
 RefusesCommand (hub.Submit e) = Unit {0}
+RefusesCommand hub.NotAwaited = ⊥
+
+-- Why a wait for the answer to a command ends without a receipt: who waited has left; or the hub
+-- refused the command, since it was not accepted, or the state stopped before it was committed.
+abbrev pub EndsWaiting : Bool → Bool → HubError → Type 0
+EndsWaiting left refused hub.NoMemory = ⊥
+EndsWaiting left refused hub.NoReader = ⊥
+EndsWaiting left refused (hub.Stopped place) = refused ≡ true
+EndsWaiting left refused (hub.Submit e) = refused ≡ true
+EndsWaiting left refused hub.NotAwaited = left ≡ true
 
 -- Why a command is not handed in: it was not accepted.
 abbrev pub RefusesHandingIn : HubError → Type 0
@@ -29,6 +39,7 @@ RefusesHandingIn hub.NoMemory = ⊥
 RefusesHandingIn hub.NoReader = ⊥
 RefusesHandingIn (hub.Stopped place) = ⊥
 RefusesHandingIn (hub.Submit e) = Unit {0}
+RefusesHandingIn hub.NotAwaited = ⊥
 
 -- Whether there is a note, which is a place above this one.
 abbrev pub is_above : ℕ → Option ℕ → Bool

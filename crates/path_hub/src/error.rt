@@ -20,6 +20,9 @@ pub enum HubError {
     /// The command was not accepted.
     #[error("{0}")]
     Submit(SubmitError),
+    /// Who waited for the answer has left. The command is committed or refused as any other.
+    #[error("nobody waits for the answer")]
+    NotAwaited,
 }
 
 impl From<AllocError> for HubError {

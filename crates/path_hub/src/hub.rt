@@ -2,7 +2,7 @@
 
 ghost use Rattle.std.specs.Prelude.{◌≡◌, true, IfOk, IfErr, OnErr};
 ghost use Rattle.path_hub.specs.declared.error.HubError.TheVariants.{NoReader};
-ghost use Rattle.path_hub.specs.Committed.{ReceiptShows, RefusesCommand, RefusesHandingIn};
+ghost use Rattle.path_hub.specs.Committed.{ReceiptShows, RefusesCommand, RefusesHandingIn, EndsWaiting};
 ghost use Rattle.hub_board.specs.Numbers.{AreNumbers};
 
 use crate::answer::{HubReceipt, Slot};
@@ -12,6 +12,7 @@ use crate::guarded::HubState;
 use crate::handing::AllUnderWay;
 use crate::name::HubName;
 use crate::reader::HubReader;
+use crate::waiter::{Patient, Waiter};
 use command_queue::{CommandQueue, NotQueued};
 use group_core::{Numbers, SubmitError};
 use hub_board::{Board, Changes, Completed, LONGEST_REST};
@@ -127,18 +128,40 @@ impl<D: Device, N: HubName, R: Wait + Clock> Hub<D, N, R> {
     /// note a place above the command's own. A command that is not accepted is refused. Where the
     /// state stops before the command is committed, the error has the command's place, and it is
     /// not known whether the store keeps the command. The state's lock is not taken.
+    #[tactic(auto, using(crate::proofs::Committed::refuses, crate::proofs::Committed::is_refused))]
     pub fn settle(&self, claim: HubClaim<N>) -> Result<HubReceipt<N>, HubError>
         ensures committed { IfOk result (ReceiptShows N.opening claim) }
         ensures why { IfErr result RefusesCommand }
         ensures refused { OnErr result (N.refused claim ≡ true) }
     {
+        self.settle_for(claim, &mut Patient)
+    }
+
+    /// Waits for the answer as `settle` does, and gives up where who waits for it has left. The
+    /// waiter is asked after each rest, of at most 10 milliseconds, after which there is no answer.
+    /// Where the wait is given up, the command goes on: it is committed or refused as any other.
+    #[tactic(auto, using(crate::proofs::Committed::ends_waiting))]
+    pub fn settle_for<W: Waiter>(
+        &self,
+        claim: HubClaim<N>,
+        waiter: &mut W,
+    ) -> Result<HubReceipt<N>, HubError>
+        ensures committed { IfOk result (ReceiptShows N.opening claim) }
+        ensures why { IfErr result (EndsWaiting (W.has_left waiter.new) (N.refused claim)) }
+    {
         let bell = self.changes.ringer.bell(claim.number());
+        let mut has_rested = false;
         for _ in self.rt.forever() {
             let seen = bell.notifications();
             if let Some(outcome) = claim.take_answer(&self.rt) {
+                waiter.note_answer();
                 return Ok(outcome?);
             }
+            if has_rested && waiter.has_left() {
+                return Err(HubError::NotAwaited);
+            }
             bell.sleep(&self.rt, seen, Duration::from_millis(LONGEST_REST));
+            has_rested = true;
         }
         unreachable!()
     }

@@ -11,7 +11,7 @@
 //!
 //! To the layer above: `Hub::hand_in` returns a claim of the command that was passed, and
 //! `Hub::settle` returns a receipt of the command of a claim, once the command is committed;
-//! `Hub::register` does both. `HubReader::lookup` answers from what is published, which is never
+//! `Hub::register` does both. `Hub::settle_for` waits only until its `Waiter` has left. `HubReader::lookup` answers from what is published, which is never
 //! older than what this reader was shown or has learnt.
 #![tactic(auto)]
 
@@ -29,6 +29,7 @@ mod published;
 mod reader;
 mod rule;
 mod show;
+mod waiter;
 
 pub use answer::HubReceipt;
 pub use claim::HubClaim;
@@ -49,3 +50,4 @@ pub use store_loops::{
     Awaited, BUCKETS, Bucket, CommitTimes, DeviceCall, Notice, Silent, Steps, Watch,
     checkpointer_loop, flusher_loop,
 };
+pub use waiter::{Patient, Waiter};

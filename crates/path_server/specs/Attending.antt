@@ -1,5 +1,5 @@
 -- What a session of a hub has read, answered and sent when it ends.
-use Rattle.std.specs.Prelude.{ℕ, Bool, List, Result}
+use Rattle.std.specs.Prelude.{ℕ, Bool, List, Option, Result}
 use Rattle.path_rows.specs.declared.command.Command.{Command}
 use Rattle.path_rows.specs.Database.{RowView}
 use Rattle.store_layout.specs.Opening.{StoreValue}
@@ -11,18 +11,25 @@ use Rattle.path_hub.specs.Sight.{Sight}
 use Rattle.path_session.specs.Serving.{Serving, beginning}
 use Rattle.path_session.specs.Answered.{HubAnswers}
 use Rattle.path_session.specs.Acknowledged.{AreClaimed}
+use Rattle.session_limits.specs.Limits.{LimitedView, LimitedAnswers}
 use Rattle.paced_stream.specs.Connection.{IsConnectionServed}
 
--- A service over a hub served a session over a connection. The hub opened with this value, and of
--- its commands it is known which ones were refused.
-pub record IsHubServed {T : Type 0} (opening : StoreValue (List RowView)) (refused : Command → Bool) (given taken : T → List ℕ) (is_at_end : T → Type 0) (roster : RosterView) (verifies : Verdicts)
+-- A limited service over a hub that has answered no message, by the bound of its times, and whether
+-- its commands need room.
+abbrev pub limited_beginning : Option ℕ → Bool → Serving → LimitedView Serving
+limited_beginning future shares serving = record { future = future; shares = shares; moment = 0; inner = serving }
+
+-- A limited service over a hub served a session over a connection. The hub opened with this value,
+-- and of its commands it is known which ones were refused.
+pub record IsHubServed {T : Type 0} (opening : StoreValue (List RowView)) (refused : Command → Bool) (given taken : T → List ℕ) (is_at_end : T → Type 0) (future : Option ℕ) (shares : Bool) (roster : RosterView) (verifies : Verdicts) (left : Bool)
     (input input_left output output_left : T) (result : Result ℕ FrameError) (claims : List Claim) : Type 0 where
   -- The reader by which the service began.
   pub reader : Sight
   -- The service after the last message.
-  pub last : Serving
+  pub last : LimitedView Serving
   -- The messages that the connection gave, the replies to them, and the bytes that it took.
-  pub connection : IsConnectionServed (HubAnswers opening refused) given taken is_at_end (beginning roster verifies reader) last input input_left output output_left result
+  pub connection : IsConnectionServed (LimitedAnswers (HubAnswers opening refused)) given taken is_at_end
+      (limited_beginning future shares (beginning roster verifies reader left)) last input input_left output output_left result
   -- The claims are those of the acknowledgements among the replies: each is of its message's
   -- command, at its place.
   pub acknowledged : AreClaimed opening connection.served.exchanges claims

@@ -1,18 +1,20 @@
 //! The session of one peer of a server.
 
-ghost use Rattle.std.specs.Prelude.{IfSome};
+ghost use Rattle.std.specs.Prelude.{IfSome, is_some};
 ghost use Rattle.path_server.specs.Attending.{IsHubServed};
 
 use crate::ends::{Circumstances, cause_of};
 use crate::parting::end_early;
+use crate::peer_socket::PeerSocket;
 use crate::reports::{Report, Reports};
 use crate::server::Server;
 use crate::turning_away::turn_away;
 use paced_stream::{Ended, StreamCalls, SystemStream, serve_connection};
-use path_hub::{Hub, HubName, LoggedList};
+use path_hub::{Hub, HubName, LoggedList, Waiter};
 use path_session::{HubService, SystemNow};
 use sector_dev::Device;
 use seg_check::Verifier;
+use session_limits::Limited;
 use status_server::Counted;
 use std::net::{OpenListener, SocketAddr, TcpStream};
 use std::sync::Wait;
@@ -37,7 +39,7 @@ impl<L: OpenListener<Stream = TcpStream> + Drop, V: Verifier, O: Reports> Server
         };
         let input = SystemStream::new(&peer.stream);
         let output = SystemStream::new(&peer.stream);
-        match self.serve(hub, input, output) {
+        match self.serve(hub, PeerSocket::new(rt, &peer.stream), input, output) {
             Some((ended, claims)) => {
                 hub.keep_acknowledged(claims);
                 self.seats.leave(rt, number);
@@ -52,23 +54,28 @@ impl<L: OpenListener<Stream = TcpStream> + Drop, V: Verifier, O: Reports> Server
 
     /// Serves a peer by a reader of the hub, and returns with the end the claims of all commands
     /// that were acknowledged. The result is `None` where there is no reader.
-    fn serve<D: Device, N: HubName, R: Wait + Clock, T: StreamCalls + Drop>(
+    fn serve<D: Device, N: HubName, R: Wait + Clock, P: Waiter + Drop, T: StreamCalls + Drop>(
         &self,
         hub: &Hub<D, N, R>,
+        peer: P,
         input: T,
         output: T,
     ) -> Option<(Ended<T>, LoggedList<N>)>
         ensures { IfSome result (λ served. IsHubServed N.opening N.refused T.given T.taken T.is_at_end
-            self.now.options.now.cores (V.verifies self.now.verifier.now) input served.0.input output served.0.output served.0.replies served.1) }
+            self.now.options.now.future (is_some self.now.rooms) self.now.options.now.cores (V.verifies self.now.verifier.now) (P.has_left peer)
+            input served.0.input output served.0.output served.0.replies served.1) }
     {
         let reader = hub.reader().ok()?;
         let rt = hub.handle();
         let clock = SystemNow::new(rt);
-        let service = HubService::new(hub, reader, self.verifier, clock, &self.options.cores);
-        let mut counted = Counted::new(service, &self.replies);
+        let cores = &self.options.cores;
+        let service = HubService::new(hub, reader, self.verifier, clock, cores, peer);
+        let limits = self.limits();
+        let limited = Limited::new(service, SystemNow::new(rt), limits, rt);
+        let mut counted = Counted::new(limited, &self.replies);
         let idle = self.options.idle;
         let ended = serve_connection(rt, self.alloc, input, output, &mut counted, idle);
-        let (reader, acknowledged) = counted.into_service().into_parts();
+        let (reader, acknowledged) = counted.into_service().into_service().into_parts();
         hub.give_back(reader);
         Some((ended, acknowledged))
     }

@@ -19,6 +19,7 @@ mod guest;
 mod listeners;
 mod options;
 mod parting;
+mod peer_socket;
 mod reports;
 mod running;
 mod seats;

@@ -18,6 +18,12 @@ pub struct Options {
     /// How long a session waits for its peer, or `None` for no limit: for the first byte of a
     /// frame, for the rest of the frame, and until the peer has taken a reply.
     pub idle: Option<Duration>,
+    /// The seconds by which the timestamp of a segment that is registered, and the moment of a
+    /// purge, may lie after now, or `None` for no bound.
+    pub future: Option<u64>,
+    /// The number of seats that sessions with commands under way leave to others, or 0 where they
+    /// may have all seats.
+    pub spare: u64,
     /// How long the sessions that are open may go on once the server is to end.
     pub grace: Duration,
 }

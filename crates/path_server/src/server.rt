@@ -1,5 +1,7 @@
 //! A server's work with a hub: it attends to each connection in a thread of its own.
 
+ghost use Rattle.std.specs.Prelude.{◌≡◌, false, is_some};
+
 use crate::door::Door;
 use crate::ends::Ends;
 use crate::error::RunError;
@@ -7,13 +9,14 @@ use crate::guest::Guest;
 use crate::listeners::Listeners;
 use crate::options::Options;
 use crate::reports::{Report, Reports};
-use crate::seats::Seats;
+use crate::seats::{MOST_SESSIONS, Seats};
 use crate::seldom::Seldom;
 use crate::status_listener::StatusListener;
 use crate::stopwatch::Stopwatch;
 use path_hub::{Crew, Hub, HubName, Notice};
 use sector_dev::Device;
 use seg_check::Verifier;
+use session_limits::{Limits, Rooms};
 use status_server::Replies;
 use std::alloc::Global;
 use std::net::{OpenListener, TcpStream};
@@ -28,6 +31,8 @@ pub(crate) struct Server<'a, L, V, O> {
     pub(crate) alloc: Global,
     pub(crate) door: Door<L>,
     pub(crate) seats: Seats,
+    /// Room for the sessions that have commands under way, or `None` where all seats are.
+    rooms: Option<Rooms>,
     pub(crate) status: StatusListener<L>,
     pub(crate) options: &'a Options,
     pub(crate) verifier: &'a V,
@@ -75,6 +80,7 @@ impl<'a, L: OpenListener<Stream = TcpStream> + Drop, V: Verifier, O: Reports> Se
             alloc,
             door: Door::new(sessions, options.sessions),
             seats: Seats::new(alloc, options.peer_sessions),
+            rooms: rooms_beside(options.spare),
             status: StatusListener::new(status),
             options,
             verifier,
@@ -93,6 +99,17 @@ impl<'a, L: OpenListener<Stream = TcpStream> + Drop, V: Verifier, O: Reports> Se
             ending: AtomicBool::new(false),
             broken: AtomicBool::new(false),
             shut: AtomicBool::new(false),
+        }
+    }
+
+    /// The limits of the messages of each session.
+    pub(crate) fn limits(&self) -> Limits<'_>
+        ensures future { result.future ≡ self.now.options.now.future }
+        ensures rooms { is_some result.rooms ≡ is_some self.now.rooms }
+    {
+        Limits {
+            future: self.options.future,
+            rooms: self.rooms.as_ref(),
         }
     }
 
@@ -212,4 +229,15 @@ impl<
     fn met_stranger(&self) {
         self.reports.report(Report::Defect);
     }
+}
+
+/// Room for the sessions that have commands under way: all seats but those that are spare. The
+/// result is `None` where none is.
+fn rooms_beside(spare: u64) -> Option<Rooms>
+    ensures { spare ≡ 0 → is_some result ≡ false }
+{
+    if spare == 0 {
+        return None;
+    }
+    Some(Rooms::new(MOST_SESSIONS.saturating_sub(spare)))
 }

@@ -23,7 +23,11 @@ use Rattle.reply_codes.specs.declared.refusal.Refusal.TheVariants as refusal
 use Rattle.reply_codes.specs.Codes.{seg_code}
 use Rattle.reply_codes.specs.Checking.{first_refusal}
 use Rattle.reply_codes.specs.Replies.{reply_to_command}
-use Rattle.path_session.specs.Serving.{Serving, at_moment}
+use Rattle.path_hub.specs.declared.error.HubError.{HubError}
+use Rattle.path_hub.specs.declared.error.HubError.TheVariants as hub
+use Rattle.path_hub.specs.Committed.{EndsWaiting}
+use Rattle.path_session.specs.Serving.{Serving, at_moment, with_left}
+use Rattle.path_session.specs.Refused.{hub_refusal}
 use Rattle.path_session.specs.Answered.{AnswersCommand, AnswersChecked, AnswersRegistration, AnswersRemoval, IsAnswered, HubAnswers}
 use Rattle.path_session.specs.Taking.{IsCommandAnswered}
 use Rattle.path_session.specs.declared.under_way.HubUnderWay.{HubUnderWay}
@@ -35,12 +39,23 @@ command_answered : (opening : StoreValue (List RowView)) (refused : Command → 
     → IsCommandAnswered opening refused old c result new → AnswersCommand opening refused taken old c (reply_to_command taken result) new
 command_answered opening refused taken old c (Ok ack) new took = inl (record { ack = ack; replied = refl; committed = took })
 command_answered opening refused taken old c (Err (refusal.Submit e)) new took = inr (inl (record { why = e; refusal = record { by_hub = took.by_hub; replied = (refl, took.same) } }))
-command_answered opening refused taken old c (Err refusal.Stopped) new took = inr (inr (record { by_hub = took.by_hub; replied = (refl, took.same) }))
+command_answered opening refused taken old c (Err refusal.Stopped) new took = inr (inr (inl (record { by_hub = took.by_hub; replied = (refl, took.same) })))
 command_answered opening refused taken old c (Err refusal.NoMemory) new took = absurd took
 command_answered opening refused taken old c (Err (refusal.Message e)) new took = absurd took
 command_answered opening refused taken old c (Err (refusal.Check e)) new took = absurd took
 command_answered opening refused taken old c (Err (refusal.Lookup e)) new took = absurd took
 command_answered opening refused taken old c (Err refusal.NoReader) new took = absurd took
+command_answered opening refused taken old c (Err refusal.NotAwaited) new took = inr (inr (inr (record { gone = took.gone; replied = (refl, took.same) })))
+command_answered opening refused taken old c (Err refusal.Future) new took = absurd took
+
+-- a wait that ended without a receipt is answered by its refusal
+pub wait_ended : (opening : StoreValue (List RowView)) (refused : Command → Bool) (old : Serving) (c : Command) (new : Serving) (e : HubError)
+    → EndsWaiting new.left (refused c) e → new ≡ with_left old new.left → IsCommandAnswered opening refused old c (Err (hub_refusal e)) new
+wait_ended opening refused old c new hub.NoMemory why same = absurd why
+wait_ended opening refused old c new hub.NoReader why same = absurd why
+wait_ended opening refused old c new (hub.Stopped place) why same = record { by_hub = why; same = same }
+wait_ended opening refused old c new (hub.Submit e) why same = record { by_hub = why; same = same }
+wait_ended opening refused old c new hub.NotAwaited why same = record { gone = why; same = same }
 
 -- the clock is not asked while the hub is
 moment_stays : (opening : StoreValue (List RowView)) (refused : Command → Bool) (old : Serving) (c : Command) (result : Result Ack Refusal) (new : Serving) → IsCommandAnswered opening refused old c result new → new.moment ≡ old.moment
@@ -52,6 +67,8 @@ moment_stays opening refused old c (Err (refusal.Message e)) new took = absurd t
 moment_stays opening refused old c (Err (refusal.Check e)) new took = absurd took
 moment_stays opening refused old c (Err (refusal.Lookup e)) new took = absurd took
 moment_stays opening refused old c (Err refusal.NoReader) new took = absurd took
+moment_stays opening refused old c (Err refusal.NotAwaited) new took = ap (λ (s : Serving). s.moment) took.same
+moment_stays opening refused old c (Err refusal.Future) new took = absurd took
 
 -- nor does the verifier change
 verdicts_kept : (opening : StoreValue (List RowView)) (refused : Command → Bool) (old : Serving) (c : Command) (result : Result Ack Refusal) (new : Serving) → IsCommandAnswered opening refused old c result new → new.verifies ≡ old.verifies
@@ -63,6 +80,8 @@ verdicts_kept opening refused old c (Err (refusal.Message e)) new took = absurd 
 verdicts_kept opening refused old c (Err (refusal.Check e)) new took = absurd took
 verdicts_kept opening refused old c (Err (refusal.Lookup e)) new took = absurd took
 verdicts_kept opening refused old c (Err refusal.NoReader) new took = absurd took
+verdicts_kept opening refused old c (Err refusal.NotAwaited) new took = ap (λ (s : Serving). s.verifies) took.same
+verdicts_kept opening refused old c (Err refusal.Future) new took = absurd took
 
 -- a registration may be refused for memory
 is_memory : (e : SegError) → (e ≡ seg.NoMemory) ⊎ (e ≢ seg.NoMemory)
@@ -130,6 +149,8 @@ module _ (opening : StoreValue (List RowView)) (refused : Command → Bool) (old
   checked_refused body rows moment (refusal.Message e) is known = absurd known
   checked_refused body rows moment (refusal.Lookup e) is known = absurd known
   checked_refused body rows moment refusal.NoReader is known = absurd known
+  checked_refused body rows moment refusal.NotAwaited is known = absurd known
+  checked_refused body rows moment refusal.Future is known = absurd known
 
   unread_message : (body : List ℕ) (e : SegError) → IsForUnread body (Err (refusal.Message e)) → (e ≡ seg.NoMemory) ⊎ (e ≢ seg.NoMemory) → HasRefused (λ ack. Registered ack) (Register body) (refusal.Message e) old
   unfolding IsAnswered
@@ -145,6 +166,8 @@ module _ (opening : StoreValue (List RowView)) (refused : Command → Bool) (old
   unread_refused body refusal.Stopped known = absurd known
   unread_refused body (refusal.Lookup e) known = absurd known
   unread_refused body refusal.NoReader known = absurd known
+  unread_refused body refusal.NotAwaited known = absurd known
+  unread_refused body refusal.Future known = absurd known
 
   purge_refused : (until : ℕ) (refusal : Refusal) → IsForPurge refused until (Err refusal) → HasRefused (λ ack. Purged ack) (Purge until) refusal old
   unfolding IsAnswered
@@ -155,6 +178,8 @@ module _ (opening : StoreValue (List RowView)) (refused : Command → Bool) (old
   purge_refused until (refusal.Check e) known = absurd known
   purge_refused until (refusal.Lookup e) known = absurd known
   purge_refused until refusal.NoReader known = absurd known
+  purge_refused until refusal.NotAwaited known = absurd known
+  purge_refused until refusal.Future known = absurd known
 
   -- the type of a removal was read
   read_so : (number : ℕ) (id : List ℕ) (read : Result SegType SegError) (reply : ReplyView) → type_of number ≡ read → AnswersRemoval opening refused old id read reply old → HubAnswers opening refused old (Remove number id) reply old
@@ -170,6 +195,8 @@ module _ (opening : StoreValue (List RowView)) (refused : Command → Bool) (old
   removal_refused number id (refusal.Check e) known = absurd known
   removal_refused number id (refusal.Lookup e) known = absurd known
   removal_refused number id refusal.NoReader known = absurd known
+  removal_refused number id refusal.NotAwaited known = absurd known
+  removal_refused number id refusal.Future known = absurd known
 
   -- ---- messages that were taken
 

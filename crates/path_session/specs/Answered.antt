@@ -23,9 +23,9 @@ use Rattle.session_core.specs.declared.message.Message.TheVariants.{Register, Lo
 use Rattle.session_core.specs.declared.service.Ack.{Ack}
 use Rattle.session_core.specs.Frames.{MessageView}
 use Rattle.session_core.specs.Reply.{ReplyView, Registered, Found, Purged, Removed, Refused}
-use Rattle.reply_codes.specs.Codes.{memory_code, reader_code, stopped_code, seg_code, check_code, lookup_code, submit_code}
+use Rattle.reply_codes.specs.Codes.{memory_code, reader_code, stopped_code, not_awaited_code, seg_code, check_code, lookup_code, submit_code}
 use Rattle.reply_codes.specs.Checking.{first_refusal}
-use Rattle.path_session.specs.Serving.{Serving, at_moment}
+use Rattle.path_session.specs.Serving.{Serving, at_moment, with_left}
 
 -- The reply is a refusal, and nothing changed.
 abbrev pub IsRefusedWithCode : ℕ → Serving → ReplyView → Serving → Type 0
@@ -39,8 +39,8 @@ module _ (opening : StoreValue (List RowView)) where
     -- The hub's receipt, without its note.
     pub receipt : ReceiptView ℕ
     -- The service keeps the receipt, and its claim with those of the acknowledgements before, and
-    -- what it has seen may grow.
-    pub kept : new ≡ record old { seen = new.seen; last = Some receipt; acknowledged = old.acknowledged ++ receipt.logged ∷ [] }
+    -- what it has seen may grow. Its peer may have been asked whether it has left.
+    pub kept : new ≡ record old { seen = new.seen; last = Some receipt; acknowledged = old.acknowledged ++ receipt.logged ∷ []; left = new.left }
     -- The receipt claims that the log of the hub's state has the command at its index.
     pub shows : receipt.logged.command ≡ c
     -- The receipt's place is that of the index: it counts from the hub's opening value.
@@ -63,24 +63,32 @@ module _ (opening : StoreValue (List RowView)) where
     pub committed : AcknowledgesCommit old c ack new
 
 module _ (refused : Command → Bool) where
-  -- The hub refused the command, with this code, and nothing changed.
+  -- The hub refused the command, with this code, and nothing changed, but that the peer may have
+  -- been asked whether it has left.
   pub record IsNotCommitted (code : ℕ) (old : Serving) (c : Command) (reply : ReplyView) (new : Serving) : Type 0 where
     -- It is known that the hub refused the command.
     pub by_hub : refused c ≡ true
-    pub replied : IsRefusedWithCode code old reply new
+    pub replied : IsRefusedWithCode code (with_left old new.left) reply new
 
   -- The hub did not accept the command.
   pub record IsNotAccepted (old : Serving) (c : Command) (reply : ReplyView) (new : Serving) : Type 0 where
     pub why : SubmitError
     pub refusal : IsNotCommitted (submit_code why) old c reply new
 
+-- The peer had left, and the wait for a command's commit was given up. Nothing else changed. The
+-- command goes on.
+pub record IsNotAwaited (old : Serving) (reply : ReplyView) (new : Serving) : Type 0 where
+  pub gone : new.left ≡ true
+  pub replied : IsRefusedWithCode not_awaited_code (with_left old new.left) reply new
+
 -- At a hub that opened with this value, and of whose commands it is known which ones were refused.
 module _ (opening : StoreValue (List RowView)) (refused : Command → Bool) where
   -- The command was committed. Otherwise the hub refused it, since it was not accepted or the store
-  -- stopped before it was committed, and nothing changed.
+  -- stopped before it was committed; or the peer had left. Nothing else changed then.
   abbrev pub AnswersCommand : (Ack → ReplyView) → Serving → Command → ReplyView → Serving → Type 0
   AnswersCommand taken old c reply new =
-      IsAcknowledged opening taken old c reply new ⊎ (IsNotAccepted refused old c reply new ⊎ IsNotCommitted refused stopped_code old c reply new)
+      IsAcknowledged opening taken old c reply new
+      ⊎ (IsNotAccepted refused old c reply new ⊎ (IsNotCommitted refused stopped_code old c reply new ⊎ IsNotAwaited old reply new))
 
   -- A registration whose segments were checked is refused, or its command is answered.
   abbrev pub AnswersChecked : Serving → List RowView → Option CheckError → ReplyView → Serving → Type 0

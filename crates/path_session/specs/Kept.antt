@@ -1,4 +1,5 @@
 -- What the fields of a service over a hub represent.
+use Rattle.std.specs.Prelude.{Bool}
 use Rattle.seg_check.specs.Signatures.{Verdicts}
 use Rattle.command_log.specs.declared.name.LogName as named
 use Rattle.command_queue.specs.declared.history.QueueName as queue
@@ -6,9 +7,9 @@ use Rattle.logged_state.specs.declared.name.StateName as opened
 use Rattle.path_session.specs.declared.service.HubService.{HubService}
 use Rattle.path_session.specs.Serving.{Serving}
 
--- A service as contracts see it, by the verdicts of its verifier.
-abbrev pub serving : {D N R V C : Type 0} → {s : opened.Ghosts N} → {l : named.Ghosts N} → {q : queue.Ghosts N} → (V → Verdicts) → HubService D N R V C s l q → Serving
-serving verifies s =
+-- A service as contracts see it, by the verdicts of its verifier, and whether a peer has left.
+abbrev pub serving : {D N R V C P : Type 0} → {s : opened.Ghosts N} → {l : named.Ghosts N} → {q : queue.Ghosts N} → (V → Verdicts) → (P → Bool) → HubService D N R V C P s l q → Serving
+serving verifies has_left s =
     record {
       roster = s.roster.now;
       verifies = verifies s.verifier.now;
@@ -17,4 +18,5 @@ serving verifies s =
       moment = s.moment;
       last = s.last;
       acknowledged = s.acknowledged;
+      left = has_left s.peer;
     }

@@ -1,4 +1,3 @@
-pub mod Moments
 pub mod Refused
 pub mod Serving
 pub mod Answered

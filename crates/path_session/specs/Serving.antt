@@ -1,5 +1,5 @@
 -- What contracts see of a service over a hub.
-use Rattle.std.specs.Prelude.{ℕ, List, [], Option, None}
+use Rattle.std.specs.Prelude.{ℕ, Bool, List, [], Option, None}
 use Rattle.seg_check.specs.Signatures.{Verdicts}
 use Rattle.path_rows.specs.declared.command.Command.{Command}
 use Rattle.seg_lookup.specs.Roster.{RosterView}
@@ -24,12 +24,18 @@ pub record Serving : Type 0 where
   pub last : Option (ReceiptView ℕ)
   -- The claims of all its commands that were committed, in the order of their acknowledgements.
   pub acknowledged : List Claim
+  -- Whether its peer has left, as it was asked last.
+  pub left : Bool
 
 -- The service where a message is answered at a moment.
 abbrev pub at_moment : Serving → ℕ → Serving
 at_moment serving moment = record serving { moment = moment }
 
--- A service that has answered no message, by a reader.
-abbrev pub beginning : RosterView → Verdicts → Sight → Serving
-beginning roster verifies reader =
-    record { roster = roster; verifies = verifies; groups = reader.groups; seen = reader.seen; moment = 0; last = None; acknowledged = [] }
+-- The service where its peer was asked whether it has left.
+abbrev pub with_left : Serving → Bool → Serving
+with_left serving left = record serving { left = left }
+
+-- A service that has answered no message, by a reader, whose peer has left or not.
+abbrev pub beginning : RosterView → Verdicts → Sight → Bool → Serving
+beginning roster verifies reader left =
+    record { roster = roster; verifies = verifies; groups = reader.groups; seen = reader.seen; moment = 0; last = None; acknowledged = []; left = left }

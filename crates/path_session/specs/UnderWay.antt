@@ -16,7 +16,7 @@ use Rattle.session_core.specs.Frames.{MessageView}
 use Rattle.session_core.specs.Reply as reply
 use Rattle.session_core.specs.Reply.{ReplyView}
 use Rattle.reply_codes.specs.declared.refusal.Refusal.{Refusal}
-use Rattle.reply_codes.specs.declared.refusal.Refusal.TheVariants.{NoMemory, Message, Check, Lookup as NoLookup, Submit, NoReader, Stopped}
+use Rattle.reply_codes.specs.declared.refusal.Refusal.TheVariants.{NoMemory, Message, Check, Lookup as NoLookup, Submit, NoReader, Stopped, NotAwaited, Future}
 use Rattle.reply_codes.specs.Checking.{first_refusal}
 use Rattle.path_session.specs.declared.under_way.HubUnderWay.{HubUnderWay}
 use Rattle.path_session.specs.Serving.{Serving, at_moment}
@@ -45,6 +45,8 @@ IsForUnread body (Err (Submit e)) = ⊥
 IsForUnread body (Err Stopped) = ⊥
 IsForUnread body (Err (NoLookup e)) = ⊥
 IsForUnread body (Err NoReader) = ⊥
+IsForUnread body (Err NotAwaited) = ⊥
+IsForUnread body (Err Future) = ⊥
 
 -- Of the commands of the hub it is known which ones were refused.
 module _ (refused : Command → Bool) where
@@ -59,6 +61,8 @@ module _ (refused : Command → Bool) where
   IsForRows verifies rows moment (Err (Message e)) = ⊥
   IsForRows verifies rows moment (Err (NoLookup e)) = ⊥
   IsForRows verifies rows moment (Err NoReader) = ⊥
+  IsForRows verifies rows moment (Err NotAwaited) = ⊥
+  IsForRows verifies rows moment (Err Future) = ⊥
 
   -- A registration was read as these rows, which were checked.
   pub record IsForChecked (verifies : Verdicts) (body : List ℕ) (moment : ℕ) (handed : Result Command Refusal) : Type 0 where
@@ -81,6 +85,8 @@ module _ (refused : Command → Bool) where
   IsForPurge until (Err (Check e)) = ⊥
   IsForPurge until (Err (NoLookup e)) = ⊥
   IsForPurge until (Err NoReader) = ⊥
+  IsForPurge until (Err NotAwaited) = ⊥
+  IsForPurge until (Err Future) = ⊥
 
   -- The type of a removal was read. This is its command, or the hub refused it; or the type was not
   -- read.
@@ -93,6 +99,8 @@ module _ (refused : Command → Bool) where
   IsForRemoval number id (Err (Check e)) = ⊥
   IsForRemoval number id (Err (NoLookup e)) = ⊥
   IsForRemoval number id (Err NoReader) = ⊥
+  IsForRemoval number id (Err NotAwaited) = ⊥
+  IsForRemoval number id (Err Future) = ⊥
 
   -- By these verdicts on signatures, this is under way for the message.
   abbrev pub IsFor : {N : Type 0} → Verdicts → HubUnderWay N → MessageView → Type 0

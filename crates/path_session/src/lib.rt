@@ -6,13 +6,12 @@
 //! The crate exports `session_core`, whose `serve` runs a session.
 #![tactic(auto)]
 
-mod clock;
 mod refused;
 mod service;
 mod under_way;
 
-pub use clock::{Now, SystemNow};
 pub use service::HubService;
+pub use session_clock::{Now, SystemNow};
 pub use session_core::{
     Ack, Code, CommandKind, Fed, Form, FrameError, Framer, MOST_AHEAD, MOST_LENGTH, MOST_PIECE,
     MOST_REPLY, MOST_SEGMENTS, Message, Outcome, Reply, Service, Source, laws, read_all, serve,

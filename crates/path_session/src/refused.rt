@@ -20,6 +20,7 @@ pub(crate) fn refusal_of(error: HubError) -> Refusal
         HubError::NoReader => Refusal::NoReader,
         HubError::Stopped(_) => Refusal::Stopped,
         HubError::Submit(error) => Refusal::Submit(error),
+        HubError::NotAwaited => Refusal::NotAwaited,
     }
 }
 

@@ -14,16 +14,16 @@ ghost use Rattle.path_session.specs.Taking.{IsCommandAnswered, RefusesTaking};
 ghost use Rattle.path_session.specs.UnderWay.{IsForRegistration, IsForRows, IsForPurge, IsForRemoval, IsFor, after_check, AnswersTaken};
 ghost use Rattle.path_session.specs.Kept.{serving};
 
-use crate::clock::Now;
 use crate::refused::{coded, refusal_of};
 use crate::under_way::HubUnderWay;
 use path_db::{Command, Registration};
-use path_hub::{Hub, HubClaim, HubName, HubReader, HubReceipt, LoggedList};
+use path_hub::{Hub, HubClaim, HubName, HubReader, HubReceipt, LoggedList, Waiter};
 use reply_codes::{Refusal, check_all};
 use sector_dev::Device;
 use seg_check::Verifier;
 use seg_core::{SegType, Segment, read_registration, read_request};
 use seg_lookup::{Roster, classify};
+use session_clock::Now;
 use session_core::{Ack, Code, Message, Service};
 use std::alloc::Global;
 use std::sync::Wait;
@@ -35,13 +35,15 @@ use std::time::Clock;
 ///
 /// The clock is asked once for each registration that was read, when the service takes it, and once
 /// for each lookup that was classified. Signatures are checked before the hub is called, so under
-/// no lock. Lookups wait for nobody.
-pub struct HubService<'a, D: Device, N: HubName, R: Wait + Clock, V: Verifier, C: Now> {
+/// no lock. Lookups wait for nobody. A command's commit is awaited until the peer has left.
+pub struct HubService<'a, D: Device, N: HubName, R: Wait + Clock, V: Verifier, C: Now, P: Waiter> {
     hub: &'a Hub<D, N, R>,
     reader: HubReader<N>,
     verifier: &'a V,
     clock: C,
     roster: &'a Roster,
+    /// For whom a commit is awaited.
+    peer: P,
     /// The moment of the last message that was answered of those for which the clock was asked, in
     /// half seconds since 1970; 0 at first.
     moment: u64,
@@ -51,23 +53,25 @@ pub struct HubService<'a, D: Device, N: HubName, R: Wait + Clock, V: Verifier, C
     acknowledged: LoggedList<N>,
 }
 
-impl<'a, D: Device, N: HubName, R: Wait + Clock, V: Verifier, C: Now> HubService<
+impl<'a, D: Device, N: HubName, R: Wait + Clock, V: Verifier, C: Now, P: Waiter> HubService<
     'a,
     D,
     N,
     R,
     V,
     C,
+    P,
 > {
-    /// A service that has answered no message.
+    /// A service that has answered no message, for a peer that it waits for commits with.
     pub fn new(
         hub: &'a Hub<D, N, R>,
         reader: HubReader<N>,
         verifier: &'a V,
         clock: C,
         roster: &'a Roster,
-    ) -> HubService<'a, D, N, R, V, C>
-        ensures { serving V.verifies result ≡ beginning roster.now (V.verifies verifier.now) reader }
+        peer: P,
+    ) -> HubService<'a, D, N, R, V, C, P>
+        ensures { serving V.verifies P.has_left result ≡ beginning roster.now (V.verifies verifier.now) reader (P.has_left peer) }
     {
         HubService {
             hub,
@@ -75,6 +79,7 @@ impl<'a, D: Device, N: HubName, R: Wait + Clock, V: Verifier, C: Now> HubService
             verifier,
             clock,
             roster,
+            peer,
             moment: 0,
             last: None,
             acknowledged: hub.desk().list(),
@@ -86,8 +91,9 @@ impl<'a, D: Device, N: HubName, R: Wait + Clock, V: Verifier, C: Now> HubService
     pub fn into_reader(self) -> HubReader<N>
     where
         C: Drop,
-        ensures groups { result.groups ≡ (serving V.verifies self.entry).groups }
-        ensures seen { result.seen ≡ (serving V.verifies self.entry).seen }
+        P: Drop,
+        ensures groups { result.groups ≡ (serving V.verifies P.has_left self.entry).groups }
+        ensures seen { result.seen ≡ (serving V.verifies P.has_left self.entry).seen }
     {
         let hub = self.hub;
         let (reader, claims) = self.into_parts();
@@ -100,9 +106,10 @@ impl<'a, D: Device, N: HubName, R: Wait + Clock, V: Verifier, C: Now> HubService
     pub fn into_parts(self) -> (HubReader<N>, LoggedList<N>)
     where
         C: Drop,
-        ensures groups { result.0.groups ≡ (serving V.verifies self.entry).groups }
-        ensures seen { result.0.seen ≡ (serving V.verifies self.entry).seen }
-        ensures acknowledged { result.1 ≡ (serving V.verifies self.entry).acknowledged }
+        P: Drop,
+        ensures groups { result.0.groups ≡ (serving V.verifies P.has_left self.entry).groups }
+        ensures seen { result.0.seen ≡ (serving V.verifies P.has_left self.entry).seen }
+        ensures acknowledged { result.1 ≡ (serving V.verifies P.has_left self.entry).acknowledged }
     {
         let HubService {
             hub: _,
@@ -110,6 +117,7 @@ impl<'a, D: Device, N: HubName, R: Wait + Clock, V: Verifier, C: Now> HubService
             verifier: _,
             clock: _clock,
             roster: _,
+            peer: _peer,
             moment: _,
             last: _last,
             acknowledged,
@@ -123,7 +131,7 @@ impl<'a, D: Device, N: HubName, R: Wait + Clock, V: Verifier, C: Now> HubService
     fn take_registration(&mut self, alloc: Global, body: &[u8]) -> HubUnderWay<N>
         ensures known { IsForRegistration N.refused (V.verifies self.new.verifier.now) body.now result.moment result.handed }
         ensures clock { IfSome result.moment (λ moment. moment ≡ C.moment self.new.clock) }
-        ensures same { serving V.verifies self.new ≡ serving V.verifies self.old }
+        ensures same { serving V.verifies P.has_left self.new ≡ serving V.verifies P.has_left self.old }
     {
         match read_registration(alloc, body) {
             Ok(segments) => {
@@ -194,8 +202,8 @@ impl<'a, D: Device, N: HubName, R: Wait + Clock, V: Verifier, C: Now> HubService
 
     /// Answers a message that was taken.
     fn answer(&mut self, under_way: HubUnderWay<N>) -> Result<Ack, Refusal>
-        ensures { AnswersTaken N.opening N.refused (after_check (serving V.verifies self.old) under_way.moment)
-            under_way.handed result (serving V.verifies self.new) }
+        ensures { AnswersTaken N.opening N.refused (after_check (serving V.verifies P.has_left self.old) under_way.moment)
+            under_way.handed result (serving V.verifies P.has_left self.new) }
     {
         let HubUnderWay { moment, handed } = under_way;
         self.note_moment(moment);
@@ -204,18 +212,21 @@ impl<'a, D: Device, N: HubName, R: Wait + Clock, V: Verifier, C: Now> HubService
 
     /// Notes the moment at which a message was checked, if it has one.
     fn note_moment(&mut self, moment: Option<u64>)
-        ensures { serving V.verifies self.new ≡ after_check (serving V.verifies self.old) moment }
+        ensures { serving V.verifies P.has_left self.new ≡ after_check (serving V.verifies P.has_left self.old) moment }
     {
         if let Some(moment) = moment {
             self.moment = moment;
         }
     }
 
-    /// Waits until a command is committed, learns its receipt and keeps it, with its claim.
+    /// Waits until a command is committed, or until the peer has left. Learns the receipt and keeps
+    /// it, with its claim.
+    #[tactic(auto, using(crate::proofs::ServingLemmas::wait_ended))]
     fn commit(&mut self, claim: HubClaim<N>) -> Result<Ack, Refusal>
-        ensures { IsCommandAnswered N.opening N.refused (serving V.verifies self.old) claim result (serving V.verifies self.new) }
+        ensures { IsCommandAnswered N.opening N.refused (serving V.verifies P.has_left self.old) claim result (serving V.verifies P.has_left self.new) }
     {
-        let mut receipt = self.hub.settle(claim).map_err(refusal_of)?;
+        let settled = self.hub.settle_for(claim, &mut self.peer);
+        let mut receipt = settled.map_err(refusal_of)?;
         self.reader.learn(&mut receipt);
         receipt.add_to(self.hub.desk(), &mut self.acknowledged);
         let ack = Ack {
@@ -229,8 +240,8 @@ impl<'a, D: Device, N: HubName, R: Wait + Clock, V: Verifier, C: Now> HubService
     /// The segments that a request asks for, of one type.
     #[tactic(auto, unfolding(crate::specs::Answered::IsAnswered))]
     fn find(&mut self, message: &[u8]) -> Result<(SegType, Vec<Segment>), Refusal>
-        ensures answers { HubAnswers N.opening N.refused (serving V.verifies self.old)
-            (Lookup message.now) (reply_to_query result) (serving V.verifies self.new) }
+        ensures answers { HubAnswers N.opening N.refused (serving V.verifies P.has_left self.old)
+            (Lookup message.now) (reply_to_query result) (serving V.verifies P.has_left self.new) }
         ensures few { IfOk result (λ found. length found.1.items ≤ MOST_SEGMENTS) }
         ensures whole { IfOk result (λ found. AllByRecursion IsSegment found.1.items) }
         ensures clock { OnOk result (self.new.moment ≡ C.moment self.new.clock) }
@@ -244,8 +255,8 @@ impl<'a, D: Device, N: HubName, R: Wait + Clock, V: Verifier, C: Now> HubService
     }
 }
 
-impl<D: Device, N: HubName, R: Wait + Clock, V: Verifier, C: Now> Service
-    for HubService<'_, D, N, R, V, C> {
+impl<D: Device, N: HubName, R: Wait + Clock, V: Verifier, C: Now, P: Waiter> Service
+    for HubService<'_, D, N, R, V, C, P> {
     ghost use Rattle.path_session.specs.Serving.{Serving};
     ghost use Rattle.path_session.specs.Answered.{HubAnswers};
     ghost use Rattle.path_session.specs.Kept.{serving};
@@ -255,7 +266,7 @@ impl<D: Device, N: HubName, R: Wait + Clock, V: Verifier, C: Now> Service
 
     ghost State = { Serving };
 
-    ghost state = { serving V.verifies };
+    ghost state = { serving V.verifies P.has_left };
 
     ghost answers = { HubAnswers N.opening N.refused };
 
@@ -283,8 +294,8 @@ impl<D: Device, N: HubName, R: Wait + Clock, V: Verifier, C: Now> Service
     /// Where a registration is taken that was read, its moment is the one that the clock gave last.
     fn hand_in(&mut self, alloc: Global, message: Message<&[u8]>) -> Option<HubUnderWay<N>>
         ensures command { IfSome result (λ _. IsSome (command_kind (message_at message.entry))) }
-        ensures known { IfSome result (λ under_way. IsFor N.refused (serving V.verifies self.new).verifies under_way (message_at message.entry)) }
-        ensures same { serving V.verifies self.new ≡ serving V.verifies self.old }
+        ensures known { IfSome result (λ under_way. IsFor N.refused (serving V.verifies P.has_left self.new).verifies under_way (message_at message.entry)) }
+        ensures same { serving V.verifies P.has_left self.new ≡ serving V.verifies P.has_left self.old }
         ensures clock { IfSome result (λ under_way. IfSome under_way.moment (λ moment. moment ≡ C.moment self.new.clock)) }
     {
         match message {

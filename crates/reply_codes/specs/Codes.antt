@@ -23,6 +23,14 @@ reader_code = 0x61
 abbrev pub stopped_code : ℕ
 stopped_code = 0x62
 
+-- The code where the wait for a commit was given up, as the peer had left.
+abbrev pub not_awaited_code : ℕ
+not_awaited_code = 0x63
+
+-- The code where a time lies too far after now.
+abbrev pub future_code : ℕ
+future_code = 0x33
+
 -- The code of a fault in the wire format of a message.
 abbrev pub wire_code : WireError → ℕ
 wire_code Truncated = 0x11

@@ -36,6 +36,13 @@ pub enum Refusal {
     /// the command.
     #[error("the store stopped before the command was committed")]
     Stopped,
+    /// The peer had left, and the wait for the commit was given up. The command goes on: it is
+    /// committed or refused as any other.
+    #[error("the peer left before the command was committed")]
+    NotAwaited,
+    /// The timestamp of a segment, or the moment of a purge, lies too far after now.
+    #[error("a time lies too far in the future")]
+    Future,
 }
 
 impl Refusal {
@@ -53,6 +60,8 @@ impl Refusal {
             Refusal::Submit(error) => submit_code(error),
             Refusal::NoReader => 0x61,
             Refusal::Stopped => 0x62,
+            Refusal::NotAwaited => 0x63,
+            Refusal::Future => 0x33,
         })
     }
 }

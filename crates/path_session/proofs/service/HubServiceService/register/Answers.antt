@@ -9,6 +9,6 @@ use Rattle.path_session.proofs.service.HubServiceService.register.Goals as goal
 
 pub returns : goal.returns
 returns g c =
-    let new = serving g.V.Verifier.verifies c.settle.new.self in
+    let new = serving g.V.Verifier.verifies g.P.Waiter.has_left c.settle.new.self in
     subst (λ (old : Serving). HubAnswers g.N.StateName.opening g.N.QueueName.refused old (Register c.args.message.now) (reply_to_register c.settle.result) new) c.take_registration-under_way.ensures.same
     (c.settle.ensures.answers (Register c.args.message.now) kind.Register c.take_registration-under_way.ensures.known refl)

@@ -7,8 +7,8 @@ use Rattle.path_session.proofs.service.HubServiceService.settle.Goals as goal
 
 pub returns : goal.returns
 returns g c =
-    let old = serving g.V.Verifier.verifies c.args.self.now in
-    let new = serving g.V.Verifier.verifies c.answer.new.self in
+    let old = serving g.V.Verifier.verifies g.P.Waiter.has_left c.args.self.now in
+    let new = serving g.V.Verifier.verifies g.P.Waiter.has_left c.answer.new.self in
     let taken = c.args.under_way in
     record {
       answers = λ message kind known of_kind. settled_coded g.N.StateName.opening g.N.QueueName.refused old taken message kind c.answer.result c.coded.result new known of_kind c.answer.ensures (c.coded.ensures kind);

@@ -2,7 +2,7 @@
 
 ghost use Rattle.std.specs.Prelude.{◌≡◌, ℕ, MatchOption};
 ghost use Rattle.std.specs.Duration.{as_nanos};
-ghost use Rattle.path_session.specs.Moments.{half_seconds_of};
+ghost use Rattle.session_clock.specs.Moments.{half_seconds_of};
 
 use std::marker::Model;
 use std::time::{Clock, Duration, SystemTime};

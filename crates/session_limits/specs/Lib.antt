@@ -1,0 +1,2 @@
+pub mod Future
+pub mod Limits

@@ -1,0 +1,14 @@
+//! Limits of a session's messages, which are refused before a service below is asked.
+//!
+//! To the layer above, `Limited` is a service that answers as another one does, but for two limits:
+//! no time of a command lies too far in the future, and only so many sessions have commands under
+//! way at one time. `Rooms` is the number of these sessions, which threads share.
+#![tactic(auto)]
+
+mod future;
+mod limit;
+mod limited;
+mod rooms;
+
+pub use limited::{Limited, LimitedCommand, Limits};
+pub use rooms::Rooms;
