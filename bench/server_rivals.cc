@@ -180,6 +180,10 @@ static bool open_rocksdb() {
   return rocksdb::DB::Open(options, place + "/rocks", &rocks).ok();
 }
 
+// Makes the table, and its log, before the threads open it: a change of the journal's mode waits for
+// nobody.
+static bool open_sqlite() { return SqliteRows().open(); }
+
 static bool open_lmdb() {
   MDB_txn *txn = nullptr;
   return mdb_env_create(&env) == 0 && mdb_env_set_mapsize(env, MAP) == 0 && mdb_env_open(env, place.c_str(), 0, 0644) == 0 &&
@@ -295,6 +299,7 @@ int main(int argc, char **argv) {
   if (name == "leveldb" && !open_leveldb()) return 2;
   if (name == "rocksdb" && !open_rocksdb()) return 2;
   if (name == "lmdb" && !open_lmdb()) return 2;
+  if (name == "sqlite" && !open_sqlite()) return 2;
   int listener = socket(AF_INET, SOCK_STREAM, 0);
   sockaddr_in at{};
   socklen_t size = sizeof at;

@@ -115,7 +115,8 @@ latencies() {
   pathd_started "$work/slow_sync.so" 100
   load 4 "$seconds" lookup | cut -d' ' -f2- >> "$work/idle"
   greatest=$(load 8 "$seconds" register | cut -d' ' -f1)
-  load 8 "$((seconds + 1))" register --rate "$(python3 -c "print($greatest / 2)")" > /dev/null &
+  # Its own rows are made later than those of the load before, so that each is an update.
+  load 8 "$((seconds + 1))" register --rate "$(python3 -c "print($greatest / 2)")" --made 100000000 > /dev/null &
   registering=$!
   sleep 0.3
   load 4 "$seconds" lookup | cut -d' ' -f2- >> "$work/busy"
