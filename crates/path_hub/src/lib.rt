@@ -47,7 +47,7 @@ pub use reader::HubReader;
 pub use rule::{ReaderRule, SeenGroups, SeesAll};
 pub use show::{HubNote, HubShow};
 pub use store_loops::{
-    Awaited, BUCKETS, Bucket, CommitTimes, DeviceCall, Notice, Silent, Steps, Watch,
+    Actor, Awaited, BUCKETS, Bucket, CommitTimes, DeviceCall, Notice, Silent, Steps, Watch,
     checkpointer_loop, flusher_loop,
 };
 pub use waiter::{Patient, Waiter};

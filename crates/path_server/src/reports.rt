@@ -1,6 +1,7 @@
 //! The reports of a server while it runs.
 
 use crate::seats::MOST_SESSIONS;
+use path_hub::Actor;
 use session_core::FrameError;
 use std::fmt;
 use std::fmt::{Display, Formatter};
@@ -13,6 +14,13 @@ pub enum Report {
     Ready,
     /// The device failed, and the store takes no more commands. Lookups go on.
     Stopped,
+    /// No epoch is left for a checkpoint, so the store takes no more commands. Lookups go on.
+    Exhausted,
+    /// What a checkpoint read of the half of this epoch is not what the store wrote there, and the
+    /// store has stopped. `Stopped` is reported, too.
+    HalfDamaged {
+        epoch: u64,
+    },
     /// The rows of the store that was opened do not fit its checkpoint area, so the store takes no
     /// commands. Lookups go on.
     Overfull,
@@ -40,10 +48,10 @@ pub enum Report {
         peer: Option<SocketAddr>,
         why: FrameError,
     },
-    /// Memory was refused to the flusher, which tries again.
-    NoMemory,
-    /// Memory was given to the flusher again.
-    MemoryGiven,
+    /// Memory was refused to this actor of the store, which tries again.
+    NoMemory(Actor),
+    /// Memory was given to this actor again.
+    MemoryGiven(Actor),
     /// A checkpoint was begun.
     CheckpointBegun,
     /// A checkpoint was done, this number of milliseconds after it was begun.
@@ -60,6 +68,16 @@ impl Display for Report {
                 f,
                 "the store has stopped at a fault of its device; lookups go on"
             ),
+            Report::Exhausted => write!(
+                f,
+                "the store has stopped, as no epoch is left for a checkpoint; lookups go on"
+            ),
+            Report::HalfDamaged { epoch } => {
+                write!(
+                    f,
+                    "the half of epoch {epoch} reads otherwise than it was written"
+                )
+            }
             Report::Overfull => write!(
                 f,
                 "the store takes no commands, as its rows do not fit its checkpoint area; lookups go on"
@@ -83,13 +101,23 @@ impl Display for Report {
                 "an accept failed by error {error} of the system; the next one is made after {pause} ms"
             ),
             Report::Faulted { count, peer, why } => write_faulted(f, *count, peer.as_ref(), why),
-            Report::NoMemory => write!(f, "the flusher has no memory, and tries again"),
-            Report::MemoryGiven => write!(f, "the flusher has memory again"),
+            Report::NoMemory(actor) => {
+                write!(f, "the {} has no memory, and tries again", name_of(*actor))
+            }
+            Report::MemoryGiven(actor) => write!(f, "the {} has memory again", name_of(*actor)),
             Report::CheckpointBegun => write!(f, "a checkpoint has begun"),
             Report::CheckpointDone { milliseconds } => {
                 write!(f, "the checkpoint is done after {milliseconds} ms")
             }
         }
+    }
+}
+
+/// The word for an actor.
+fn name_of(actor: Actor) -> &'static str {
+    match actor {
+        Actor::Flusher => "flusher",
+        Actor::Checkpointer => "checkpointer",
     }
 }
 

@@ -55,6 +55,8 @@ pub(crate) struct Server<'a, L, V, O> {
     pub(crate) begun: Option<Instant>,
     /// The number of connections that are read and dropped after the end of their sessions.
     pub(crate) drains: AtomicU64,
+    /// Whether the store was reported to have no epoch left.
+    exhausted: AtomicBool,
     /// Whether every thread that serves was reported to have begun.
     ready: AtomicBool,
     /// Whether no more peers are accepted.
@@ -95,6 +97,7 @@ impl<'a, L: OpenListener<Stream = TcpStream> + Drop, V: Verifier, O: Reports> Se
             replies: Replies::new(),
             begun,
             drains: AtomicU64::new(0),
+            exhausted: AtomicBool::new(false),
             ready: AtomicBool::new(false),
             ending: AtomicBool::new(false),
             broken: AtomicBool::new(false),
@@ -205,8 +208,8 @@ impl<
 
     fn note<N: HubName>(&self, hub: &Hub<D, N, R>, notice: Notice) {
         let report = match notice {
-            Notice::NoMemory => Report::NoMemory,
-            Notice::MemoryGiven => Report::MemoryGiven,
+            Notice::NoMemory(actor) => Report::NoMemory(actor),
+            Notice::MemoryGiven(actor) => Report::MemoryGiven(actor),
             Notice::CheckpointBegun => {
                 self.checkpoint.begin(hub.handle());
                 Report::CheckpointBegun
@@ -214,14 +217,21 @@ impl<
             Notice::CheckpointDone => Report::CheckpointDone {
                 milliseconds: self.checkpoint.milliseconds(hub.handle()),
             },
+            Notice::NoEpoch => {
+                self.exhausted.store(true, Ordering::SeqCst);
+                Report::Exhausted
+            }
+            Notice::HalfDamaged => Report::HalfDamaged {
+                epoch: hub.numbers().0.epoch,
+            },
         };
         self.reports.report(report);
     }
 
     fn stopped(&self) {
         // Where no peer is awaited or being served, or the listener broke, the server itself has
-        // stopped the store.
-        if self.is_open() && !self.is_broken() {
+        // stopped the store. Where no epoch is left, that was reported.
+        if self.is_open() && !self.is_broken() && !self.exhausted.load(Ordering::SeqCst) {
             self.reports.report(Report::Stopped);
         }
     }

@@ -1,10 +1,8 @@
 //! What the flusher does until the state has stopped.
 
-ghost use Rattle.std.specs.Prelude.{◌≡◌};
-
 use crate::retrying::retry;
 use crate::steps::{Awaited, Steps};
-use crate::watch::{Notice, Watch};
+use crate::watch::{Actor, Watch, note_memory};
 use group_core::{
     Durable, DurableFollowed, Following, Opened, PublishError, PublishFollowedError, Stable,
     StageError, Staged,
@@ -24,31 +22,18 @@ pub fn flusher_loop<R: Wait, S: Steps, W: Watch>(rt: &R, steps: &S, watch: &W)
         let seen = steps.changes(Awaited::Work);
         match steps.stage() {
             Ok(staged) => {
-                is_short = note_memory(watch, is_short, false);
+                is_short = note_memory(watch, Actor::Flusher, is_short, false);
                 flush(rt, steps, watch, staged);
             }
             Err(StageError::Stopped) => return,
             Err(StageError::NoMemory) => {
-                is_short = note_memory(watch, is_short, true);
+                is_short = note_memory(watch, Actor::Flusher, is_short, true);
                 steps.rest(Awaited::Work, seen);
             }
             Err(_) => steps.rest(Awaited::Work, seen),
         }
     }
     unreachable!()
-}
-
-/// Says that memory is refused where it was not before, or is given where it was refused before.
-/// Returns whether it is refused.
-fn note_memory<W: Watch>(watch: &W, was_short: bool, is_short: bool) -> bool
-    ensures { result ≡ is_short }
-{
-    if is_short && !was_short {
-        watch.note(Notice::NoMemory);
-    } else if was_short && !is_short {
-        watch.note(Notice::MemoryGiven);
-    }
-    is_short
 }
 
 /// Takes what is staged through all its steps, and after it each group that follows. A state that
@@ -115,7 +100,7 @@ fn publish<R: Wait, S: Steps, W: Watch>(rt: &R, steps: &S, watch: &W, value: Dur
     for _ in rt.forever() {
         match steps.publish(value) {
             Ok(()) => {
-                note_memory(watch, is_short, false);
+                note_memory(watch, Actor::Flusher, is_short, false);
                 return;
             }
             Err(PublishError::NoMemory(back)) => value = back,
@@ -124,7 +109,7 @@ fn publish<R: Wait, S: Steps, W: Watch>(rt: &R, steps: &S, watch: &W, value: Dur
                 return;
             }
         }
-        is_short = note_memory(watch, is_short, true);
+        is_short = note_memory(watch, Actor::Flusher, is_short, true);
         steps.rest(Awaited::Work, steps.changes(Awaited::Work));
     }
     unreachable!()
@@ -143,7 +128,7 @@ fn publish_followed<R: Wait, S: Steps, W: Watch>(
     for _ in rt.forever() {
         match steps.publish_followed(value) {
             Ok(stable) => {
-                note_memory(watch, is_short, false);
+                note_memory(watch, Actor::Flusher, is_short, false);
                 return Some(stable);
             }
             Err(PublishFollowedError::NoMemory(back)) => value = back,
@@ -152,7 +137,7 @@ fn publish_followed<R: Wait, S: Steps, W: Watch>(
                 return None;
             }
         }
-        is_short = note_memory(watch, is_short, true);
+        is_short = note_memory(watch, Actor::Flusher, is_short, true);
         steps.rest(Awaited::Work, steps.changes(Awaited::Work));
     }
     unreachable!()

@@ -20,4 +20,4 @@ pub use checkpointer::checkpointer_loop;
 pub use commits::{BUCKETS, Bucket, CommitTimes, SECOND};
 pub use flusher::flusher_loop;
 pub use steps::{Awaited, Steps};
-pub use watch::{Notice, Silent, Watch};
+pub use watch::{Actor, Notice, Silent, Watch};

@@ -53,7 +53,8 @@ pub trait Steps {
         ensures { IsRedeemed tells ticket result };
 
     /// Stops the state. It stays stopped.
-    fn halt(&self);
+    fn halt(&self)
+        ensures { has_stopped self.now };
 
     /// Stops the state, and gives up a value of an actor that a step refused as a stranger. Only a
     /// defect of the program leads there, so an implementation also reports the call.

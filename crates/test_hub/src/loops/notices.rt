@@ -2,15 +2,17 @@
 
 use crate::loops::host::Host;
 use crate::loops::loops::{pieces_of, redeem_all, submit_all};
-use crate::loops::scarce::Scarce;
-use path_hub::{Notice, Watch, checkpointer_loop, flusher_loop};
+use crate::loops::scarce::{Damage, NONE, Refusals, Scarce};
+use group_core::SubmitError;
+use path_db::Command;
+use path_hub::{Actor, Notice, Steps, Watch, checkpointer_loop, flusher_loop};
 use std::alloc::Global;
 use std::process::Abort;
 use std::sync::{Mutex, Wait};
 use std::test::Fail;
 use test_hub_scripts::acts::{Unwatched, spend, submit};
 use test_hub_scripts::fakes::Fake;
-use test_hub_scripts::stores::{LEAST, formatted, sealed_row};
+use test_hub_scripts::stores::{LEAST, change, formatted, sealed_row};
 
 /// A watch that keeps what it is given, in order.
 #[derive(Drop)]
@@ -49,15 +51,29 @@ struct FlusherRun {
     noted: &'static [Notice],
 }
 
+impl FlusherRun {
+    /// What is refused.
+    fn refusals(self) -> Refusals {
+        Refusals {
+            stagings: self.stagings,
+            publishings: self.publishings,
+            ..NONE
+        }
+    }
+}
+
 /// Memory is refused, and given again.
-const ONCE: &[Notice] = &[Notice::NoMemory, Notice::MemoryGiven];
+const ONCE: &[Notice] = &[
+    Notice::NoMemory(Actor::Flusher),
+    Notice::MemoryGiven(Actor::Flusher),
+];
 
 /// The same twice.
 const TWICE: &[Notice] = &[
-    Notice::NoMemory,
-    Notice::MemoryGiven,
-    Notice::NoMemory,
-    Notice::MemoryGiven,
+    Notice::NoMemory(Actor::Flusher),
+    Notice::MemoryGiven(Actor::Flusher),
+    Notice::NoMemory(Actor::Flusher),
+    Notice::MemoryGiven(Actor::Flusher),
 ];
 
 /// One purge. Seven calls commit it, and the eighth finds nothing to stage.
@@ -70,7 +86,7 @@ const ALONE: [FlusherRun; 8] = [
     FlusherRun { stagings: 2, publishings: 2, stop: 9, noted: TWICE },
     // The state stops before the purge is staged, before it is written, and before it is published,
     // which goes on.
-    FlusherRun { stagings: 3, publishings: 0, stop: 1, noted: &[Notice::NoMemory] },
+    FlusherRun { stagings: 3, publishings: 0, stop: 1, noted: &[Notice::NoMemory(Actor::Flusher)] },
     FlusherRun { stagings: 3, publishings: 3, stop: 2, noted: ONCE },
     FlusherRun { stagings: 0, publishings: 3, stop: 7, noted: ONCE },
 ];
@@ -88,6 +104,8 @@ const FOLLOWED: [FlusherRun; 4] = [
 /// A run of the checkpointer's loop, and what it notes.
 #[derive(Clone, Copy)]
 struct CheckpointerRun {
+    /// What is refused.
+    refusals: Refusals,
     /// The number of the call before which the state stops, the first one after those that prepare
     /// the checkpoint being number 1.
     stop: u64,
@@ -95,13 +113,41 @@ struct CheckpointerRun {
     noted: &'static [Notice],
 }
 
-/// A sealed journal. Seven calls make a checkpoint.
+/// Memory is refused to a checkpoint, and given again.
+const SHORT: [Notice; 4] = [
+    Notice::NoMemory(Actor::Checkpointer),
+    Notice::MemoryGiven(Actor::Checkpointer),
+    Notice::CheckpointBegun,
+    Notice::CheckpointDone,
+];
+
+/// The same, and the state stops after the beginning.
+const CUT: [Notice; 3] = [
+    Notice::NoMemory(Actor::Checkpointer),
+    Notice::MemoryGiven(Actor::Checkpointer),
+    Notice::CheckpointBegun,
+];
+
+/// A checkpoint is begun of a half that reads otherwise.
+const DAMAGED: [Notice; 2] = [Notice::CheckpointBegun, Notice::HalfDamaged];
+
+/// A sealed journal. Seven calls make a checkpoint. A beginning that is refused memory makes one
+/// more call that prepares it.
 #[rattlefmt::skip]
-const SEALED: [CheckpointerRun; 4] = [
-    CheckpointerRun { stop: 1, noted: &[] },
-    CheckpointerRun { stop: 2, noted: &[Notice::CheckpointBegun] },
-    CheckpointerRun { stop: 7, noted: &[Notice::CheckpointBegun] },
-    CheckpointerRun { stop: 8, noted: &[Notice::CheckpointBegun, Notice::CheckpointDone] },
+const SEALED: [CheckpointerRun; 12] = [
+    CheckpointerRun { refusals: NONE, stop: 1, noted: &[] },
+    CheckpointerRun { refusals: NONE, stop: 2, noted: &[Notice::CheckpointBegun] },
+    CheckpointerRun { refusals: NONE, stop: 7, noted: &[Notice::CheckpointBegun] },
+    CheckpointerRun { refusals: NONE, stop: 8, noted: &[Notice::CheckpointBegun, Notice::CheckpointDone] },
+    CheckpointerRun { refusals: Refusals { preparations: 1, ..NONE }, stop: 8, noted: &SHORT },
+    CheckpointerRun { refusals: Refusals { preparations: 5, ..NONE }, stop: 8, noted: &SHORT },
+    CheckpointerRun { refusals: Refusals { beginnings: 1, ..NONE }, stop: 9, noted: &SHORT },
+    CheckpointerRun { refusals: Refusals { preparations: 3, beginnings: 4, ..NONE }, stop: 12, noted: &SHORT },
+    // The state stops while memory is refused, and before the checkpoint is written.
+    CheckpointerRun { refusals: Refusals { beginnings: 4, ..NONE }, stop: 2, noted: &[Notice::NoMemory(Actor::Checkpointer)] },
+    CheckpointerRun { refusals: Refusals { beginnings: 4, ..NONE }, stop: 6, noted: &CUT },
+    CheckpointerRun { refusals: Refusals { damage: Damage::Begin, ..NONE }, stop: 8, noted: &[Notice::HalfDamaged] },
+    CheckpointerRun { refusals: Refusals { damage: Damage::Chunk, ..NONE }, stop: 8, noted: &DAMAGED },
 ];
 
 /// Sees what was noted.
@@ -118,11 +164,7 @@ fn assert_alone<R: Wait + Abort + Copy + Drop>(rt: R, alloc: Global, run: Flushe
     let kept = Kept::new(rt, alloc);
     let ticket = submit(&host, &fake, &mut Unwatched);
     fake.stop_before(run.stop);
-    flusher_loop(
-        &rt,
-        &Scarce::new(&fake, run.stagings, run.publishings),
-        &kept,
-    );
+    flusher_loop(&rt, &Scarce::new(&fake, run.refusals()), &kept);
     spend(&host, &fake, &mut Unwatched, ticket);
     assert_kept(kept, run.noted);
     let _device = fake.into_device();
@@ -135,11 +177,7 @@ fn assert_followed<R: Wait + Abort + Copy + Drop>(rt: R, alloc: Global, run: Flu
     let kept = Kept::new(rt, alloc);
     let tickets = submit_all(&rt, alloc, &fake);
     fake.stop_before(run.stop);
-    flusher_loop(
-        &rt,
-        &Scarce::new(&fake, run.stagings, run.publishings),
-        &kept,
-    );
+    flusher_loop(&rt, &Scarce::new(&fake, run.refusals()), &kept);
     let (committed, unknown) = redeem_all(&rt, &fake, tickets);
     assert_eq!(&rt; (committed, unknown), (40, 0));
     assert_kept(kept, run.noted);
@@ -153,9 +191,9 @@ fn assert_sealed<R: Wait + Abort + Copy + Drop>(rt: R, alloc: Global, run: Check
     let fake = Fake::new(host, alloc, device);
     let kept = Kept::new(rt, alloc);
     fake.stop_before(run.stop.wrapping_add(pieces));
-    checkpointer_loop(&rt, &fake, &kept);
+    checkpointer_loop(&rt, &Scarce::new(&fake, run.refusals), &kept);
     assert_kept(kept, run.noted);
-    let _device = fake.into_device();
+    fake.end();
 }
 
 #[test]
@@ -174,5 +212,27 @@ fn checkpointer_notes_checkpoints(rt: HostRuntime) -> Result<(), Fail> {
     for run in SEALED {
         assert_sealed(&rt, rt.alloc(), run);
     }
+    Ok(())
+}
+
+#[test]
+fn checkpointer_stops_at_the_last_epoch(rt: HostRuntime) -> Result<(), Fail> {
+    let host = Host(&rt);
+    let alloc = rt.alloc();
+    let mut device = sealed_row(&host, alloc);
+    change(&mut device, 1, 8, &[0xff; 8]);
+    let fake = Fake::new(host, alloc, device);
+    let kept = Kept::new(&rt, alloc);
+    let ticket = submit(&host, &fake, &mut Unwatched);
+    checkpointer_loop(&&rt, &fake, &kept);
+    assert_kept(kept, &[Notice::NoEpoch]);
+    // One call prepares a checkpoint, and the next one stops the state.
+    assert_eq!(rt; fake.calls(), 3);
+    match fake.submit(Command::Purge(0)) {
+        Err((_command, why)) => assert_eq!(rt; why, SubmitError::Stopped),
+        Ok(more) => spend(&host, &fake, &mut Unwatched, more),
+    }
+    spend(&host, &fake, &mut Unwatched, ticket);
+    fake.end();
     Ok(())
 }

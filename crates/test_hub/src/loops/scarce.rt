@@ -1,4 +1,4 @@
-//! A state that is refused memory before some of its calls.
+//! A state that refuses some of its calls.
 
 use group_core::{
     AtClosing, AtFollowed, AtFollowing, AtLaid, AtLive, AtOpened, AtPlan, AtStable, AtStaged,
@@ -10,21 +10,58 @@ use path_db::Command;
 use path_hub::{Awaited, Steps};
 use std::sync::atomic::{AtomicU64, Ordering};
 
-/// A state, with how many more stagings and publishings are refused memory.
+/// What a state refuses. Each number counts the next calls of a kind that are refused memory.
+#[derive(Clone, Copy)]
+pub struct Refusals {
+    pub stagings: u64,
+    pub publishings: u64,
+    pub preparations: u64,
+    pub beginnings: u64,
+    /// Which call finds the sealed half damaged.
+    pub damage: Damage,
+}
+
+/// Which call finds the sealed half damaged.
+#[derive(Clone, Copy, PartialEq, Eq)]
+pub enum Damage {
+    /// None does.
+    Never,
+    /// The one that begins a checkpoint.
+    Begin,
+    /// The one that writes a chunk of it.
+    Chunk,
+}
+
+/// Nothing is refused.
+pub const NONE: Refusals = Refusals {
+    stagings: 0,
+    publishings: 0,
+    preparations: 0,
+    beginnings: 0,
+    damage: Damage::Never,
+};
+
+/// A state, with what more it refuses.
 #[derive(Drop)]
 pub struct Scarce<'a, S> {
     steps: &'a S,
     stagings: AtomicU64,
     publishings: AtomicU64,
+    preparations: AtomicU64,
+    beginnings: AtomicU64,
+    damage: Damage,
 }
 
 impl<'a, S: Steps> Scarce<'a, S> {
-    /// A state of which the next stagings and publishings are refused memory, this number of each.
-    pub fn new(steps: &'a S, stagings: u64, publishings: u64) -> Scarce<'a, S> {
+    /// A state that refuses this.
+    pub fn new(steps: &'a S, refusals: Refusals) -> Scarce<'a, S> {
         Scarce {
             steps,
-            stagings: AtomicU64::new(stagings),
-            publishings: AtomicU64::new(publishings),
+            stagings: AtomicU64::new(refusals.stagings),
+            publishings: AtomicU64::new(refusals.publishings),
+            preparations: AtomicU64::new(refusals.preparations),
+            beginnings: AtomicU64::new(refusals.beginnings),
+            damage: refusals.damage,
         }
     }
 }
@@ -109,14 +146,31 @@ impl<S: Steps> Steps for Scarce<'_, S> {
     }
 
     fn prepare(&self) -> Result<Prepared, BeginError> {
+        if is_refused(&self.preparations) {
+            return Err(BeginError::NoMemory);
+        }
         self.steps.prepare()
     }
 
     fn begin(&self) -> Result<Plan, BeginError> {
-        self.steps.begin()
+        if is_refused(&self.beginnings) {
+            return Err(BeginError::NoMemory);
+        }
+        let begun = self.steps.begin();
+        match begun {
+            Ok(plan) if self.damage == Damage::Begin => {
+                self.steps.give_up(plan);
+                Err(BeginError::Damaged)
+            }
+            _ => begun,
+        }
     }
 
     fn write_chunk(&self, value: Plan) -> Result<Plan, StepError<AtPlan>> {
+        if self.damage == Damage::Chunk {
+            self.steps.give_up(value);
+            return Err(StepError::Damaged);
+        }
         self.steps.write_chunk(value)
     }
 

@@ -115,7 +115,7 @@ impl Desks {
     }
 
     /// Asks at the desk of a number, and waits for each answer as a session does over a hub. A
-    /// sleep that ends although the bell has not rung is counted.
+    /// sleep over an answer that ends although the bell has not rung is counted.
     fn ask_all<R: Wait>(&self, rt: &R, ringer: &Ringer, number: u64) {
         for desk in self.desks.iter().skip(number as usize).take(1) {
             for round in 1..=ROUNDS {
@@ -140,7 +140,7 @@ impl Desks {
                 return;
             }
             bell.sleep(rt, seen, Duration::from_secs(LONGEST_SLEEP));
-            if bell.notifications() == seen {
+            if bell.notifications() == seen && desk.answered.load(Ordering::SeqCst) >= round {
                 self.overslept.fetch_add(1, Ordering::SeqCst);
             }
         }
