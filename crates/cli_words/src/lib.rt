@@ -249,7 +249,7 @@ fn with_refusals<'a>(alloc: Global, command: Command<'a>) -> Result<Command<'a>,
     ensures { IfOk result (λ new. (out-Command new).name.now ≡ codes "run") }
 {
     let future =
-        "Refuse a time that lies this number of seconds after now; 0 is no bound [default: 0]";
+        "Refuse a time more than this number of seconds after now; 0 is no bound [default: 0]";
     let spare =
         "Keep this number of the 64 seats for sessions without commands under way, 0 to 56 [default: 8]";
     command

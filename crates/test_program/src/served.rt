@@ -10,6 +10,11 @@ const NO_KIND: &str = "0000000105";
 const PURGES: &str =
     "000000090300000000000000000000000903000000000000000000000009030000000000000000";
 
+/// A purge of all that ever expires, and one of nothing.
+const PURGE_ALL: &str = "0000000903ffffffffffffffff";
+
+const PURGE: &str = "00000009030000000000000000";
+
 /// An empty registration, and a removal of another length than 34.
 const FAULTY: &str = "0000000101000000020400";
 
@@ -62,6 +67,19 @@ pub(crate) const PARTS: &[Part] = &[
         },
         lines: &[(
             "pathd run other --listen ADDR --cores 1-ff00:0:110 --sessions 69 --idle 60 --quiet",
+            &[],
+        )],
+    },
+    Part {
+        what: "a bound of times, and all seats for commands",
+        before: Before::Nothing,
+        peers: Peers {
+            sessions: &[REGISTER_2096, PURGE_ALL, PURGE, LOOKUP],
+            together: 0,
+            silent: 0,
+        },
+        lines: &[(
+            "pathd run other --listen ADDR --cores 1-ff00:0:110 --sessions 4 --idle 60 --future 86400 --spare 0",
             &[],
         )],
     },

@@ -6,6 +6,7 @@ mod accepts;
 mod asking;
 mod doors;
 mod ends;
+mod hanging;
 mod leaving;
 mod pacing;
 mod page;

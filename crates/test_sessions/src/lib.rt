@@ -7,6 +7,8 @@ mod ahead;
 #[cfg(test)]
 mod connections;
 #[cfg(test)]
+mod limits;
+#[cfg(test)]
 mod once;
 #[cfg(test)]
 mod service;

@@ -3,12 +3,12 @@
 //! how often a service asks its clock, and what the machine's clock gives; and what is there where
 //! the device or memory is refused.
 
-mod clocks;
-mod frames;
-mod guests;
+pub(crate) mod clocks;
+pub(crate) mod frames;
+pub(crate) mod guests;
 mod memory;
 mod moments;
 mod readings;
 mod refusals;
 mod sessions;
-mod stores;
+pub(crate) mod stores;

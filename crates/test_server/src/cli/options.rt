@@ -3,8 +3,8 @@
 
 use clap::error::ErrorKind;
 use cli_words::{
-    CHECKPOINT, CORES, CommandLine, DEVICE, FORMAT, GRACE, HEX, IDLE, JOURNAL, KEY, LAYOUT, LISTEN,
-    NOW, ONCE, PEER_SESSIONS, QUIET, RUN, SESSIONS, SHOW, STATUS, STATUS_LISTEN,
+    CHECKPOINT, CORES, CommandLine, DEVICE, FORMAT, FUTURE, GRACE, HEX, IDLE, JOURNAL, KEY, LAYOUT,
+    LISTEN, NOW, ONCE, PEER_SESSIONS, QUIET, RUN, SESSIONS, SHOW, SPARE, STATUS, STATUS_LISTEN,
     STOP_ON_END_OF_INPUT, Subcommand, UPGRADE, read,
 };
 use std::alloc::Global;
@@ -39,10 +39,10 @@ struct Value {
 const ALL_OF_ONCE: &str = "once --cores 1-1,2-2 --now 5 --key 00ff --hex";
 
 const ALL_OF_RUN: &str =
-    "run --quiet --grace 4294967295 --stop-on-end-of-input --peer-sessions 18446744073709551615 --idle 4294967295 --sessions 18446744073709551615 --key 00 --cores 1-1 --status [::1]:1 --listen [::1]:0 d";
+    "run --quiet --grace 4294967295 --stop-on-end-of-input --peer-sessions 18446744073709551615 --idle 4294967295 --future 4294967295 --spare 56 --sessions 18446744073709551615 --key 00 --cores 1-1 --status [::1]:1 --listen [::1]:0 d";
 
 #[rattlefmt::skip]
-const VALUES: [Value; 32] = [
+const VALUES: [Value; 36] = [
     Value { line: ALL_OF_ONCE, command: ONCE, option: CORES, value: Some("1-1,2-2") },
     Value { line: ALL_OF_ONCE, command: ONCE, option: NOW, value: Some("5") },
     Value { line: ALL_OF_ONCE, command: ONCE, option: KEY, value: Some("00ff") },
@@ -67,6 +67,8 @@ const VALUES: [Value; 32] = [
     Value { line: ALL_OF_RUN, command: RUN, option: IDLE, value: Some("4294967295") },
     Value { line: ALL_OF_RUN, command: RUN, option: PEER_SESSIONS, value: Some("18446744073709551615") },
     Value { line: ALL_OF_RUN, command: RUN, option: GRACE, value: Some("4294967295") },
+    Value { line: ALL_OF_RUN, command: RUN, option: FUTURE, value: Some("4294967295") },
+    Value { line: ALL_OF_RUN, command: RUN, option: SPARE, value: Some("56") },
     Value { line: ALL_OF_RUN, command: RUN, option: CORES, value: Some("1-1") },
     Value { line: ALL_OF_RUN, command: RUN, option: KEY, value: Some("00") },
     Value { line: "run d --listen a", command: RUN, option: LISTEN, value: Some("a") },
@@ -75,6 +77,8 @@ const VALUES: [Value; 32] = [
     Value { line: "run d --listen a", command: RUN, option: IDLE, value: None },
     Value { line: "run d --listen a", command: RUN, option: PEER_SESSIONS, value: None },
     Value { line: "run d --listen a", command: RUN, option: GRACE, value: None },
+    Value { line: "run d --listen a", command: RUN, option: FUTURE, value: None },
+    Value { line: "run d --listen a", command: RUN, option: SPARE, value: None },
 ];
 
 /// Sees the value of an option.
@@ -145,7 +149,7 @@ fn flags(rt: HostRuntime) {
 
 /// Lines that are refused, and how.
 #[rattlefmt::skip]
-const REFUSED: [(&str, ErrorKind); 31] = [
+const REFUSED: [(&str, ErrorKind); 36] = [
     ("run --version", ErrorKind::UnknownArgument),
     ("once d", ErrorKind::UnknownArgument),
     ("once --now", ErrorKind::InvalidValue),
@@ -177,6 +181,11 @@ const REFUSED: [(&str, ErrorKind); 31] = [
     ("run d --listen a --peer-sessions +1", ErrorKind::ValueValidation),
     ("run d --listen a --grace +1", ErrorKind::ValueValidation),
     ("run d --listen a --grace 4294967296", ErrorKind::ValueValidation),
+    ("run d --listen a --future 4294967296", ErrorKind::ValueValidation),
+    ("run d --listen a --future +1", ErrorKind::ValueValidation),
+    ("run d --listen a --spare 57", ErrorKind::ValueValidation),
+    ("run d --listen a --spare +8", ErrorKind::ValueValidation),
+    ("once --future 1", ErrorKind::UnknownArgument),
 ];
 
 /// Sees how a line is refused.

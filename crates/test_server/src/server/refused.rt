@@ -34,6 +34,8 @@ fn has_threads<R: World>(rt: R, alloc: Global, status: Option<Broken>) -> bool {
         sessions: 0,
         peer_sessions: 0,
         idle: None,
+        future: None,
+        spare: 0,
         grace: Duration::from_millis(100),
     };
     let counts = Counts::new();

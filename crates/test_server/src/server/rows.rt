@@ -2,7 +2,7 @@
 
 use crate::server::peers::{Peer, replies};
 use crate::server::stores::{LEAST, assert_opens_to, formatted};
-use crate::server::worlds::{Clients, Counts, Outside, options, serve_clients};
+use crate::server::worlds::{Clients, Counts, Outside, World, options, serve_clients};
 use seg_check::Keyed;
 use std::alloc::Global;
 use std::io;
@@ -108,4 +108,67 @@ fn signatures_are_checked_by_the_key(rt: HostRuntime) -> Result<(), Fail> {
     assert_eq!(rt; seen.as_str().strip_prefix(NO_SIGNATURE), Some(NOTHING));
     let _device = assert_opens_to(&rt, alloc, device, 0, 0);
     Ok(())
+}
+
+/// The refusal of a time that lies in the future.
+const IN_THE_FUTURE: &str = "00000002ff33";
+
+/// The purge of all that ever expires.
+const PURGE_ALL: &str = "0000000903ffffffffffffffff";
+
+/// Registers a segment of the year 2096, looks it up, and purges all and nothing.
+struct Early;
+
+impl Clients for Early {
+    type Seen = [String; 4];
+
+    fn meet<R: Outside>(&self, rt: R, alloc: Global, to: SocketAddr) -> io::Result<[String; 4]> {
+        let registered = replies(rt, alloc, to, REGISTRATION)?;
+        let found = replies(rt, alloc, to, LOOKUP)?;
+        let all = replies(rt, alloc, to, PURGE_ALL)?;
+        let none = replies(rt, alloc, to, PURGE)?;
+        Ok([registered, found, all, none])
+    }
+}
+
+/// Sees what a server with this bound replies to these sessions.
+fn assert_early<R: World>(
+    rt: R,
+    alloc: Global,
+    bound: Option<u64>,
+    wanted: [&str; 4],
+    (rows, place): (usize, u64),
+) {
+    let device = formatted(&rt, alloc, LEAST);
+    let mut options = options(&rt, alloc, 4);
+    options.future = bound;
+    let (device, served, seen) = serve_clients(rt, alloc, device, &options, &Early, &Counts::new());
+    assert_eq!(&rt; served, Ok(4));
+    let Ok(seen) = seen else {
+        panic!(&rt; "a session failed");
+    };
+    for (replies, wanted) in seen.iter().zip(&wanted) {
+        assert_eq!(&rt; replies.as_str(), *wanted);
+    }
+    let _device = assert_opens_to(&rt, alloc, device, rows, place);
+}
+
+#[test]
+fn times_in_the_future_are_refused(rt: HostRuntime) {
+    let first = "0000001983000000000000000000000000000000000000000000000000";
+    let wanted = [IN_THE_FUTURE, NOTHING, IN_THE_FUTURE, first];
+    assert_early(&rt, rt.alloc(), Some(86_400), wanted, (0, 1));
+}
+
+// Without a bound, and with one of 4,000,000,000 seconds, the segment is taken. The purge of all is
+// refused by that bound.
+#[test]
+fn times_within_a_bound_are_taken(rt: HostRuntime) {
+    let second = "0000001983000000000000000100000000000000000000000000000000";
+    let wanted = [REGISTERED, FOUND, IN_THE_FUTURE, second];
+    assert_early(&rt, rt.alloc(), Some(4_000_000_000), wanted, (1, 2));
+    let all = "0000001983000000000000000100000000000000000000000000000001";
+    let third = "0000001983000000000000000200000000000000000000000000000000";
+    let wanted = [REGISTERED, FOUND, all, third];
+    assert_early(&rt, rt.alloc(), None, wanted, (0, 3));
 }

@@ -126,6 +126,8 @@ pub(crate) fn options(rt: &impl Abort, alloc: Global, sessions: u64) -> Options 
         sessions,
         peer_sessions: 0,
         idle: Some(Duration::from_secs(10)),
+        future: None,
+        spare: 0,
         grace: Duration::from_millis(100),
     }
 }

@@ -3,7 +3,7 @@
 use crate::ahead::clocks::Counts;
 use crate::ahead::host::Host;
 use isd_as::IsdAs;
-use path_hub::{Crew, Hub, HubName, with_crew};
+use path_hub::{Crew, Hub, HubName, Patient, with_crew};
 use path_session::{FrameError, HubService, serve};
 use sector_dev::Device;
 use seg_check::TrustAll;
@@ -125,7 +125,14 @@ pub(crate) fn served<D: Device, N: HubName, R: Wait + Clock + Abort, W: Write>(
     let Ok(reader) = hub.reader() else {
         panic!(rt; "no reader");
     };
-    let mut service = HubService::new(hub, reader, &TrustAll, Counts::after(moment), &roster);
+    let mut service = HubService::new(
+        hub,
+        reader,
+        &TrustAll,
+        Counts::after(moment),
+        &roster,
+        Patient,
+    );
     let mut input = frames;
     let ended = serve(alloc, &mut input, writer, &mut service, TURNS);
     hub.give_back(service.into_reader());

@@ -3,7 +3,7 @@
 
 use crate::service::clocks::Counts;
 use crate::service::stores::opened;
-use path_hub::{Crew, Hub, HubName, with_crew};
+use path_hub::{Crew, Hub, HubName, Patient, with_crew};
 use path_session::{HubService, serve};
 use sector_dev::Device;
 use seg_check::TrustAll;
@@ -120,7 +120,7 @@ pub(crate) fn session<D: Device, N: HubName, R: Wait + Clock, I: Read>(
     replies: &mut Vec<u8>,
 ) -> Option<()> {
     let reader = hub.reader().ok()?;
-    let mut service = HubService::new(hub, reader, &TrustAll, clock, cores);
+    let mut service = HubService::new(hub, reader, &TrustAll, clock, cores, Patient);
     let ended = serve(alloc, input, replies, &mut service, TURNS);
     hub.give_back(service.into_reader());
     ended.ok()?;

@@ -6,7 +6,7 @@ use crate::service::clocks::Counts;
 use crate::service::frames::{FOUND, LOOKUP, REGISTER, joined};
 use crate::service::guests::{TURNS, Talk, talked};
 use crate::service::stores::{assert_opens_to, cores, new_store};
-use path_hub::{Hub, HubName};
+use path_hub::{Hub, HubName, Patient};
 use path_session::{Ack, Code, FrameError, HubService, Outcome, Service, serve};
 use sector_dev::Device;
 use seg_check::TrustAll;
@@ -167,7 +167,14 @@ impl Talk for Again {
             ends: body_of(&ends),
         };
         let reader = hub.reader().ok()?;
-        let mut service = HubService::new(hub, reader, &TrustAll, Counts::after(0), &roster);
+        let mut service = HubService::new(
+            hub,
+            reader,
+            &TrustAll,
+            Counts::after(0),
+            &roster,
+            Patient,
+        );
         call(rt, self.alloc, &mut service, bodies);
         hub.give_back(service.into_reader());
         Some(Vec::new(self.alloc))
@@ -238,7 +245,7 @@ fn looked_up<D: Device, N: HubName, R: Wait + Clock + Abort>(
     let mut written = replies_but(rt, alloc, LOOKUPS);
     written.clear();
     let reader = hub.reader().ok()?;
-    let mut service = HubService::new(hub, reader, &TrustAll, Counts::after(0), &roster);
+    let mut service = HubService::new(hub, reader, &TrustAll, Counts::after(0), &roster, Patient);
     let mut input = frames.as_slice();
     let ended = serve(alloc, &mut input, &mut written, &mut service, TURNS);
     hub.give_back(service.into_reader());
@@ -259,7 +266,14 @@ impl Talk for Sessions {
             ends: body_of(&ends),
         };
         let reader = hub.reader().ok()?;
-        let mut service = HubService::new(hub, reader, &TrustAll, Counts::after(0), &roster);
+        let mut service = HubService::new(
+            hub,
+            reader,
+            &TrustAll,
+            Counts::after(0),
+            &roster,
+            Patient,
+        );
         let ack = answer_again(rt, self.alloc, &mut service, bodies, (Act::Register, 0));
         assert_eq!(rt; ack.place, 0);
         hub.give_back(service.into_reader());

@@ -7,7 +7,7 @@ use crate::service::frames::{
 };
 use crate::service::guests::{TURNS, Talk, session, talked};
 use crate::service::stores::{assert_opens_to, cores, new_store};
-use path_hub::{Hub, HubName};
+use path_hub::{Hub, HubName, Patient};
 use path_session::{HubService, serve};
 use sector_dev::Device;
 use seg_check::TrustAll;
@@ -154,8 +154,15 @@ impl Talk for Pair {
         let mut replies = Vec::new(alloc);
         let reader = hub.reader().ok()?;
         let another = hub.reader().ok()?;
-        let mut one = HubService::new(hub, reader, &TrustAll, Counts::after(0), &roster);
-        let mut other = HubService::new(hub, another, &TrustAll, Counts::after(0), &roster);
+        let mut one = HubService::new(hub, reader, &TrustAll, Counts::after(0), &roster, Patient);
+        let mut other = HubService::new(
+            hub,
+            another,
+            &TrustAll,
+            Counts::after(0),
+            &roster,
+            Patient,
+        );
         let ended = [
             serve(
                 alloc,

@@ -32,7 +32,7 @@ pub(crate) fn cores(rt: &impl Abort, alloc: Global) -> Roster {
 }
 
 /// A new store's device. Where memory is refused, it is asked for once more.
-fn formatted(rt: &impl Abort, alloc: Global) -> MemDevice {
+pub(crate) fn formatted(rt: &impl Abort, alloc: Global) -> MemDevice {
     let sectors = LEAST.sectors();
     assert!(rt; sectors <= 4096);
     let made = match MemDevice::new(alloc, sectors) {

@@ -1,0 +1,9 @@
+//! Tests of the limits of a session, through `session_limits`, and of a session that waits for a
+//! peer who leaves, over a hub whose actors run. They see what no clause says: that what a message
+//! is refused by is not in the store afterwards, that a command goes on for which nobody waits, how
+//! many sessions have room, and that lookups are answered while the device holds a sync.
+
+mod future;
+mod leaving;
+mod rooms;
+mod sessions;
