@@ -25,6 +25,7 @@ const (
 	TooLarge        Code = 0x2a
 	BadSignature    Code = 0x31
 	Expired         Code = 0x32
+	Future          Code = 0x33
 	NullDestination Code = 0x41
 	IsdOnlyWildcard Code = 0x42
 	NoCore          Code = 0x43
@@ -36,6 +37,7 @@ const (
 	OldStore        Code = 0x57
 	NoSession       Code = 0x61
 	Unsettled       Code = 0x62
+	NotAwaited      Code = 0x63
 )
 
 var texts = map[Code]string{
@@ -56,6 +58,7 @@ var texts = map[Code]string{
 	TooLarge:        "a segment or the registration is too large",
 	BadSignature:    "the signature of an entry is not good",
 	Expired:         "a segment has expired",
+	Future:          "a time lies too far in the future",
 	NullDestination: "both sides of the lookup are 0-0",
 	IsdOnlyWildcard: "a side has the ISD 0, and an AS other than 0",
 	NoCore:          "neither side is a core AS",
@@ -67,6 +70,7 @@ var texts = map[Code]string{
 	OldStore:        "the store is of a version that has no removals",
 	NoSession:       "the server has no room for the session, and has closed it",
 	Unsettled:       "the store stopped before the command was committed, which may be kept or lost",
+	NotAwaited:      "this side had ended, and the server waits no longer for the commit, which may come yet",
 }
 
 // When it helps to send a request again; never after the others.
@@ -74,6 +78,7 @@ var again = map[Code]string{
 	NoMemory:     "after a pause",
 	BadSignature: "once the segment is signed by the key",
 	Expired:      "once the segment is made with a later expiry, or the clock is mended",
+	Future:       "once the time is nearer, or the clock is mended",
 	Busy:         "after a pause",
 	Full:         "after a purge",
 	Stopped:      "at another server, or after a restart",
@@ -81,6 +86,7 @@ var again = map[Code]string{
 	OldStore:     "after the store's first checkpoint",
 	NoSession:    "on a new connection, after a pause",
 	Unsettled:    "at another server, or after a restart",
+	NotAwaited:   "on a new connection, after a pause",
 }
 
 // Error says what the code means.
@@ -103,5 +109,5 @@ func (c Code) IsPassing() bool {
 
 // IsUnsettled answers whether the command may be committed in spite of the refusal.
 func (c Code) IsUnsettled() bool {
-	return c == Unsettled
+	return c == Unsettled || c == NotAwaited
 }

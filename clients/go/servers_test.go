@@ -143,7 +143,7 @@ func TestRefusalsOfServers(t *testing.T) {
 	if !errors.As(err, &few) || few.Unwrap() != nil || results[1].Err != Full {
 		t.Errorf("%v, %v", results, err)
 	}
-	for _, code := range []Code{NoMemory, Busy, Stopped, Unsettled} {
+	for _, code := range []Code{NoMemory, Busy, Stopped, Unsettled, NotAwaited} {
 		left := 2
 		store := running(t, func(content []byte) []byte { // of one session, so never at one time
 			if left--; left >= 0 {

@@ -40,6 +40,11 @@ class Code(IntEnum):
         "a segment has expired",
         "once the segment is made with a later expiry, or the clock is mended",
     )
+    FUTURE = (
+        0x33,
+        "a time lies too far in the future",
+        "once the time is nearer, or the clock is mended",
+    )
     NULL_DESTINATION = 0x41, "both sides are 0-0"
     ISD_ONLY_WILDCARD = 0x42, "a side has an AS, and no ISD"
     NO_CORE = 0x43, "neither side is a core AS"
@@ -63,10 +68,15 @@ class Code(IntEnum):
         "the store stopped before the command was committed: it may be kept or lost",
         "at another server, or after a restart",
     )
+    NOT_AWAITED = (
+        0x63,
+        "this side had ended, and the server waits no longer for the commit: it may come yet",
+        "on a new connection, after a pause",
+    )
 
 
 # After these refusals a server has changed nothing, and the same request may succeed later.
 PASSING_CODES = frozenset({Code.MEMORY, Code.BUSY, Code.NO_SEAT})
 
 # After these refusals the command may be committed all the same.
-UNSETTLED_CODES = frozenset({Code.OUTCOME_UNKNOWN})
+UNSETTLED_CODES = frozenset({Code.OUTCOME_UNKNOWN, Code.NOT_AWAITED})

@@ -5,7 +5,7 @@ import threading
 from collections.abc import Sequence
 from dataclasses import dataclass
 
-from .codes import PASSING_CODES, Code
+from .codes import PASSING_CODES, UNSETTLED_CODES, Code
 from .deliveries import Delivery
 from .errors import SessionError
 from .queues import Bounds, CommandQueue
@@ -14,7 +14,7 @@ from .retries import Retry
 from .sessions import Session
 
 # After these refusals a command is sent again: later, or once the server was started again.
-SENT_AGAIN = PASSING_CODES | {Code.STOPPED, Code.OUTCOME_UNKNOWN}
+SENT_AGAIN = PASSING_CODES | UNSETTLED_CODES | {Code.STOPPED}
 
 # How long a thread that ends is waited for before its connection is ended once more, in seconds.
 LOOK_AGAIN = 0.05

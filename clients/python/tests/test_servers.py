@@ -137,7 +137,7 @@ class Commands(unittest.TestCase):
                 self.assertIn(servers.command(PURGE), ([TAKEN, None], [TAKEN, full]))
 
     def test_refusals_that_pass(self) -> None:
-        for code in (Code.MEMORY, Code.BUSY, Code.STOPPED, Code.OUTCOME_UNKNOWN):
+        for code in (Code.MEMORY, Code.BUSY, Code.STOPPED, Code.OUTCOME_UNKNOWN, Code.NOT_AWAITED):
             codes = [code, code]
 
             def answer(content: bytes, codes: list[Code] = codes) -> bytes:

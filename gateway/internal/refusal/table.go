@@ -32,6 +32,7 @@ var table = map[Code]Meaning{
 	0x2a: {never, "TooLarge", "a segment or the registration is too large"},
 	0x31: {never, "BadSignature", "the signature of an entry is not good"},
 	0x32: {never, "Expired", "a segment has expired"},
+	0x33: {never, "Future", "a time lies too far in the future"},
 	0x41: {never, "NullDestination", "both sides of the lookup are 0-0"},
 	0x42: {never, "IsdOnlyWildcard", "a side has the ISD 0, and an AS other than 0"},
 	0x43: {never, "NoCore", "neither side is core"},
@@ -43,4 +44,5 @@ var table = map[Code]Meaning{
 	0x57: {operator, "OldStore", "the store is of a version that has no removals"},
 	0x61: {soon, "", "the server has no room for the session"},
 	0x62: {unsure, "", "the store stopped before the command was committed"},
+	0x63: {unsure, "", "the server waits no longer for the commit"},
 }
