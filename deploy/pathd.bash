@@ -7,14 +7,14 @@ _pathd() {
     words="once format show status upgrade run help -h --help -V --version"
   else
     case $previous in
-      --checkpoint | --journal | --listen | --status | --cores | --key | --sessions | --peer-sessions | --idle | --grace | --now) return ;;
+      --checkpoint | --journal | --listen | --status | --cores | --key | --sessions | --peer-sessions | --idle | --future | --spare | --grace | --now) return ;;
     esac
     case ${COMP_WORDS[1]} in
       once) words="--cores --now --key --hex -h --help" ;;
       format) words="--checkpoint --journal -h --help" ;;
       show) words="--layout -h --help" ;;
       status | upgrade) words="-h --help" ;;
-      run) words="--listen --status --cores --key --sessions --peer-sessions --idle --stop-on-end-of-input --grace --quiet -h --help" ;;
+      run) words="--listen --status --cores --key --sessions --peer-sessions --idle --future --spare --stop-on-end-of-input --grace --quiet -h --help" ;;
       help) words="once format show status upgrade run help" ;;
       *) return ;;
     esac

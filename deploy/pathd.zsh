@@ -57,6 +57,8 @@ _pathd() {
         '--sessions[end after this number of sessions]:N:' \
         '--peer-sessions[sessions that one address may have open]:N:' \
         '--idle[end a session whose peer is silent for so long]:SECONDS:' \
+        '--future[refuse a time more than so long after now]:SECONDS:' \
+        '--spare[seats for sessions without commands under way]:SEATS:' \
         '--stop-on-end-of-input[end once standard input has ended]' \
         '--grace[how long open sessions have at such an end]:SECONDS:' \
         '--quiet[print only why the program ends]' \
