@@ -8,6 +8,7 @@ import subprocess
 import time
 from collections.abc import Sequence
 from dataclasses import dataclass
+from functools import cache
 from pathlib import Path
 
 from pathd_tools import TOP
@@ -104,9 +105,16 @@ class Server:
         self.kill()
 
 
+@cache
+def all_seats(program: Path) -> list[str]:
+    """The words by which all seats of a server may have commands under way; an earlier program has none."""
+    told = subprocess.run([program, "run", "--help"], check=True, capture_output=True, text=True).stdout
+    return ["--spare", "0"] if "--spare" in told else []
+
+
 def pathd(programs: Programs, store: Path, microseconds: int | None = None, made: int = 0) -> Server:
     """`pathd` over a store that is there; without preloaded syncs where no microseconds are given."""
-    words = [programs.pathd, "run", store, "--listen", "127.0.0.1:0", "--cores", CORE]
+    words = [programs.pathd, "run", store, "--listen", "127.0.0.1:0", "--cores", CORE, *all_seats(programs.pathd)]
     server = Server(words, store.parent, programs.slow_sync if microseconds is not None else None, microseconds or 0, "ready")
     server.made = made
     return server

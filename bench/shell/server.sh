@@ -71,7 +71,10 @@ stop() {
 pathd_started() { # with this preloaded library, or none, and this many microseconds a sync
   rm -f "$store/store"
   "$pathd" format "$store/store" --checkpoint 65536 --journal 65536 > /dev/null
-  started env LD_PRELOAD="$1" SYNC_MICROSECONDS="$2" "$pathd" run "$store/store" --listen 127.0.0.1:0 --cores 1-ff00:0:110
+  # All seats may have commands under way; an earlier program has no such option.
+  local seats=()
+  if "$pathd" run --help | grep -e --spare >/dev/null; then seats=(--spare 0); fi
+  started env LD_PRELOAD="$1" SYNC_MICROSECONDS="$2" "$pathd" run "$store/store" --listen 127.0.0.1:0 --cores 1-ff00:0:110 "${seats[@]}"
 }
 
 rival_started() { # this rival
