@@ -50,20 +50,17 @@ func (o ClientOptions) filled() ClientOptions {
 // tried no more often than Attempts, and not where its session was stuck.
 type Client struct {
 	attempts          int
-	lookups, commands pool
+	lookups, commands *pool
 }
 
 // NewClient answers a client of the server at an address, such as 127.0.0.1:30252. Nothing is
 // connected before it is needed.
 func NewClient(address string, options ClientOptions) *Client {
 	options = options.filled()
-	links := func(count int) (made pool) {
-		for len(made) < count {
-			made = append(made, newLink(address, options.Dialer, options.Patience, options.Window))
-		}
-		return made
+	sessions := func(count int) *pool {
+		return newPool(address, options.Dialer, options.Patience, options.Window, count)
 	}
-	return &Client{options.Attempts, links(options.Lookups), links(options.Commands)}
+	return &Client{options.Attempts, sessions(options.Lookups), sessions(options.Commands)}
 }
 
 // Dial answers a client of the server at an address, with a session for lookups. The context bounds
@@ -136,13 +133,12 @@ func (c *Client) Ask(ctx context.Context, kind Kind, body []byte) ([]byte, error
 		if err == nil || attempt >= c.attempts || !mayRepeat(kind, err) {
 			return reply, err
 		}
+		// A server that was started again has ended all sessions: no pause then.
 		var ended *SessionError
-		if isEnd := errors.As(err, &ended); isEnd && wasOpen {
-			continue // as a server that was started again ends all sessions
-		}
-		if !between.wait(ctx) {
+		if isEnd := errors.As(err, &ended); !(isEnd && wasOpen) && !between.wait(ctx) {
 			return nil, err
 		}
+		sessions.counts.repeated.Add(1)
 	}
 }
 

@@ -1,6 +1,7 @@
 package pathd
 
 import (
+	"bufio"
 	"context"
 	"encoding/binary"
 	"encoding/csv"
@@ -20,13 +21,14 @@ const limit = 60 * time.Second
 
 // server is a pathd that a test plays: it reads requests, and writes frames as the test says.
 type server struct {
-	t    *testing.T
-	conn net.Conn
+	t      *testing.T
+	conn   net.Conn
+	stream *bufio.Reader
 }
 
 // session answers the session for commands.
 func (c *Client) session() *session {
-	return c.commands[0].current.Load()
+	return c.commands.links[0].current.Load()
 }
 
 // open answers a client that has one session for all requests, and the server's end of it.
@@ -48,12 +50,12 @@ func open(t *testing.T) (*Client, *server, context.Context) {
 	}
 	conn.SetDeadline(time.Now().Add(limit))
 	t.Cleanup(func() { client.Close(); conn.Close(); cancel() })
-	return client, &server{t, conn}, ctx
+	return client, &server{t, conn, bufio.NewReader(conn)}, ctx
 }
 
 // next answers the kind and the body of the next request.
 func (s *server) next() (byte, []byte) {
-	content, err := readContent(s.conn)
+	content, err := readContent(s.stream)
 	if err != nil {
 		s.t.Error(err)
 		return 0, nil
@@ -264,7 +266,7 @@ func TestSessionsThatEnd(t *testing.T) {
 			}
 			_, err := client.session().ask(ctx, purge, purgeBody(0))
 			var ended *SessionError
-			if !errors.Is(err, c.wanted) || !errors.As(err, &ended) || ended.Address != client.commands[0].address {
+			if !errors.Is(err, c.wanted) || !errors.As(err, &ended) || ended.Address != client.commands.links[0].address {
 				t.Error(err)
 			}
 		})
@@ -287,7 +289,7 @@ func TestClosing(t *testing.T) {
 
 func TestWhatNoFrameHasRoomFor(t *testing.T) {
 	client, _, ctx := open(t)
-	large := &pb.PathSegment{SegmentInfo: make([]byte, mostRequest)}
+	large := &pb.PathSegment{SegmentInfo: make([]byte, MostRequest)}
 	segments := map[int32]*pb.Segments{1: {Segments: []*pb.PathSegment{large}}}
 	if _, err := client.Register(ctx, &pb.SegmentsRegistrationRequest{Segments: segments}); err != ErrTooLarge {
 		t.Error(err)

@@ -13,6 +13,7 @@ type link struct {
 	dialer   Dialer
 	patience time.Duration
 	window   int
+	counts   *counts
 
 	current atomic.Pointer[session]
 	tried   atomic.Int64  // when openSoon was called last to any effect, in nanoseconds
@@ -23,8 +24,9 @@ type link struct {
 	end     context.CancelFunc
 }
 
-func newLink(address string, dialer Dialer, patience time.Duration, window int) *link {
-	l := &link{address: address, dialer: dialer, patience: patience, window: window, turn: make(chan struct{}, 1)}
+func newLink(address string, dialer Dialer, patience time.Duration, window int, counts *counts) *link {
+	l := &link{address: address, dialer: dialer, patience: patience, window: window, counts: counts}
+	l.turn = make(chan struct{}, 1)
 	l.life, l.end = context.WithCancel(context.Background())
 	l.turn <- struct{}{}
 	return l
@@ -39,7 +41,8 @@ func (l *link) open() *session {
 }
 
 // session answers the open session, or a new one. Goroutines that wait for one which can't be opened
-// have the error of one attempt.
+// have the error of one attempt, as those that come shortly after it: connections are not tried in a
+// loop.
 func (l *link) session(ctx context.Context) (*session, error) {
 	if s := l.open(); s != nil {
 		return s, nil
@@ -57,14 +60,15 @@ func (l *link) session(ctx context.Context) (*session, error) {
 	if s := l.open(); s != nil {
 		return s, nil
 	}
-	if l.failed.After(asked) {
+	if l.failed.After(asked) || time.Since(l.failed) < shortestPause {
 		return nil, l.err
 	}
 	conn, err := l.dialer.DialContext(ctx, l.address)
 	if err != nil {
 		return nil, l.fail(ctx, err)
 	}
-	s := newSession(conn, l.address, l.patience, l.window)
+	l.counts.opened.Add(1)
+	s := newSession(conn, l)
 	l.current.Store(s)
 	return s, nil
 }
@@ -83,6 +87,7 @@ func (l *link) fail(ctx context.Context, err error) error {
 	if ctx.Err() != nil {
 		return ctx.Err()
 	}
+	l.counts.failed.Add(1)
 	l.failed, l.err = time.Now(), &SessionError{Address: l.address, Err: err}
 	return l.err
 }

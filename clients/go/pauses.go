@@ -6,10 +6,12 @@ import (
 	"time"
 )
 
-// The shortest and the longest pause before a server is tried again.
+// The pauses before a server is tried again: at least and at most so long. The first one is chosen
+// from the half below firstPause.
 const (
-	firstPause   = 100 * time.Millisecond
-	longestPause = 2 * time.Second
+	shortestPause = firstPause / 2
+	firstPause    = 100 * time.Millisecond
+	longestPause  = 2 * time.Second
 )
 
 // pauses are those between attempts. They double, less a random part of at most a half, so that the

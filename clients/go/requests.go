@@ -29,11 +29,16 @@ const (
 	replied, refused byte = 0x80, 0xff
 )
 
+// The most bytes of the body of a request, and of that of a reply.
 const (
-	// The most bytes after the length of a request, and of a reply.
-	mostRequest, mostReply = 131_073, 1_114_112
-	// The bytes of the body of an acknowledgement.
-	ackSize = 24
+	MostRequest = 131_072
+	MostReply   = 1_114_111
+)
+
+const (
+	lengthSize = 4              // the bytes of a frame's length
+	frameHead  = lengthSize + 1 // and with its kind
+	ackSize    = 24             // the bytes of the body of an acknowledgement
 )
 
 // Ack is the reply to a command that was taken: its place among the commands, and how many segments

@@ -66,9 +66,9 @@ func NewServers(addresses []string, options Options) (*Servers, error) {
 	ctx, end := context.WithCancel(context.Background())
 	s := &Servers{options: options.filled(), end: end, changed: make(chan struct{})}
 	for number, address := range addresses {
-		s.lookups = append(s.lookups, newLink(address, options.Dialer, 0, window))
+		s.lookups = append(s.lookups, newLink(address, options.Dialer, 0, window, new(counts)))
 		s.senders = append(s.senders, &sender{
-			servers: s, number: number, link: newLink(address, options.Dialer, 0, window),
+			servers: s, number: number, link: newLink(address, options.Dialer, 0, window, new(counts)),
 			queue: queue{most: s.options.Commands, mostBytes: s.options.Bytes},
 		})
 	}
@@ -175,7 +175,7 @@ func (s *Servers) States() (states []State) {
 
 // command puts a command into each queue, in one order of all calls, and waits.
 func (s *Servers) command(ctx context.Context, kind byte, body []byte) ([]Result, error) {
-	if 1+len(body) > mostRequest {
+	if len(body) > MostRequest {
 		return nil, ErrTooLarge
 	}
 	d := newDelivery(kind, body, len(s.senders))

@@ -9,6 +9,7 @@ import (
 	"io"
 	"net"
 	"os"
+	"runtime"
 	"sync"
 	"time"
 )
@@ -19,6 +20,11 @@ const (
 	window = 64
 	// How long replies are waited for after requests could not be sent: the server may have said why.
 	lastReplies = time.Second
+	// The most bytes of requests without a reply that a caller writes itself: the system has room for
+	// so many, and the write doesn't wait for the server.
+	easy = 1 << 16
+	// The most bytes of a buffer of requests that is kept.
+	mostKept = 1 << 18
 )
 
 type result struct {
@@ -29,35 +35,45 @@ type result struct {
 // call is a request in a session.
 type call struct {
 	kind  byte
-	begun time.Time
-	sent  bool // at least in part
+	size  int       // the bytes of its frame
+	begun time.Time // where the session has patience
+	sent  bool      // at least in part
 	// Has room for the result, so that nobody has to wait for it.
 	result chan result
 }
+
+// calls has those whose results were taken, to be used again.
+var calls = sync.Pool{New: func() any { return &call{result: make(chan result, 1)} }}
 
 // session is a connection whose requests are sent without waiting for the replies between them. Any
 // number of goroutines may use it. It is not opened again once it ended.
 type session struct {
 	conn     net.Conn
+	isSystem bool // whether the system has buffers for what is written
 	address  string
 	patience time.Duration // how long the oldest request may wait for its reply; 0 for ever
+	counts   *counts
 	room     chan struct{} // has an element for each request under way
-	wake     chan struct{} // has an element where there may be something to send
 	ended    chan struct{}
 
-	lock    sync.Mutex
-	pending []*call // in order, without a reply
-	unsent  []byte  // the frames of the last of them
-	broken  error   // why nothing more can be sent
-	err     error   // why the session ended; not changed once ended is closed
+	lock      sync.Mutex
+	pending   []*call   // in order, without a reply
+	waiting   int       // the bytes of their frames
+	unsent    []byte    // the frames of the last of them
+	spare     []byte    // the buffer of the frames before those
+	isWriting bool      // whether somebody writes, or nothing can be sent any more
+	isTimed   bool      // whether reads have a deadline
+	broken    error     // why nothing more can be sent
+	until     time.Time // how long replies are waited for then
+	err       error     // why the session ended; not changed once ended is closed
 }
 
-func newSession(conn net.Conn, address string, patience time.Duration, window int) *session {
+func newSession(conn net.Conn, l *link) *session {
+	_, isSystem := conn.(*net.TCPConn)
 	s := &session{
-		conn: conn, address: address, patience: patience,
-		room: make(chan struct{}, window), wake: make(chan struct{}, 1), ended: make(chan struct{}),
+		conn: conn, isSystem: isSystem, address: l.address, patience: l.patience, counts: l.counts,
+		room: make(chan struct{}, l.window), ended: make(chan struct{}),
 	}
-	go s.send()
 	go s.receive()
 	return s
 }
@@ -86,9 +102,10 @@ func (s *session) ask(ctx context.Context, kind byte, body []byte) ([]byte, erro
 	return asked.await(ctx)
 }
 
-// begin has a request sent after those before it, once the session has room for it.
+// begin has a request sent after those before it, once the session has room for it. Whoever comes
+// first while nobody writes does so for all that come meanwhile: many requests are one write.
 func (s *session) begin(ctx context.Context, kind byte, body []byte) (*call, error) {
-	if 1+len(body) > mostRequest {
+	if len(body) > MostRequest {
 		return nil, ErrTooLarge
 	}
 	if err := ctx.Err(); err != nil {
@@ -101,65 +118,59 @@ func (s *session) begin(ctx context.Context, kind byte, body []byte) (*call, err
 	case <-s.ended:
 		return nil, s.fault(false)
 	}
-	asked := &call{kind: kind, begun: time.Now(), result: make(chan result, 1)}
-	if !s.put(asked, body) {
+	asked := calls.Get().(*call)
+	asked.kind, asked.size, asked.sent = kind, frameHead+len(body), false
+	isPut, isWriter := s.put(asked, body)
+	if !isPut {
 		<-s.room
 		return nil, s.fault(false)
 	}
-	select {
-	case s.wake <- struct{}{}:
-	default:
+	if isWriter && s.underWay() > 1 {
+		runtime.Gosched() // others may have requests for the same write
+	}
+	if isWriter {
+		s.write(true)
 	}
 	return asked, nil
 }
 
-// await answers the body of the reply to a request that was begun.
+// await answers the body of the reply to a request that was begun. It is called once.
 func (c *call) await(ctx context.Context) ([]byte, error) {
 	select {
 	case got := <-c.result:
+		calls.Put(c)
 		return got.body, got.err
 	case <-ctx.Done():
 		return nil, ctx.Err()
 	}
 }
 
-// put puts a request after those before it. It answers false where the session has ended.
-func (s *session) put(asked *call, body []byte) bool {
+// put puts a request after those before it, unless the session has ended, and answers whether its
+// caller has to write.
+func (s *session) put(asked *call, body []byte) (isPut, isWriter bool) {
 	s.lock.Lock()
 	defer s.lock.Unlock()
 	if s.err != nil {
-		return false
+		return false, false
 	}
 	s.unsent = binary.BigEndian.AppendUint32(s.unsent, uint32(1+len(body)))
 	s.unsent = append(append(s.unsent, asked.kind), body...)
 	s.pending = append(s.pending, asked)
-	if len(s.pending) == 1 {
-		s.setPatience()
-	}
-	return true
+	s.waiting += asked.size
+	s.noteBegun(asked)
+	isWriter = !s.isWriting
+	s.isWriting = true
+	return true, isWriter
 }
 
-// setPatience bounds how long the oldest request waits for its reply. The lock is held.
-func (s *session) setPatience() {
-	switch {
-	case s.patience <= 0 || s.broken != nil:
-	case len(s.pending) == 0:
-		s.conn.SetReadDeadline(time.Time{})
-	default:
-		s.conn.SetReadDeadline(s.pending[0].begun.Add(s.patience))
-	}
-}
-
-// send sends what there is to send, all at once, until the session ends.
-func (s *session) send() {
+// write writes what there is to write, all at once, until there is nothing more. A caller doesn't wait
+// for the server: a goroutine goes on where it would have to.
+func (s *session) write(isCaller bool) {
 	var frames []byte
 	for {
-		select {
-		case <-s.wake:
-		case <-s.ended:
+		if frames = s.takeUnsent(frames, isCaller); len(frames) == 0 {
 			return
 		}
-		frames = s.takeUnsent(frames[:0])
 		if _, err := s.conn.Write(frames); err != nil {
 			s.breakOff(err)
 			return
@@ -167,15 +178,27 @@ func (s *session) send() {
 	}
 }
 
-// takeUnsent answers the frames that are to be sent, and gives others room in an empty slice.
-func (s *session) takeUnsent(empty []byte) []byte {
+// takeUnsent answers the frames that are to be written, and keeps the buffer of those that were. It
+// answers none where there are none, or where a goroutine goes on.
+func (s *session) takeUnsent(written []byte, isCaller bool) []byte {
 	s.lock.Lock()
 	defer s.lock.Unlock()
+	if cap(written) > 0 && cap(written) <= mostKept {
+		s.spare = written[:0]
+	}
+	if len(s.unsent) == 0 {
+		s.isWriting = false
+		return nil
+	}
+	if isCaller && (!s.isSystem || s.waiting > easy) {
+		go s.write(false)
+		return nil
+	}
 	for number := len(s.pending) - 1; number >= 0 && !s.pending[number].sent; number-- {
 		s.pending[number].sent = true
 	}
 	frames := s.unsent
-	s.unsent = empty
+	s.unsent, s.spare = s.spare, nil
 	return frames
 }
 
@@ -183,13 +206,13 @@ func (s *session) takeUnsent(empty []byte) []byte {
 func (s *session) breakOff(err error) {
 	s.lock.Lock()
 	defer s.lock.Unlock()
-	s.broken = err
-	s.conn.SetReadDeadline(time.Now().Add(lastReplies))
+	s.broken, s.until, s.isTimed = err, time.Now().Add(lastReplies), true
+	s.conn.SetReadDeadline(s.until)
 }
 
 // receive gives each reply to the request that was sent first of those without one.
 func (s *session) receive() {
-	stream := bufio.NewReaderSize(s.conn, 1<<16)
+	stream := bufio.NewReaderSize(patient{s}, 1<<16)
 	for {
 		content, err := readContent(stream)
 		if err == nil {
@@ -221,19 +244,10 @@ func (s *session) deliver(content []byte) error {
 	if isRefusal && Code(content[1]) == NoSession {
 		return NoSession
 	}
-	s.lock.Lock()
-	defer s.lock.Unlock()
-	if len(s.pending) == 0 {
-		return fmt.Errorf("%w: nothing was asked", ErrReply)
+	next, err := s.takeNext(content, isRefusal)
+	if err != nil {
+		return err
 	}
-	next := s.pending[0]
-	isNoAck := next.kind != lookup && len(content) != 1+ackSize
-	if !isRefusal && (content[0] != replied|next.kind || isNoAck) {
-		return fmt.Errorf("%w: kind %#02x, %d bytes", ErrReply, content[0], len(content))
-	}
-	s.pending[0] = nil
-	s.pending = s.pending[1:]
-	s.setPatience()
 	if isRefusal {
 		s.settle(next, result{nil, Code(content[1])})
 	} else {
@@ -242,21 +256,44 @@ func (s *session) deliver(content []byte) error {
 	return nil
 }
 
+// takeNext answers the request to which a frame has to be the reply.
+func (s *session) takeNext(content []byte, isRefusal bool) (*call, error) {
+	s.lock.Lock()
+	defer s.lock.Unlock()
+	if len(s.pending) == 0 {
+		return nil, fmt.Errorf("%w: nothing was asked", ErrReply)
+	}
+	next := s.pending[0]
+	isNoAck := next.kind != lookup && len(content) != 1+ackSize
+	if !isRefusal && (content[0] != replied|next.kind || isNoAck) {
+		return nil, fmt.Errorf("%w: kind %#02x, %d bytes", ErrReply, content[0], len(content))
+	}
+	s.pending[0] = nil
+	s.pending = s.pending[1:]
+	s.waiting -= next.size
+	return next, nil
+}
+
 // settle gives a request its result, and its room to others.
 func (s *session) settle(asked *call, got result) {
 	<-s.room
 	asked.result <- got
 }
 
-func readContent(stream io.Reader) ([]byte, error) {
-	var head [4]byte
-	if _, err := io.ReadFull(stream, head[:]); err != nil {
+// readContent answers the bytes of a frame after its length: there is at least one.
+func readContent(stream *bufio.Reader) ([]byte, error) {
+	head, err := stream.Peek(lengthSize)
+	if err != nil && len(head) == 0 {
 		return nil, err
 	}
-	length := binary.BigEndian.Uint32(head[:])
-	if length == 0 || length > mostReply {
+	if err != nil {
+		return nil, noEOF(err)
+	}
+	length := binary.BigEndian.Uint32(head)
+	if length == 0 || length > 1+MostReply {
 		return nil, fmt.Errorf("%w: a frame of %d bytes", ErrReply, length)
 	}
+	stream.Discard(lengthSize)
 	content := make([]byte, length)
 	if _, err := io.ReadFull(stream, content); err != nil {
 		return nil, noEOF(err)
@@ -288,10 +325,11 @@ func (s *session) end(err error) bool {
 	}
 	s.err = err
 	close(s.ended)
+	s.counts.ended.Add(1)
 	for _, asked := range s.pending {
 		s.settle(asked, result{nil, s.fault(asked.sent)})
 	}
-	s.pending = nil
+	s.pending, s.unsent, s.spare = nil, nil, nil
 	return true
 }
 

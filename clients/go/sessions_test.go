@@ -56,7 +56,7 @@ func TestManyCallersHaveTheirOwnReplies(t *testing.T) {
 		}(caller)
 	}
 	all.Wait()
-	for _, it := range client.lookups {
+	for _, it := range client.lookups.links {
 		s := it.open()
 		for begun := time.Now(); s != nil && s.underWay() > 0; time.Sleep(time.Millisecond) {
 			if time.Since(begun) > limit {
@@ -161,7 +161,7 @@ func TestASessionThatIsStuckIsClosed(t *testing.T) {
 	if _, lookups := store.came(); lookups != 6 {
 		t.Errorf("%d lookups", lookups)
 	}
-	stuck := client.lookups[0].open()
+	stuck := client.lookups.links[0].open()
 	<-stuck.ended // though nobody waits for the reply any more
 	store.setAnswer(taken)
 	if _, err := client.Lookup(ctx, 1, 2); err != nil {
@@ -174,9 +174,9 @@ func TestASessionWithoutRequestsIsNotStuck(t *testing.T) {
 	if _, err := client.Lookup(ctx, 1, 2); err != nil {
 		t.Error(err)
 	}
-	open := client.lookups[0].open()
+	open := client.lookups.links[0].open()
 	time.Sleep(200 * time.Millisecond)
-	if _, err := client.Lookup(ctx, 1, 2); err != nil || client.lookups[0].open() != open {
+	if _, err := client.Lookup(ctx, 1, 2); err != nil || client.lookups.links[0].open() != open {
 		t.Error(err)
 	}
 }
@@ -225,7 +225,7 @@ func TestCallsDoNotWaitForMoreSessions(t *testing.T) {
 			client.Lookup(ctx, 1, 2)
 		}()
 		for begun := time.Now(); number == 0 && time.Since(begun) < limit; time.Sleep(time.Millisecond) {
-			if s := client.lookups[1].open(); s != nil && s.underWay() == 1 {
+			if s := client.lookups.links[1].open(); s != nil && s.underWay() == 1 {
 				break
 			}
 		}
@@ -332,7 +332,7 @@ func TestManyRequestsOfManyBytes(t *testing.T) {
 		all.Add(1)
 		go func(number int) {
 			defer all.Done()
-			body := make([]byte, mostRequest-1-number)
+			body := make([]byte, MostRequest-number)
 			got, err := client.Ask(ctx, KindLookup, body)
 			if err != nil || binary.BigEndian.Uint32(got) != uint32(1+len(body)) {
 				t.Errorf("%d: %x, %v", number, got, err)

@@ -1,6 +1,7 @@
 package pathd
 
 import (
+	"bufio"
 	"encoding/binary"
 	"net"
 	"sync"
@@ -84,8 +85,9 @@ func (s *store) stop() {
 }
 
 func (s *store) serve(conn net.Conn) {
+	stream := bufio.NewReader(conn)
 	for {
-		content, err := readContent(conn)
+		content, err := readContent(stream)
 		if err != nil {
 			return
 		}

@@ -15,6 +15,7 @@ program=$(realpath "${1:-$top/crates/pathd/out/pathd}")
 [ -x "$program" ] || { echo "no program: $program" >&2; exit 2; }
 work=$(mktemp -d)
 trap 'rm -rf "$work"' EXIT
+source "$top/tools/shell/modules.sh"
 mkdir "$work/src" "$work/generated"
 cp -r "$top/clients/go" "$work/src/pathd"
 
@@ -31,12 +32,5 @@ go test -count=1 .
 "$top/tools/pathd-tools" examples --program "$program" "$top/clients/go/README.md"
 
 # As a module, with Debian's protobuf in place of the one that would be fetched.
-gocode=/usr/share/gocode/src
-cp go.mod "$work/replaced.mod"
-for name in google.golang.org/protobuf github.com/golang/protobuf github.com/google/go-cmp; do
-  mkdir -p "$work/modules/$name"
-  [ ! -d "$gocode/$name" ] || cp -rL "$gocode/$name/." "$work/modules/$name"
-  printf 'module %s\n' "$name" >"$work/modules/$name/go.mod"
-  go mod edit -replace="$name=$work/modules/$name" "$work/replaced.mod"
-done
+replace_modules . google.golang.org/protobuf github.com/golang/protobuf github.com/google/go-cmp
 GO111MODULE=on GOPROXY=off GOFLAGS=-mod=mod go build -modfile="$work/replaced.mod" .
