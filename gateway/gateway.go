@@ -14,16 +14,18 @@ import (
 	"google.golang.org/grpc"
 	"google.golang.org/grpc/health"
 
+	"pathd"
 	"pathd/gateway/internal/calls"
 	"pathd/gateway/internal/connectapi"
 	"pathd/gateway/internal/door"
 	"pathd/gateway/internal/grpcapi"
 	"pathd/gateway/internal/settings"
 	"pathd/gateway/internal/trust"
-	"pathd/gateway/internal/upstream"
 )
 
 const (
+	dialLimit   = 2 * time.Second  // to connect to pathd
+	attempts    = 2                // of a request
 	headerLimit = 10 * time.Second // to send the headers of a request by HTTP/1
 	owedByOne   = 8 << 20
 	owedByAll   = 128 << 20
@@ -36,21 +38,20 @@ const (
 
 // gateway is all that serves.
 type gateway struct {
-	settings      *settings.Settings
-	certificates  *certificates // nil without TLS
-	keeper        *trust.Keeper // nil without trust material
-	lookups       *upstream.Pool
-	registrations *upstream.Pool
-	desk          *calls.Desk
-	methods       []*calls.Method
-	checks        *health.Server
-	watcher       *watcher
-	grpc          *grpc.Server
-	web           *http.Server
-	h2            *http2.Server
-	door          *door.Door
-	begun         time.Time
-	reloads       reloads
+	settings     *settings.Settings
+	certificates *certificates // nil without TLS
+	keeper       *trust.Keeper // nil without trust material
+	pathd        *pathd.Client
+	desk         *calls.Desk
+	methods      []*calls.Method
+	checks       *health.Server
+	watcher      *watcher
+	grpc         *grpc.Server
+	web          *http.Server
+	h2           *http2.Server
+	door         *door.Door
+	begun        time.Time
+	reloads      reloads
 }
 
 // newGateway makes ready what serves at a listener, and starts nothing.
@@ -64,16 +65,16 @@ func newGateway(s *settings.Settings, listener net.Listener) (g *gateway, err er
 			return nil, err
 		}
 	}
-	pool := upstream.Options{Address: s.Pathd, Sessions: s.Lookups, Patience: s.Deadline}
-	g.lookups = upstream.NewPool(pool)
-	pool.Sessions = s.Registrations
-	g.registrations = upstream.NewPool(pool)
+	g.pathd = pathd.NewClient(s.Pathd, pathd.ClientOptions{
+		Dialer: pathd.Dialer{Timeout: dialLimit}, Lookups: s.Lookups, Commands: s.Registrations,
+		Patience: s.Deadline, Attempts: attempts,
+	})
 	g.door = door.New(listener, door.Options{
 		Connections: s.Connections, PeerConnections: s.PeerConnections,
 		Streams: uint32(s.Streams), Stuck: s.Deadline, TLS: g.certificates.current(),
 	}, g.serveHTTP2)
 	options := calls.Options{
-		Lookups: g.lookups, Registrations: g.registrations, Deadline: s.Deadline,
+		Pathd: g.pathd, Deadline: s.Deadline,
 		Calls: s.Calls, OwedByOne: owedByOne, OwedByAll: owedByAll, Owed: g.door.Owed,
 	}
 	if g.keeper != nil {
@@ -81,7 +82,7 @@ func newGateway(s *settings.Settings, listener net.Listener) (g *gateway, err er
 	}
 	g.desk = calls.NewDesk(options)
 	g.methods = methodsOf(g.desk, g.keeper)
-	g.watcher = &watcher{asker: g.lookups, checks: g.checks, services: g.services()}
+	g.watcher = &watcher{asker: g.pathd, checks: g.checks, services: g.services()}
 	g.grpc = grpcapi.NewServer(g.desk, g.methods, g.checks, grpcapi.Options{Streams: uint32(s.Streams), Idle: s.Idle})
 	return g, g.makeWeb()
 }
@@ -162,6 +163,5 @@ func (g *gateway) drain() {
 	g.grpc.Stop()
 	g.web.Close()
 	g.door.End()
-	g.lookups.Close()
-	g.registrations.Close()
+	g.pathd.Close()
 }

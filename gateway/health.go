@@ -9,8 +9,8 @@ import (
 	"google.golang.org/grpc/health"
 	healthpb "google.golang.org/grpc/health/grpc_health_v1"
 
-	"pathd/gateway/internal/refusal"
-	"pathd/gateway/internal/upstream"
+	"pathd"
+	"pathd/gateway/internal/calls"
 )
 
 const (
@@ -20,7 +20,7 @@ const (
 
 // watcher asks pathd each second whether it answers, and has health checks say so.
 type watcher struct {
-	asker    upstream.Asker
+	asker    calls.Asker
 	checks   *health.Server
 	services []string
 	isUp     atomic.Bool
@@ -42,11 +42,11 @@ func (w *watcher) run(ctx context.Context) {
 func (w *watcher) ask(ctx context.Context) {
 	limited, cancel := context.WithTimeout(ctx, checkLimit)
 	defer cancel()
-	_, err := w.asker.Ask(limited, upstream.Lookup, nil)
+	_, err := w.asker.Ask(limited, pathd.KindLookup, nil)
 	if ctx.Err() != nil {
 		return
 	}
-	isUp := errors.Is(err, refusal.NullDestination)
+	isUp := errors.Is(err, pathd.NullDestination)
 	w.isUp.Store(isUp)
 	status := healthpb.HealthCheckResponse_NOT_SERVING
 	if isUp {

@@ -5,8 +5,8 @@ import (
 
 	"pathd/gateway/internal/calls"
 	control "pathd/gateway/internal/pb/controlplanepb"
-	"pathd/gateway/internal/pb/segmentspb"
 	"pathd/gateway/internal/trust"
+	"pathd/segmentspb"
 )
 
 // The files of the services, as their descriptors name them.

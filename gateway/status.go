@@ -9,8 +9,8 @@ import (
 	"runtime"
 	"time"
 
+	"pathd"
 	"pathd/gateway/internal/numbers"
-	"pathd/gateway/internal/upstream"
 )
 
 const statusLimit = 10 * time.Second
@@ -92,27 +92,28 @@ func (g *gateway) writeDoor(p *numbers.Page) {
 }
 
 func (g *gateway) writeUpstream(p *numbers.Page) {
+	lookups, registrations := g.pathd.Numbers()
 	pools := []struct {
 		name string
-		n    upstream.Numbers
-	}{{"lookups", g.lookups.Numbers()}, {"registrations", g.registrations.Numbers()}}
-	each := func(name string, value func(upstream.Numbers) float64) {
+		n    pathd.Numbers
+	}{{"lookups", lookups}, {"registrations", registrations}}
+	each := func(name string, value func(pathd.Numbers) float64) {
 		for _, it := range pools {
 			p.Row(name, fmt.Sprintf("pool=%q", it.name), value(it.n))
 		}
 	}
 	p.Gauge("pathd_gateway_sessions", "Open sessions with pathd.")
-	each("pathd_gateway_sessions", func(n upstream.Numbers) float64 { return float64(n.Open) })
+	each("pathd_gateway_sessions", func(n pathd.Numbers) float64 { return float64(n.Open) })
 	p.Gauge("pathd_gateway_requests", "Requests to pathd under way.")
-	each("pathd_gateway_requests", func(n upstream.Numbers) float64 { return float64(n.UnderWay) })
+	each("pathd_gateway_requests", func(n pathd.Numbers) float64 { return float64(n.UnderWay) })
 	p.Counter("pathd_gateway_sessions_opened_total", "Sessions with pathd that were opened.")
-	each("pathd_gateway_sessions_opened_total", func(n upstream.Numbers) float64 { return float64(n.Opened) })
+	each("pathd_gateway_sessions_opened_total", func(n pathd.Numbers) float64 { return float64(n.Opened) })
 	p.Counter("pathd_gateway_sessions_ended_total", "Sessions with pathd that have ended.")
-	each("pathd_gateway_sessions_ended_total", func(n upstream.Numbers) float64 { return float64(n.Ended) })
+	each("pathd_gateway_sessions_ended_total", func(n pathd.Numbers) float64 { return float64(n.Ended) })
 	p.Counter("pathd_gateway_connects_failed_total", "Connections to pathd that failed.")
-	each("pathd_gateway_connects_failed_total", func(n upstream.Numbers) float64 { return float64(n.Failed) })
-	p.Counter("pathd_gateway_requests_repeated_total", "Requests that were sent twice, as their session ended.")
-	each("pathd_gateway_requests_repeated_total", func(n upstream.Numbers) float64 { return float64(n.Repeated) })
+	each("pathd_gateway_connects_failed_total", func(n pathd.Numbers) float64 { return float64(n.Failed) })
+	p.Counter("pathd_gateway_requests_repeated_total", "Requests that were tried a second time.")
+	each("pathd_gateway_requests_repeated_total", func(n pathd.Numbers) float64 { return float64(n.Repeated) })
 }
 
 func (g *gateway) writeFiles(p *numbers.Page) {

@@ -11,7 +11,7 @@ import (
 
 	"google.golang.org/protobuf/proto"
 
-	pb "pathd/gateway/internal/pb/segmentspb"
+	pb "pathd/segmentspb"
 )
 
 const (

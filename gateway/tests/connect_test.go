@@ -13,7 +13,7 @@ import (
 	"google.golang.org/protobuf/encoding/protojson"
 	"google.golang.org/protobuf/proto"
 
-	pb "pathd/gateway/internal/pb/segmentspb"
+	pb "pathd/segmentspb"
 )
 
 const (

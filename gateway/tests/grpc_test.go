@@ -18,7 +18,7 @@ import (
 	"google.golang.org/protobuf/types/descriptorpb"
 
 	control "pathd/gateway/internal/pb/controlplanepb"
-	pb "pathd/gateway/internal/pb/segmentspb"
+	pb "pathd/segmentspb"
 )
 
 const (

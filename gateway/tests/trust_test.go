@@ -22,8 +22,8 @@ import (
 	"google.golang.org/protobuf/proto"
 
 	control "pathd/gateway/internal/pb/controlplanepb"
-	pb "pathd/gateway/internal/pb/segmentspb"
 	pki "pathd/gateway/internal/testpki"
+	pb "pathd/segmentspb"
 )
 
 // registrationOf answers a registration of a segment from the core AS to the leaf.

@@ -16,6 +16,7 @@ program=$(realpath "${1:-$top/crates/pathd/out/pathd}")
 [ -x "$program" ] || { echo "no program: $program" >&2; exit 2; }
 work=$(mktemp -d)
 trap 'rm -rf "$work"' EXIT
+source "$top/tools/shell/modules.sh"
 
 unformatted=$(gofmt -l "$top/gateway")
 [ -z "$unformatted" ] || { echo "gofmt would change: $unformatted" >&2; exit 1; }
@@ -38,3 +39,9 @@ export GATEWAY=$work/pathd-gateway PATHD=$program CODES=$top/docs/codes.csv TOP=
 cd "$work/go/src/pathd/gateway"
 go vet ./...
 go test -p "${GO_JOBS:-2}" -count=1 ./...
+
+# As a module, which has the client in Go beside itself.
+replace_modules . google.golang.org/grpc google.golang.org/protobuf google.golang.org/genproto \
+  github.com/golang/protobuf github.com/google/go-cmp golang.org/x/net golang.org/x/sys golang.org/x/text
+go mod edit -replace="pathd=$work/go/src/pathd" "$work/replaced.mod"
+GO111MODULE=on GOPROXY=off GOFLAGS=-mod=mod go list -modfile="$work/replaced.mod" -deps ./... >/dev/null

@@ -8,10 +8,17 @@ import (
 
 	"google.golang.org/grpc/codes"
 
+	"pathd"
 	"pathd/gateway/internal/door"
 	"pathd/gateway/internal/numbers"
-	"pathd/gateway/internal/upstream"
 )
+
+// Asker asks a pathd, as a client does.
+type Asker interface {
+	// Ask answers the body of the reply to a request. Where the context ends first the request may
+	// have been carried out.
+	Ask(ctx context.Context, kind pathd.Kind, body []byte) ([]byte, error)
+}
 
 // Verifier verifies registrations.
 type Verifier interface {
@@ -22,9 +29,8 @@ type Verifier interface {
 
 // Options of a Desk.
 type Options struct {
-	// Lookups and Registrations ask pathd. They are apart, as the reply to a registration waits for
-	// the device, and the replies of a session come in order.
-	Lookups, Registrations upstream.Asker
+	// Pathd asks pathd.
+	Pathd Asker
 	// Verifier verifies registrations before pathd gets them. Nil is none.
 	Verifier Verifier
 	// Deadline is the longest that a call may take.
@@ -57,7 +63,7 @@ func (d *Desk) Deadline() time.Duration { return d.options.Deadline }
 
 // Segments is SegmentLookupService/Segments: the body of the reply is the response.
 func (d *Desk) Segments(ctx context.Context, request []byte) ([]byte, error) {
-	return d.options.Lookups.Ask(ctx, upstream.Lookup, request)
+	return d.options.Pathd.Ask(ctx, pathd.KindLookup, request)
 }
 
 // Registration is SegmentRegistrationService/SegmentsRegistration: the response is empty.
@@ -67,7 +73,7 @@ func (d *Desk) Registration(ctx context.Context, request []byte) ([]byte, error)
 			return nil, err
 		}
 	}
-	_, err := d.options.Registrations.Ask(ctx, upstream.Register, request)
+	_, err := d.options.Pathd.Ask(ctx, pathd.KindRegister, request)
 	return nil, err
 }
 
@@ -129,8 +135,8 @@ func (d *Desk) serve(ctx context.Context, m *Method, call Call) ([]byte, *Fault)
 	if err != nil {
 		return nil, FaultOf(err)
 	}
-	if len(request) > upstream.MostRequest {
-		return nil, NewFault(codes.ResourceExhausted, "a request has more than %d bytes", upstream.MostRequest)
+	if len(request) > pathd.MostRequest {
+		return nil, NewFault(codes.ResourceExhausted, "a request has more than %d bytes", pathd.MostRequest)
 	}
 	response, err := m.Serve(ctx, request)
 	if err != nil {

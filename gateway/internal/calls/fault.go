@@ -8,8 +8,8 @@ import (
 	"google.golang.org/grpc/codes"
 	"google.golang.org/grpc/status"
 
+	"pathd"
 	"pathd/gateway/internal/refusal"
-	"pathd/gateway/internal/upstream"
 )
 
 // CodeKey is the key of the trailing metadata, and the header of Connect, that has pathd's code.
@@ -18,7 +18,7 @@ const CodeKey = "pathd-code"
 // Fault is how a call ends that has no response. Code is 0 where nothing was refused by a code.
 type Fault struct {
 	Status codes.Code
-	Code   refusal.Code
+	Code   pathd.Code
 	Text   string
 }
 
@@ -31,29 +31,34 @@ func NewFault(status codes.Code, format string, words ...any) *Fault {
 }
 
 // Refuse answers the fault of a code, with what there is to say in addition.
-func Refuse(code refusal.Code, more string) *Fault {
-	text := code.Error()
+func Refuse(code pathd.Code, more string) *Fault {
+	text := refusal.TextOf(code)
 	if more != "" {
 		text += ": " + more
 	}
-	return &Fault{Status: code.Meaning().Status, Code: code, Text: text}
+	return &Fault{Status: refusal.MeaningOf(code).Status, Code: code, Text: text}
 }
 
 // FaultOf answers the fault of an error that is not nil.
 func FaultOf(err error) *Fault {
 	var known *Fault
-	var code refusal.Code
+	var code pathd.Code
+	var ended *pathd.SessionError
 	switch {
 	case errors.As(err, &known):
 		return known
 	case errors.As(err, &code):
 		return Refuse(code, "")
+	case errors.Is(err, pathd.ErrReply):
+		return NewFault(codes.Internal, "%v", err)
+	case errors.Is(err, pathd.ErrStuck):
+		return NewFault(codes.DeadlineExceeded, "%v", err)
+	case errors.As(err, &ended), errors.Is(err, pathd.ErrClosed):
+		return NewFault(codes.Unavailable, "%v", err)
 	case errors.Is(err, context.DeadlineExceeded):
 		return NewFault(codes.DeadlineExceeded, "there was no reply in time")
 	case errors.Is(err, context.Canceled):
 		return NewFault(codes.Canceled, "the client has ended the call")
-	case errors.Is(err, upstream.ErrEnded):
-		return NewFault(codes.Unavailable, "%v", err)
 	}
 	if it, isStatus := status.FromError(err); isStatus {
 		return NewFault(it.Code(), "%s", it.Message())

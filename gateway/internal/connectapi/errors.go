@@ -7,6 +7,7 @@ import (
 	"google.golang.org/grpc/codes"
 
 	"pathd/gateway/internal/calls"
+	"pathd/gateway/internal/refusal"
 )
 
 // known has the names of Connect's codes, and their statuses of HTTP.
@@ -34,7 +35,7 @@ func refuse(w http.ResponseWriter, fault *calls.Fault) {
 	}
 	w.Header().Set("Content-Type", "application/json")
 	if fault.Code != 0 {
-		w.Header().Set(calls.CodeKey, fault.Code.String())
+		w.Header().Set(calls.CodeKey, refusal.NumberOf(fault.Code))
 	}
 	w.WriteHeader(to.status)
 	json.NewEncoder(w).Encode(map[string]string{"code": to.name, "message": fault.Text})

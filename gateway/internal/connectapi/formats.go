@@ -5,8 +5,8 @@ import (
 	"google.golang.org/protobuf/encoding/protojson"
 	"google.golang.org/protobuf/proto"
 
+	"pathd"
 	"pathd/gateway/internal/calls"
-	"pathd/gateway/internal/upstream"
 )
 
 // jsonBytes is how many bytes of JSON there are for one of protobuf, at most: base64 and names.
@@ -24,13 +24,13 @@ type format struct {
 var formats = map[string]*format{
 	"application/proto": {
 		contentType: []string{"application/proto"},
-		most:        upstream.MostRequest,
+		most:        pathd.MostRequest,
 		read:        func(_ *calls.Method, content []byte) ([]byte, error) { return content, nil },
 		write:       func(_ *calls.Method, content []byte) ([]byte, *calls.Fault) { return content, nil },
 	},
 	"application/json": {
 		contentType: []string{"application/json"},
-		most:        jsonBytes * upstream.MostRequest,
+		most:        jsonBytes * pathd.MostRequest,
 		read:        fromJSON,
 		write:       toJSON,
 	},

@@ -16,10 +16,11 @@ import (
 	"google.golang.org/grpc/status"
 	"google.golang.org/grpc/tap"
 
+	"pathd"
 	"pathd/gateway/internal/calls"
 	"pathd/gateway/internal/door"
 	"pathd/gateway/internal/numbers"
-	"pathd/gateway/internal/upstream"
+	"pathd/gateway/internal/refusal"
 )
 
 const (
@@ -45,8 +46,8 @@ type Options struct {
 // NewServer answers a server of methods, of health checks and of reflection.
 func NewServer(desk *calls.Desk, methods []*calls.Method, checks *health.Server, options Options) *grpc.Server {
 	server := grpc.NewServer(
-		grpc.MaxRecvMsgSize(upstream.MostRequest),
-		grpc.MaxSendMsgSize(upstream.MostReply),
+		grpc.MaxRecvMsgSize(pathd.MostRequest),
+		grpc.MaxSendMsgSize(pathd.MostReply),
 		grpc.MaxConcurrentStreams(options.Streams),
 		grpc.MaxHeaderListSize(door.MostHeader),
 		grpc.InitialWindowSize(streamWindow),
@@ -111,7 +112,7 @@ func handler(desk *calls.Desk, m *calls.Method) func(any, context.Context, func(
 			return Raw(response), nil
 		}
 		if fault.Code != 0 {
-			grpc.SetTrailer(ctx, metadata.Pairs(calls.CodeKey, fault.Code.String()))
+			grpc.SetTrailer(ctx, metadata.Pairs(calls.CodeKey, refusal.NumberOf(fault.Code)))
 		}
 		return nil, status.Error(fault.Status, fault.Text)
 	}

@@ -1,22 +1,16 @@
-// Package refusal has the codes by which pathd refuses a request, and the status of a call that is
-// refused by each.
+// Package refusal has the status of a call that is refused by each code of pathd, and its text.
 package refusal
 
 import (
 	"fmt"
 
 	"google.golang.org/grpc/codes"
+
+	"pathd"
 )
 
 // Code is the error of a request that pathd has refused. docs/PROTOCOL.md has the codes.
-type Code byte
-
-// The codes that the gateway looks at.
-const (
-	BadSignature    Code = 0x31
-	NullDestination Code = 0x41
-	NoSession       Code = 0x61
-)
+type Code = pathd.Code
 
 // Meaning says what a code means. Name is that of docs/PROTOCOL.md, and empty where it has none.
 type Meaning struct {
@@ -25,24 +19,24 @@ type Meaning struct {
 	Text   string
 }
 
-// Meaning answers what the code means: codes.Internal for a code that the table does not have.
-func (c Code) Meaning() Meaning {
-	if it, isKnown := table[c]; isKnown {
+// MeaningOf answers what a code means: codes.Internal for a code that the table does not have.
+func MeaningOf(code Code) Meaning {
+	if it, isKnown := table[code]; isKnown {
 		return it
 	}
 	return Meaning{codes.Internal, "", "an unknown code"}
 }
 
-// String answers the code as the trailing metadata has it, such as 0x43.
-func (c Code) String() string {
-	return fmt.Sprintf("%#02x", byte(c))
+// NumberOf answers a code as the trailing metadata has it, such as 0x43.
+func NumberOf(code Code) string {
+	return fmt.Sprintf("%#02x", byte(code))
 }
 
-// Error answers the code with its name and its text.
-func (c Code) Error() string {
-	it := c.Meaning()
+// TextOf answers a code with its name and its text.
+func TextOf(code Code) string {
+	it := MeaningOf(code)
 	if it.Name == "" {
-		return c.String() + " " + it.Text
+		return NumberOf(code) + " " + it.Text
 	}
-	return c.String() + " " + it.Name + ": " + it.Text
+	return NumberOf(code) + " " + it.Name + ": " + it.Text
 }

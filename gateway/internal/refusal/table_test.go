@@ -34,7 +34,7 @@ func TestTheTableHasTheCodesOfTheProject(t *testing.T) {
 	}
 	for code := range table {
 		if !seen[code] {
-			t.Errorf("%s is none of docs/codes.csv", code)
+			t.Errorf("%#02x is none of docs/codes.csv", code)
 		}
 	}
 }
@@ -45,11 +45,11 @@ func TestTexts(t *testing.T) {
 		0x01: "0x01 memory was refused",
 		0x99: "0x99 an unknown code",
 	} {
-		if code.Error() != wanted {
-			t.Errorf("%q", code.Error())
+		if TextOf(code) != wanted {
+			t.Errorf("%q", TextOf(code))
 		}
 	}
-	if got := Code(0x99).Meaning().Status; got != codes.Internal {
+	if got := MeaningOf(0x99).Status; got != codes.Internal {
 		t.Error(got)
 	}
 }

@@ -7,9 +7,9 @@ import (
 	"fmt"
 	"time"
 
+	"pathd"
 	"pathd/gateway/internal/calls"
 	"pathd/gateway/internal/cppki"
-	"pathd/gateway/internal/refusal"
 )
 
 // Verify answers nil where the signature of each entry of a SegmentsRegistrationRequest is good now.
@@ -41,7 +41,7 @@ func (k *Keeper) Verify(ctx context.Context, registration []byte) error {
 
 func (k *Keeper) refuse(format string, words ...any) error {
 	k.counts.refused.Add(1)
-	return calls.Refuse(refusal.BadSignature, fmt.Sprintf(format, words...))
+	return calls.Refuse(pathd.BadSignature, fmt.Sprintf(format, words...))
 }
 
 // verifyEntry verifies an entry, once more where something was fetched for it.
