@@ -160,8 +160,7 @@ func (g *gateway) drain() {
 	case <-ctx.Done():
 		log.Print("calls of gRPC were cut short")
 	}
-	g.grpc.Stop()
 	g.web.Close()
-	g.door.End()
+	g.door.End() // with the connections that gRPC has left
 	g.pathd.Close()
 }

@@ -271,6 +271,35 @@ func TestACallUnderWayEndsBeforeTheProgram(t *testing.T) {
 	}
 }
 
+// TestCallsThatDoNotEndAreCutShort has calls come and go on two connections while the program ends.
+func TestCallsThatDoNotEndAreCutShort(t *testing.T) {
+	quit := make(chan struct{})
+	t.Cleanup(func() { close(quit) })
+	address := fake(t, func(content []byte) []byte {
+		if content[0] == 1 {
+			<-quit
+		}
+		return healthy(content)
+	})
+	at := gateway(t, address, "--deadline", "2")
+	for i := 0; i < 2; i++ {
+		conn, ctx := dial(t, at.address)
+		go register(ctx, conn, down(t, later))
+		for c := 0; c < 8; c++ {
+			go func() {
+				for ctx.Err() == nil {
+					lookup(ctx, conn)
+				}
+			}()
+		}
+	}
+	time.Sleep(200 * time.Millisecond)
+	begun := time.Now()
+	if err := at.end(syscall.SIGTERM); err != nil || time.Since(begun) > 30*time.Second {
+		t.Error(err, time.Since(begun), at.log)
+	}
+}
+
 func TestManyCallersHaveTheirOwnReplies(t *testing.T) {
 	address := fake(t, func(content []byte) []byte {
 		if content[0] == 2 && len(content) > 1 {

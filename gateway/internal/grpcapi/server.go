@@ -33,6 +33,10 @@ const (
 	pingLimit  = 20 * time.Second
 	pingsApart = 10 * time.Second // the least that a peer's own pings have to be apart
 	greeting   = 10 * time.Second
+
+	// workers are goroutines that serve calls, as long as one is free: a new goroutine has its stack
+	// grow in each call. Stop must not be called with them, as a stream that comes meanwhile panics.
+	workers = 256
 )
 
 // Options of a server.
@@ -49,6 +53,7 @@ func NewServer(desk *calls.Desk, methods []*calls.Method, checks *health.Server,
 		grpc.MaxRecvMsgSize(pathd.MostRequest),
 		grpc.MaxSendMsgSize(pathd.MostReply),
 		grpc.MaxConcurrentStreams(options.Streams),
+		grpc.NumStreamWorkers(workers),
 		grpc.MaxHeaderListSize(door.MostHeader),
 		grpc.InitialWindowSize(streamWindow),
 		grpc.InitialConnWindowSize(connWindow),
