@@ -29,6 +29,7 @@ export GO111MODULE=off GOFLAGS=-trimpath CGO_ENABLED=0 GOPATH="$work/go:/usr/sha
 
 started() { # a server, whose first lines have its address; sets `address`
   local out=$work/out.${#servers[@]}
+  : >"$out"
   "$@" >"$out" 2>&1 &
   servers+=($!)
   for _ in $(seq 200); do

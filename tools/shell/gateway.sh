@@ -32,6 +32,14 @@ done
 lacks=$(sed 's/\\-/-/g' "$top/deploy/pathd-gateway.1" | options | tr '\n' ' ')
 [ -z "$lacks" ] || { echo "deploy/pathd-gateway.1 lacks $lacks" >&2; exit 1; }
 
+# systemd, where it is there, finds nothing wrong with the unit as it is installed.
+if command -v systemd-analyze >/dev/null; then
+  make --silent -C "$top" install-gateway DESTDIR="$work/root" PREFIX=/usr GATEWAY="$work/pathd-gateway"
+  unit=$work/pathd-gateway.service
+  sed "s|^ExecStart=/usr/bin/|ExecStart=$work/|" "$work/root/usr/lib/systemd/system/pathd-gateway.service" >"$unit"
+  found=$(systemd-analyze verify --man=no "$unit" 2>&1) && [ -z "$found" ] || { echo "the unit: $found" >&2; exit 1; }
+fi
+
 "$top/gateway/build" --tree "$work/go"
 # The flags are those of gateway/build, so that Go's cache has the packages.
 export GO111MODULE=off GOFLAGS=-trimpath CGO_ENABLED=0 GOPATH="$work/go:/usr/share/gocode"
