@@ -21,8 +21,8 @@ const (
 	// How long replies are waited for after requests could not be sent: the server may have said why.
 	lastReplies = time.Second
 	// The most bytes of requests without a reply that a caller writes itself: the system has room for
-	// so many, and the write doesn't wait for the server.
-	easy = 1 << 16
+	// so many in a new connection, and the write doesn't wait for the server.
+	easy = 1 << 15
 	// The most bytes of a buffer of requests that is kept.
 	mostKept = 1 << 18
 )
