@@ -27,7 +27,7 @@ fn answer_of(refusal: HubError) -> Said {
     match refusal {
         HubError::Stopped(place) => Said::Stopped(place),
         HubError::Submit(why) => Said::Refused(why),
-        HubError::NoMemory | HubError::NoReader => Said::Other,
+        HubError::NoMemory | HubError::NoReader | HubError::NotAwaited => Said::Other,
     }
 }
 
