@@ -60,7 +60,9 @@ pub fn run_on<
 /// accepted. An honest device opens to the store's rows and place after a front of that log with
 /// all committed commands, whatever the sessions did and however the call ends. So it has each
 /// command at its place that a session acknowledged: each session hands in the claims of those
-/// commands at its end. Where no log is left, nothing was served, and the device is the store's.
+/// commands at its end. At every moment since the store was opened a stop of the device would have
+/// left a front of that log, and each of these commands from the moment of its commit on. Where no
+/// log is left, nothing was served, and the device is the store's.
 pub fn serve_store<
     R: System,
     L: OpenListener<Stream = TcpStream> + Drop + Send,
