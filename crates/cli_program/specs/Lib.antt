@@ -1,3 +1,4 @@
 pub mod Ending
 pub mod Failures
 pub mod Options
+pub mod Serving

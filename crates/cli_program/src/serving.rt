@@ -1,5 +1,13 @@
 //! The command that serves sessions over TCP.
 
+ghost use Rattle.std.specs.Prelude.{IfOk, IfSome, IsSome, IsOk, IsErr, OnOk, OnErr};
+ghost use Rattle.sector_dev.specs.Disk.{IsHonest, reads_of};
+ghost use Rattle.sector_dev.specs.FileDevice.{file_disk, file_state};
+ghost use Rattle.sector_dev.specs.Image.{IsFromImage};
+ghost use Rattle.sector_dev.specs.Stretch.{Stretch};
+ghost use Rattle.store_open.specs.Open.{IsOpened, OpensAlike};
+ghost use Rattle.cli_program.specs.Serving.{ServesFile};
+
 use crate::addresses::{addresses_of, listen};
 use crate::failure::Failure;
 use crate::notices::Notices;
@@ -9,8 +17,9 @@ use crate::stores::{device_over, path_of};
 use crate::system::{Host, System};
 use clap::ArgMatches;
 use cli_words::{CORES, QUIET, STOP_ON_END_OF_INPUT};
-use path_server::{Listeners, Options, run_on};
-use sector_dev::{Device, FileDevice, LastFault, SystemFile};
+use path_hub::Left;
+use path_server::{Listeners, Options, RunError, serve_store};
+use sector_dev::{Device, FileDevice, LastFault, PositionedFile, SystemFile};
 use std::io::{Read, Write};
 use std::net::TcpListener;
 use std::sync::Arc;
@@ -18,12 +27,12 @@ use std::time::Instant;
 use std::{io, thread};
 use store_open::{Store, open_in_threads};
 
-/// What a server begins with.
+/// What a server begins with, over a file of any kind.
 #[derive(Drop)]
-struct Site<'a> {
+struct Site<'a, F: PositionedFile> {
     /// The path of the device's file.
     path: &'a str,
-    device: FileDevice<SystemFile>,
+    device: FileDevice<F>,
     /// What failed last in that file.
     last_fault: Arc<LastFault>,
     listeners: Listeners<TcpListener>,
@@ -48,7 +57,7 @@ pub(crate) fn serve_file<'a, R: System, I: Read + Drop + Send + 'static, O: Writ
 fn serve_noted<'a, R: System, I: Read + Drop + Send + 'static, O: Write>(
     rt: &R,
     words: &ArgMatches<'a>,
-    site: Site<'a>,
+    site: Site<'a, SystemFile>,
     options: &Options,
     input: I,
     output: &mut O,
@@ -66,7 +75,10 @@ fn serve_noted<'a, R: System, I: Read + Drop + Send + 'static, O: Write>(
 }
 
 /// Opens the file of the words, and listens at their addresses, once these are read.
-fn site_of<'a, R: System>(rt: &R, words: &ArgMatches<'a>) -> Result<Site<'a>, Failure<'a>> {
+fn site_of<'a, R: System>(
+    rt: &R,
+    words: &ArgMatches<'a>,
+) -> Result<Site<'a, SystemFile>, Failure<'a>> {
     let addresses = addresses_of(words)?;
     let path = path_of(words);
     let file = device_files::open(rt, path).map_err(|error| Failure::File(path, error))?;
@@ -87,7 +99,7 @@ fn site_of<'a, R: System>(rt: &R, words: &ArgMatches<'a>) -> Result<Site<'a>, Fa
 /// Returns the number of sessions. Memory is refused where no thread is given.
 fn serve_beside<'a, R: System, I: Read + Drop + Send + 'static, O: Write>(
     rt: &R,
-    site: Site<'a>,
+    site: Site<'a, SystemFile>,
     options: &Options,
     notices: &Notices<R>,
     input: Option<I>,
@@ -95,7 +107,8 @@ fn serve_beside<'a, R: System, I: Read + Drop + Send + 'static, O: Write>(
 ) -> Result<u64, Failure<'a>> {
     thread::scope(thread::scope_env(), rt, |threads| {
         let Ok(serving) = threads.spawn(move || {
-            let served = serve_site(site, options, notices);
+            let (end, served) = serve_site(site, options, notices);
+            drop(end);
             notices.note_over();
             served
         }) else {
@@ -111,12 +124,19 @@ fn serve_beside<'a, R: System, I: Read + Drop + Send + 'static, O: Write>(
     })
 }
 
-/// Opens the store of a device and serves its sessions. Returns their number.
-fn serve_site<'a, R: Host>(
-    site: Site<'a>,
+/// Opens the store of a device and serves its sessions. Returns their number, and, where the store
+/// was served, the device with the log of all commands that were accepted. What a stop at any moment
+/// leaves of an honest file opens to the rows that it had at the start after a front of that log,
+/// with each acknowledged command from its commit on (`ServesFile`).
+fn serve_site<'a, R: Host, F: PositionedFile + Drop + Send>(
+    site: Site<'a, F>,
     options: &Options,
     notices: &Notices<R>,
-) -> Result<u64, Failure<'a>> {
+) -> (Option<(FileDevice<F>, Left)>, Result<u64, Failure<'a>>)
+    ensures served { IfSome result.0 (λ end.
+        ServesFile (file_disk site.device) end.1 (file_state end.0) (file_disk end.0)) }
+    ensures made { OnOk result.1 (IsSome result.0) }
+{
     let Site {
         path,
         device,
@@ -125,15 +145,40 @@ fn serve_site<'a, R: Host>(
     } = site;
     let rt = notices.host();
     let begun = Instant::now(rt).ok();
-    let store = store_of(rt, path, device)?;
+    let store = match store_of(rt, path, device) {
+        Ok(store) => store,
+        Err(failure) => return (None, Err(failure)),
+    };
     say_opened(rt, notices, path, &store, begun);
     say_addresses(rt.alloc(), notices, path, &store, &listeners);
     say_overfull(notices, &store);
-    let count = run_on(rt, rt.alloc(), listeners, store, options, notices).map_err(
-        |error| Failure::Server(error),
-    )?;
-    notices.say("ended".to_string(rt.alloc()));
-    Ok(count)
+    let (device, left, served) = serve_store(rt, rt.alloc(), listeners, store, options, notices);
+    device.covers_images();
+    let end = match left {
+        Some(left) => Some((device, left)),
+        None => {
+            drop(device);
+            None
+        }
+    };
+    (end, after_serving(notices, served))
+}
+
+/// The number of sessions that were served, which is said, or why the server failed.
+fn after_serving<'a, R: Host>(
+    notices: &Notices<R>,
+    served: Result<u64, RunError>,
+) -> Result<u64, Failure<'a>>
+    ensures served { OnOk result (IsOk served) }
+    ensures failed { OnErr result (IsErr served) }
+{
+    match served {
+        Ok(count) => {
+            notices.say("ended".to_string(notices.host().alloc()));
+            Ok(count)
+        }
+        Err(error) => Err(Failure::Server(error)),
+    }
 }
 
 /// The store of a device, whose rows are read in threads.
@@ -141,7 +186,11 @@ fn store_of<'a, R: Host, D: Device + Drop>(
     rt: &R,
     path: &'a str,
     device: D,
-) -> Result<Store<D>, Failure<'a>> {
+) -> Result<Store<D>, Failure<'a>>
+    ensures opened { IfOk result (λ store. IsHonest (D.disk device) → IsOpened (reads_of (D.disk device)) store) }
+    ensures any_moment { IfOk result (λ store.
+        Stretch (D.disk device) store.disk (IsFromImage (D.disk device).history.now OpensAlike)) }
+{
     match open_in_threads(rt, rt.alloc(), device) {
         Ok(store) => Ok(store),
         Err((_device, error)) => Err(Failure::Store(path, error.into())),

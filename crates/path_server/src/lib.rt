@@ -3,8 +3,8 @@
 //! To the layer above, `serve_store` accepts connections of a listener and answers each as a
 //! session of the store, at most 64 at one time, until it has started the number of sessions that
 //! its options name. Then it closes the listener, and once the last session has ended, it returns
-//! the device. `run_on` is the same without the device. A second listener, where there is one, is
-//! for peers that ask for the server's numbers.
+//! the device. A second listener, where there is one, is for peers that ask for the server's
+//! numbers.
 #![tactic(auto)]
 
 mod accepting;
@@ -36,5 +36,5 @@ pub use error::RunError;
 pub use listeners::{Listeners, set_accept_timeout};
 pub use options::Options;
 pub use reports::{Report, Reports, Silent};
-pub use running::{System, run_on, serve_store};
+pub use running::{System, serve_store};
 pub use seats::MOST_SESSIONS;

@@ -32,37 +32,18 @@ pub trait System: Wait + Clock + Threads + Copy + Drop + Send + Sync {}
 impl<R: Wait + Clock + Threads + Copy + Drop + Send + Sync> System for R {}
 
 /// Serves sessions over a store until the number that the options name has been started and has
-/// ended, and returns that number. The device is dropped. Errors:
+/// ended. Returns that number, and the device with the log of all commands that were accepted. An
+/// honest device opens to the store's rows and place after a front of that log with all committed
+/// commands, whatever the sessions did and however the call ends. So it has each command at its
+/// place that a session acknowledged: each session hands in the claims of those commands at its
+/// end. At every moment since the store was opened a stop of the device would have left a front of
+/// that log, and each of these commands from the moment of its commit on. Where no log is left,
+/// nothing was served, and the device is the store's. Errors:
 ///
 /// - `Net`: the listener for sessions broke.
 /// - `NoMemory`: the readers or a thread were not given.
 ///
 /// Where the listener for requests of the numbers breaks, only their thread ends.
-pub fn run_on<
-    R: System,
-    L: OpenListener<Stream = TcpStream> + Drop + Send,
-    D: Device + Drop + Send,
-    O: Reports + Sync,
->(
-    rt: R,
-    alloc: Global,
-    listeners: Listeners<L>,
-    store: Store<D>,
-    options: &Options,
-    reports: &O,
-) -> Result<u64, RunError> {
-    let (device, _left, served) = serve_store(rt, alloc, listeners, store, options, reports);
-    drop(device);
-    served
-}
-
-/// Serves sessions as `run_on` does, and returns the device, with the log of all commands that were
-/// accepted. An honest device opens to the store's rows and place after a front of that log with
-/// all committed commands, whatever the sessions did and however the call ends. So it has each
-/// command at its place that a session acknowledged: each session hands in the claims of those
-/// commands at its end. At every moment since the store was opened a stop of the device would have
-/// left a front of that log, and each of these commands from the moment of its commit on. Where no
-/// log is left, nothing was served, and the device is the store's.
 pub fn serve_store<
     R: System,
     L: OpenListener<Stream = TcpStream> + Drop + Send,

@@ -1,0 +1,42 @@
+-- What serving leaves of the file of a store: for `serve_site`.
+use Rattle.std.proofs.Common.{◌≡◌, ℕ, List}
+use Rattle.path_rows.specs.Database.{RowView}
+use Rattle.sector_dev.specs.Disk.{Disk, IsHonest, reads_of}
+use Rattle.sector_dev.specs.FileDevice.{front, CoversImages}
+use Rattle.sector_dev.specs.Image.{EveryImage, IsFromImage}
+use Rattle.sector_dev.specs.PositionedFile.{FileState, IsHonestFile}
+use Rattle.sector_dev.specs.Stretch.{Stretch}
+use Rattle.sector_dev.proofs.Stretches.{honest_after}
+use Rattle.store_layout.specs.Opening.{StoreValue, OpensTo}
+use Rattle.ckpt_pair.specs.Versions.{latest}
+use Rattle.store_open.specs.Open.{IsOpened, OpensAlike}
+use Rattle.store_open.specs.PathStores.{store_format}
+use Rattle.store_open.specs.Store.{StoreView}
+use Rattle.group_core.specs.Starting.{value_of_store}
+use Rattle.logged_state.specs.Kept.{AllClaimsKept}
+use Rattle.logged_state.specs.Left.{OpensToFrontOf, OpensToLog}
+use Rattle.logged_state.specs.LeftView.{LeftView}
+use Rattle.cli_program.specs.Serving.{ServesFile}
+
+-- the store has what its image opens with
+opens_to : (reads : List ℕ) (store : StoreView) → IsOpened reads store → OpensTo store_format latest reads (value_of_store store)
+opens_to reads store opened = record { opening = opened.rest.opening; is = opened.same; stands_for = opened.rest.tells.value }
+
+pub serves_file : (start : Disk) (store : StoreView) (left : LeftView) (file : FileState) (end : Disk)
+    → (IsHonest start → IsOpened (reads_of start) store)
+    → Stretch start store.disk (IsFromImage start.history.now OpensAlike)
+    → Stretch store.disk end (OpensToFrontOf (value_of_store store) left.log.commands 0)
+    → (IsHonest store.disk → AllClaimsKept (value_of_store store) left.log end.history left.acknowledged)
+    → (IsHonest end → EveryImage end.history.now (OpensToLog (value_of_store store) left.log))
+    → (IsHonestFile file → IsHonest end)
+    → CoversImages file end
+    → ServesFile start left file end
+serves_file start store left file end opened alike moments since now same covers = record {
+  opening = value_of_store store;
+  opens = λ honest. opens_to (reads_of start) store (opened honest);
+  opened = store.disk;
+  alike = alike;
+  moments = moments;
+  since = λ honest. since (honest_after _ _ alike.keeps honest);
+  leaves = λ honest content is. now (same honest) (front end.sectors content) (covers honest content is);
+}

@@ -1,0 +1,34 @@
+-- What serving leaves of the file of a store.
+use Rattle.std.specs.Prelude.{List, ℕ}
+use Rattle.path_rows.specs.Database.{RowView}
+use Rattle.sector_dev.specs.Disk.{Disk, IsHonest, reads_of}
+use Rattle.sector_dev.specs.FileDevice.{front}
+use Rattle.sector_dev.specs.Image.{IsImage, IsFromImage}
+use Rattle.sector_dev.specs.PositionedFile.{FileState, IsHonestFile, file_moment}
+use Rattle.sector_dev.specs.Stretch.{Stretch}
+use Rattle.store_layout.specs.Opening.{StoreValue, OpensTo}
+use Rattle.ckpt_pair.specs.Versions.{latest}
+use Rattle.store_open.specs.Open.{OpensAlike}
+use Rattle.store_open.specs.PathStores.{store_format}
+use Rattle.logged_state.specs.Kept.{AllClaimsKept}
+use Rattle.logged_state.specs.Left.{OpensToFrontOf, OpensToLog}
+use Rattle.logged_state.specs.LeftView.{LeftView}
+
+-- A store of a device over a file is opened and served: what the device has at the start, what the
+-- server leaves, and the file and the device at the end.
+pub record ServesFile (start : Disk) (left : LeftView) (file : FileState) (end : Disk) : Type 0 where
+  -- The rows at the start, and their place.
+  pub opening : StoreValue (List RowView)
+  pub opens : IsHonest start → OpensTo store_format latest (reads_of start) opening
+  -- The device once the store is open. Until then each image that a stop may leave is one of the
+  -- start, or opens with what one of the start opens with.
+  pub opened : Disk
+  pub alike : Stretch start opened (IsFromImage start.history.now OpensAlike)
+  -- From then on, at every moment, each such image opens to these rows after a front of the log.
+  pub moments : Stretch opened end (OpensToFrontOf opening left.log.commands 0)
+  -- It has each acknowledged command from the moment on at which it was committed.
+  pub since : IsHonest start → AllClaimsKept opening left.log end.history left.acknowledged
+  -- So does each content that a stop may leave of the file at the end, in the device's sectors: it
+  -- opens to these rows after a front of the log with all committed commands.
+  pub leaves : IsHonestFile file → (content : List ℕ) → IsImage (file_moment file) content
+      → OpensToLog opening left.log (front end.sectors content)
