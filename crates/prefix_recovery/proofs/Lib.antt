@@ -1,6 +1,7 @@
 mod Fronts
 mod Joined
 mod Runs
+mod TicketPlaces
 mod Extended
 mod Recovered
 mod SoFar

@@ -14,6 +14,7 @@ use Rattle.prefix_recovery.specs.TraceSteps.{trace_at, trace_after}
 use Rattle.prefix_recovery.specs.Recoverable.{IsRecoverable}
 use Rattle.prefix_recovery.proofs.Extended.{last_pushed}
 use Rattle.prefix_recovery.proofs.Recovered.{committed_front_at}
+use Rattle.prefix_recovery.proofs.TicketPlaces.{tickets_of_run}
 use Rattle.prefix_recovery.proofs.Runs.{runs_joined, orders_joined, as_many_replies, acknowledged_then, served_then, leads_then}
 
 pub record TracesSoFar (events : List Event) (replies : List Reply) (start now : RunView) (trace : TraceView) : Type 0 where
@@ -59,6 +60,7 @@ trace_of_run events replies start now trace so_far recoverable = record {
   fronts = λ run there.
       subst (λ (s : RunView). IsAfterFront s.state.value trace.order run.state.value) so_far.starts (committed_front_at trace recoverable run there);
   acknowledged = so_far.acknowledged;
+  tickets = tickets_of_run start trace.order events replies now so_far.order so_far.runs;
   unopened = so_far.unopened;
 }
 

@@ -1,6 +1,6 @@
 -- What survives a stop of a run: the definitions of the recovery theorem, to be read from top to
 -- bottom. A run is a list of events, and a trace of the run has what a stop depends on.
-use Rattle.std.specs.Prelude.{◌≡◌, ℕ, ◌+◌, ◌<◌, ◌≤◌, ◌⊎◌, List, [], ◌∷◌, length, take, drop, Contains}
+use Rattle.std.specs.Prelude.{◌≡◌, ℕ, ◌+◌, ◌-◌, ◌<◌, ◌≤◌, ◌⊎◌, List, [], ◌∷◌, length, take, drop, Contains, Some, slice_get}
 use Rattle.path_rows.specs.Database.{RowView}
 use Rattle.path_rows.specs.declared.command.Command.{Command}
 use Rattle.path_rows.specs.Command.{database_after_all}
@@ -10,10 +10,11 @@ use Rattle.store_layout.specs.Opening.{StoreValue}
 use Rattle.store_open.specs.Store.{StoreView}
 use Rattle.group_core.specs.Starting.{value_of_store}
 use Rattle.group_recovery.specs.declared.events.Event.{Event}
+use Rattle.group_recovery.specs.declared.events.Event.TheVariants as event
 use Rattle.group_recovery.specs.declared.events.Reply.{Reply}
 use Rattle.group_recovery.specs.declared.events.Reply.TheVariants as reply
 use Rattle.group_recovery.specs.RunSteps.{RunView}
-use Rattle.group_recovery.specs.RunLeaves.{lock_order}
+use Rattle.group_recovery.specs.RunLeaves.{accepted_in, lock_order}
 
 -- ---- the trace of a run
 
@@ -72,6 +73,25 @@ AcknowledgedAreCommitted [] [] = Unit {0}
 AcknowledgedAreCommitted (r ∷ replies) (run ∷ later) = IsCommittedIn r run × AcknowledgedAreCommitted replies later
 AcknowledgedAreCommitted _ _ = ⊥
 
+-- The order has at this place the command that was accepted for the k-th ticket of the run. The
+-- tickets that the run began with come before those of the commands that it accepts.
+pub record HasTicketsCommand (start : RunView) (order all : List Command) (k place : ℕ) : Type 0 where
+  pub from : start.state.value.place ≤ place
+  pub command : Command
+  pub accepted : slice_get all (k - length start.tickets) ≡ Some command
+  pub there : slice_get order (place - start.state.value.place) ≡ Some command
+
+-- A ticket that the run gave is acknowledged with the place of its own command.
+abbrev pub IsOfItsTicket : RunView → List Command → List Command → Event → Reply → Type 0
+IsOfItsTicket start order all (event.Redeem k) (reply.Committed place outcome) = length start.tickets ≤ k → HasTicketsCommand start order all k place
+IsOfItsTicket start order all _ _ = Unit {0}
+
+-- Each event, and its reply.
+abbrev pub AreOfTheirTickets : RunView → List Command → List Command → List Event → List Reply → Type 0
+AreOfTheirTickets start order all [] [] = Unit {0}
+AreOfTheirTickets start order all (e ∷ events) (r ∷ replies) = IsOfItsTicket start order all e r × AreOfTheirTickets start order all events replies
+AreOfTheirTickets start order all _ _ = ⊥
+
 -- The trace is that of a run from a start to an end, by these events with these replies.
 pub record IsTraceOf (start : RunView) (events : List Event) (replies : List Reply) (end : RunView) (trace : TraceView) : Type 0 where
   pub starts : trace.start ≡ start
@@ -80,6 +100,7 @@ pub record IsTraceOf (start : RunView) (events : List Event) (replies : List Rep
   -- In each state of the run, what is committed is a front of the order.
   pub fronts : (run : RunView) → Contains (runs_of trace) run → IsAfterFront start.state.value trace.order run.state.value
   pub acknowledged : AcknowledgedAreCommitted replies trace.later
+  pub tickets : AreOfTheirTickets start trace.order (accepted_in events replies) events replies
   -- The device was not opened again yet.
   pub unopened : trace.attempts ≡ []
 
