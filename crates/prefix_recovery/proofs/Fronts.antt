@@ -59,7 +59,7 @@ module _ (start middle last : StoreValue (List RowView)) (order later : List Com
   kept_long : length (take first.kept order) ≡ first.kept
   kept_long = length-take-le first.kept order first.inside
 
-  split : take (first.kept + second.kept) (take first.kept order ++ later) ≡ take first.kept order ++ take second.kept later
+  pub split : take (first.kept + second.kept) (take first.kept order ++ later) ≡ take first.kept order ++ take second.kept later
   split =
       ap (λ (n : ℕ). take (n + second.kept) (take first.kept order ++ later)) (sym kept_long)
       ∙ take_past (take first.kept order) later second.kept

@@ -1,7 +1,7 @@
-mod Fronts
+pub mod Fronts
 mod Joined
 mod Runs
 mod TicketPlaces
 mod Extended
-mod Recovered
+pub mod Recovered
 mod SoFar

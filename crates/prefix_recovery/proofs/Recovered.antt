@@ -23,7 +23,7 @@ use Rattle.prefix_recovery.specs.Recoverable.{LeavesFront, OpensAsBefore, IsReco
 use Rattle.prefix_recovery.proofs.Fronts.{length_drop, then_front, after_front}
 
 -- images that open alike open to the same value
-alike_opens : (value : StoreValue (List RowView)) (before behind : List ℕ) → OpensTo store_format latest before value → OpensAlike before behind → OpensTo store_format latest behind value
+pub alike_opens : (value : StoreValue (List RowView)) (before behind : List ℕ) → OpensTo store_format latest before value → OpensAlike before behind → OpensTo store_format latest behind value
 alike_opens value before behind opens (inl same) = subst (λ (image : List ℕ). OpensTo store_format latest image value) (sym same) opens
 alike_opens value before behind opens (inr both) = record {
   opening = both.opening;

@@ -30,11 +30,13 @@ BEGIN = "<!-- tools/pathd-tools reading --write{} -->"
 # What a file of code uses of a crate: the crate, and the names, whose list may take several lines.
 USE = re.compile(r"^use (\w+)::(?:\w+::)*(\{[^}]*\}|\w+);", re.M)
 
-# The contracts of docs/THEOREM.md: what survives, and what lookups are answered from. The clauses that
-# are the statement, and the file of the definitions that it quotes.
+# The contracts of docs/THEOREM.md: what survives, what lookups are answered from, and what survives a
+# server. The clauses that are the statement, and the files of the definitions that it quotes.
 SURVIVAL = ["prefix_recovery recovery::run_traced trace", "prefix_recovery recovery::reopen_after"]
 LOOKUPS = ["prefix_recovery recovery::run_traced lookups"]
+SERVED = ["log_recovery reopening::reopen_left recovers refused"]
 QUOTED = CRATES / "prefix_recovery" / "specs" / "Survival.antt"
+QUOTED_OF_SERVER = CRATES / "log_recovery" / "specs" / "Survival.antt"
 
 # The contracts that carry each promise.
 PROMISES = [
@@ -49,6 +51,7 @@ PROMISES = [
     ("4: `run` and `open`, all clauses of the theorem", ["group_recovery running::run runs leaves", "store_open open_store::open any_moment opened"]),
     ("4: `run_traced` and `reopen_after`, what survives", SURVIVAL),
     ("4: what a server's device holds", ["path_server running::serve_store"]),
+    ("4: `reopen_left`, what survives a server", SERVED),
     ("5: a lookup", ["path_hub reader::lookup", "path_hub reader::learn"]),
     ("5: `register`", ["path_hub hub::register"]),
 ]
@@ -191,11 +194,20 @@ def table() -> str:
 
 def statement() -> str:
     """The clauses of the theorem and the definitions of its file, word for word."""
+    return quoted(SURVIVAL + LOOKUPS, QUOTED)
+
+
+def statement_of_server() -> str:
+    """The same of a server."""
+    return quoted(SERVED, QUOTED_OF_SERVER)
+
+
+def quoted(specs: list[str], path: Path) -> str:
     clauses: dict[str, list[str]] = {}
-    for spec in SURVIVAL + LOOKUPS:
+    for spec in specs:
         clauses.setdefault(spec.split("::")[1].split(" ")[0], []).extend(text.strip("\n") for _, text in clause_texts(spec)[1:])
     said = [line for name, texts in clauses.items() for line in [name, *texts]]
-    words = [it.text for it in source.definitions(QUOTED).values()]
+    words = [it.text for it in source.definitions(path).values()]
     return "\n".join(["```", *said, "```", "", "```", "\n\n".join(words), "```"])
 
 
@@ -204,10 +216,12 @@ def reading_list() -> str:
     survival = in_reading_order([it for spec in SURVIVAL for it in starts_of(spec)])
     known = {key(it) for it in survival}
     lookups = [it for it in in_reading_order([it for spec in LOOKUPS for it in starts_of(spec)]) if key(it) not in known]
+    known |= {key(it) for it in lookups}
+    served = [it for it in in_reading_order([it for spec in SERVED for it in starts_of(spec)]) if key(it) not in known]
     rows = ["| file | what to read | lines |", "|---|---|---|"]
-    for name, those in [("what survives", survival), ("lookups too", lookups)]:
+    for name, those in [("what survives", survival), ("lookups too", lookups), ("a server too", served)]:
         for path, words in by_file(those):
-            names = "all that is quoted above" if path == QUOTED else ", ".join(f"`{it.name}`" for it in words)
+            names = "all that is quoted above" if path in (QUOTED, QUOTED_OF_SERVER) else ", ".join(f"`{it.name}`" for it in words)
             rows.append(f"| `{path.relative_to(TOP)}` | {names} | {sum(it.lines for it in words)} |")
         rows.append(f"| **{name}** | {len(those)} | **{sum(it.lines for it in those)}** |")
     return "\n".join(rows)
@@ -295,7 +309,7 @@ def main(words: list[str]) -> int:
     if chosen.contracts:
         show(chosen.contracts, chosen.imports, chosen.together)
         return 0
-    blocks = [(PROOFS, "", table), (THEOREM, ": statement", statement), (THEOREM, ": list", reading_list)]
+    blocks = [(PROOFS, "", table), (THEOREM, ": statement", statement), (THEOREM, ": server", statement_of_server), (THEOREM, ": list", reading_list)]
     if not (chosen.write or chosen.check):
         print(table())
         return 0

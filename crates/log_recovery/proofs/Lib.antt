@@ -1,0 +1,2 @@
+mod Recovered
+mod Joined

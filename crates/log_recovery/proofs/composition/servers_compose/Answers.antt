@@ -1,0 +1,6 @@
+use Rattle.log_recovery.proofs.Joined.{servers_joined, place_joined}
+use Rattle.log_recovery.proofs.composition.servers_compose.Goals as goal
+
+pub returns : goal.returns
+returns c = λ start middle last order later claims more first second.
+    (servers_joined start middle last order later claims more first second, place_joined start middle last order later claims more first second)

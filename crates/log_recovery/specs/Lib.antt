@@ -1,0 +1,3 @@
+pub mod Survival
+pub mod Serving
+pub mod Composition
