@@ -1,5 +1,5 @@
 -- What serving leaves of the file of a store: for `serve_site`.
-use Rattle.std.proofs.Common.{◌≡◌, ℕ, List}
+use Rattle.std.proofs.Common.{◌≡◌, ℕ, List, Bool, IsTrue, Option, Some, IfSome, sym, subst}
 use Rattle.path_rows.specs.Database.{RowView}
 use Rattle.sector_dev.specs.Disk.{Disk, IsHonest, reads_of}
 use Rattle.sector_dev.specs.FileDevice.{front, CoversImages}
@@ -28,7 +28,7 @@ pub serves_file : (start : Disk) (store : StoreView) (left : LeftView) (file : F
     → Stretch store.disk end (OpensToFrontOf (value_of_store store) left.log.commands 0)
     → (IsHonest store.disk → AllClaimsKept (value_of_store store) left.log end.history left.acknowledged)
     → (IsHonest end → EveryImage end.history.now (OpensToLog (value_of_store store) left.log))
-    → (IsHonestFile file → IsHonest end)
+    → end.is_honest ≡ file.is_honest
     → CoversImages file end
     → ServesFile start left file end
 serves_file start store left file end opened alike moments since now same covers = record {
@@ -38,5 +38,23 @@ serves_file start store left file end opened alike moments since now same covers
   alike = alike;
   moments = moments;
   since = λ honest. since (honest_after _ _ alike.keeps honest);
-  leaves = λ honest content is. now (same honest) (front end.sectors content) (covers honest content is);
+  leaves = λ honest content is. now (subst (λ (b : Bool). IsTrue b) (sym same) honest) (front end.sectors content) (covers honest content is);
 }
+
+-- the same, where something is left
+pub serves_some : (start : Disk) (store : StoreView) (found : Option LeftView) (left : LeftView) (file : FileState) (end : Disk)
+    → found ≡ Some left
+    → (IsHonest start → IsOpened (reads_of start) store)
+    → Stretch start store.disk (IsFromImage start.history.now OpensAlike)
+    → IfSome found (λ left. Stretch store.disk end (OpensToFrontOf (value_of_store store) left.log.commands 0))
+    → IfSome found (λ left. IsHonest store.disk → AllClaimsKept (value_of_store store) left.log end.history left.acknowledged)
+    → IfSome found (λ left. IsHonest end → EveryImage end.history.now (OpensToLog (value_of_store store) left.log))
+    → end.is_honest ≡ file.is_honest
+    → CoversImages file end
+    → ServesFile start left file end
+serves_some start store found left file end is opened alike moments since now same covers =
+    serves_file start store left file end opened alike
+    (subst (λ (it : Option LeftView). IfSome it (λ left. Stretch store.disk end (OpensToFrontOf (value_of_store store) left.log.commands 0))) is moments)
+    (subst (λ (it : Option LeftView). IfSome it (λ left. IsHonest store.disk → AllClaimsKept (value_of_store store) left.log end.history left.acknowledged)) is since)
+    (subst (λ (it : Option LeftView). IfSome it (λ left. IsHonest end → EveryImage end.history.now (OpensToLog (value_of_store store) left.log))) is now)
+    same covers

@@ -134,7 +134,7 @@ fn serve_site<'a, R: Host, F: PositionedFile + Drop + Send>(
     notices: &Notices<R>,
 ) -> (Option<(FileDevice<F>, Left)>, Result<u64, Failure<'a>>)
     ensures served { IfSome result.0 (λ end.
-        ServesFile (file_disk site.device) end.1 (file_state end.0) (file_disk end.0)) }
+        ServesFile (file_disk site.entry.device) end.1 (file_state end.0) (file_disk end.0)) }
     ensures made { OnOk result.1 (IsSome result.0) }
 {
     let Site {
@@ -154,14 +154,13 @@ fn serve_site<'a, R: Host, F: PositionedFile + Drop + Send>(
     say_overfull(notices, &store);
     let (device, left, served) = serve_store(rt, rt.alloc(), listeners, store, options, notices);
     device.covers_images();
-    let end = match left {
-        Some(left) => Some((device, left)),
+    match left {
+        Some(left) => (Some((device, left)), after_serving(notices, served)),
         None => {
             drop(device);
-            None
+            (None, after_serving(notices, served))
         }
-    };
-    (end, after_serving(notices, served))
+    }
 }
 
 /// The number of sessions that were served, which is said, or why the server failed.
