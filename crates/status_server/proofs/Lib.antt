@@ -1,2 +1,2 @@
 mod RefusalLemmas
-mod RequestLemmas
+mod VisitLemmas

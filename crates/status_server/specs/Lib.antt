@@ -2,3 +2,5 @@ pub mod Answers
 pub mod Kinds
 pub mod Refusals
 pub mod Requests
+pub mod Turns
+pub mod Visits

@@ -2,7 +2,7 @@
 //!
 //! To the layer above: `Counted` is a service that changes no reply of another service and counts
 //! each in `Replies`, which threads share. `answer` is the text that a peer is sent for what it
-//! asks. `read_request` and `send` use its connection, by a `Deadline` over all reads and writes.
+//! asks. `Visits` has the connections of such peers, and waits for none of them.
 #![tactic(auto)]
 
 mod answers;
@@ -11,9 +11,12 @@ mod counted;
 mod refusals;
 mod replies;
 mod reply_kind;
+mod visit;
+mod visits;
 
 pub use answers::answer;
-pub use connection::{MOST_HEAD, part, read_request, send};
+pub use connection::part;
 pub use counted::{Counted, CountedCommand};
 pub use replies::Replies;
 pub use reply_kind::ReplyKind;
+pub use visits::Visits;
