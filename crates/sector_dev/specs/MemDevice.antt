@@ -1,5 +1,5 @@
 -- A device in memory, as contracts see it.
-use Rattle.std.specs.Prelude.{ℕ, ◌*◌, true, [], replicate}
+use Rattle.std.specs.Prelude.{ℕ, ◌-◌, ◌*◌, true, List, [], ◌++◌, length, take, replicate}
 use Rattle.byte_lists.specs.declared.format.TheConstants.{SECTOR}
 use Rattle.sector_dev.specs.Disk.{Disk}
 use Rattle.sector_dev.specs.declared.mem_device.MemDevice.{MemDevice}
@@ -21,3 +21,7 @@ zeroed_disk sectors = record {
   faults = 0;
   history = record { past = []; now = record { reads = replicate (SECTOR * sectors) 0; dirty = [] } };
 }
+
+-- The first bytes of a torn write land, and all others become one fill byte.
+abbrev pub torn_bytes : ℕ → ℕ → List ℕ → List ℕ
+torn_bytes keep fill bytes = take keep bytes ++ replicate (length bytes - keep) fill

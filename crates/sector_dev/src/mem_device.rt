@@ -4,7 +4,6 @@ ghost use Rattle.std.proofs.Common.{arith};
 ghost use Rattle.byte_lists.specs.Content.{AreBytes};
 ghost use Rattle.byte_lists.specs.declared.format.TheConstants.{SECTOR};
 
-use crate::fuse_device::Tear;
 use crate::trail::Trail;
 use crate::{DevError, Device, SECTOR};
 use std::alloc::{AllocError, Global};
@@ -23,8 +22,7 @@ pub struct MemDevice {
 impl MemDevice {
     ghost use Rattle.byte_lists.specs.Content.{part};
     ghost use Rattle.sector_dev.specs.Disk.{after_write, reads_of};
-    ghost use Rattle.sector_dev.specs.MemDevice.{memory_disk, zeroed_disk};
-    ghost use Rattle.sector_dev.specs.FuseDevice.{torn_bytes};
+    ghost use Rattle.sector_dev.specs.MemDevice.{memory_disk, zeroed_disk, torn_bytes};
 
     /// A device of zeros with this number of sectors. An error means that memory was refused.
     pub fn new(alloc: Global, sectors: u64) -> Result<MemDevice, AllocError>
@@ -39,25 +37,27 @@ impl MemDevice {
         })
     }
 
-    /// A write that a stop tears, of whole sectors from sector `at` on.
-    pub(crate) fn tear(&mut self, at: u64, bytes: &[u8], tear: Tear)
+    /// A write that a stop tears, from sector `at` on: its first `keep` bytes land, and all others
+    /// become `fill`. The range is dirty.
+    pub fn tear(&mut self, at: u64, bytes: &[u8], keep: usize, fill: u8)
         requires { SECTOR * at + length bytes.now ≤ SECTOR * (memory_disk self.old).sectors }
         ensures { memory_disk self.new ≡ record (memory_disk self.old) {
-          history = after_write (SECTOR * at) (torn_bytes tear bytes.now) (memory_disk self.old).history;
+          history = after_write (SECTOR * at) (torn_bytes keep fill bytes.now) (memory_disk self.old).history;
         } }
     {
         let start = SECTOR * at as usize;
-        let keep = tear.keep.min(bytes.len());
+        let landed = keep.min(bytes.len());
         self.trail = self
             .trail
             .wrote(&self.bytes, SECTOR as u64 * at, bytes.len());
         let range = &mut self.bytes[start..start + bytes.len()];
-        range[..keep].copy_from_slice(&bytes[..keep]);
-        range[keep..].fill(tear.fill);
+        range[..landed].copy_from_slice(&bytes[..landed]);
+        range[landed..].fill(fill);
     }
 
-    /// A write of which nothing lands. The range is dirty all the same.
-    pub(crate) fn touch(&mut self, at: u64, len: usize)
+    /// A write of `len` bytes from sector `at` on, of which nothing lands. The range is dirty all the
+    /// same.
+    pub fn touch(&mut self, at: u64, len: usize)
         requires { SECTOR * at + len ≤ SECTOR * (memory_disk self.old).sectors }
         ensures { memory_disk self.new ≡ record (memory_disk self.old) {
           history = after_write (SECTOR * at) (part (SECTOR * at) len (reads_of (memory_disk self.old))) (memory_disk self.old).history;

@@ -8,7 +8,7 @@ use crate::PositionedFile;
 use std::marker::Model;
 
 /// A type whose values have bytes that contracts can name.
-pub(crate) trait HoldsBytes {
+pub trait HoldsBytes {
     ghost use Rattle.std.specs.Prelude.{ℕ, List};
 
     ghost bytes: { Self → List ℕ };
@@ -79,7 +79,7 @@ impl<'a, B: HoldsBytes> TrailSource for SyncStep<'a, B> {
 
 /// The moments before now, and what is dirty now.
 #[derive(Drop)]
-pub(crate) struct Trail {
+pub struct Trail {
     pub ghost past: { List Moment },
     pub ghost dirty: { List ByteRange },
 }
@@ -102,21 +102,21 @@ impl Trail {
     }
 
     /// A trail without past moments, where nothing is dirty.
-    pub(crate) fn new() -> Trail
+    pub fn new() -> Trail
         ensures { (result.past ≡ []) × (result.dirty ≡ []) }
     {
         Trail::of(&FreshStart)
     }
 
     /// A trail without past moments, with the dirty ranges of a file.
-    pub(crate) fn over<F: PositionedFile>(file: &F) -> Trail
+    pub fn over<F: PositionedFile>(file: &F) -> Trail
         ensures { (result.past ≡ []) × (result.dirty ≡ (F.state file.now).dirty) }
     {
         Trail::of(&FileStart { file })
     }
 
     /// The trail after a write of a range, where these were the bytes before.
-    pub(crate) fn wrote<B: HoldsBytes>(&self, before: &B, start: u64, len: usize) -> Trail
+    pub fn wrote<B: HoldsBytes>(&self, before: &B, start: u64, len: usize) -> Trail
         ensures { (result.past ≡ self.now.past ++ record { reads = B.bytes before.now; dirty = self.now.dirty } ∷ [])
             × (result.dirty ≡ record { start = start; len = len } ∷ self.now.dirty) }
     {
@@ -129,7 +129,7 @@ impl Trail {
     }
 
     /// The trail after a sync, where these are the bytes.
-    pub(crate) fn synced<B: HoldsBytes>(&self, held: &B) -> Trail
+    pub fn synced<B: HoldsBytes>(&self, held: &B) -> Trail
         ensures { (result.past ≡ self.now.past ++ record { reads = B.bytes held.now; dirty = self.now.dirty } ∷ [])
             × (result.dirty ≡ []) }
     {

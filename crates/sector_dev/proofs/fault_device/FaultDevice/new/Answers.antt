@@ -1,6 +1,0 @@
--- One goal, which the search finds itself.
-use Rattle.std.proofs.Common.{rules}
-use Rattle.sector_dev.proofs.fault_device.FaultDevice.new.Goals as goal
-
-pub returns-clause-before : goal.returns-clause-before
-returns-clause-before c = search rules

@@ -1,6 +1,0 @@
--- One goal, which the search finds itself.
-use Rattle.std.proofs.Common.{rules}
-use Rattle.sector_dev.proofs.fuse_device.FuseDevice.burn.Goals as goal
-
-pub returns-clause-memory : goal.returns-clause-memory
-returns-clause-memory c = search rules
