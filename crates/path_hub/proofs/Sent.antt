@@ -4,8 +4,6 @@ use denote.Param.Send.{IsSend, IsSync, sendable, recorded_send, recorded_sync, s
 use denote.Struct.Declared.{shape}
 use denote.Enum.Declared.{shape as enum_shape}
 use Rattle.std.proofs.Crossing.{crosses, Deque-send, Arc-send}
-use Rattle.std.proofs.MapsCrossing.{crosses as maps_cross}
-use Rattle.std.proofs.MapsCrossingOver.{crosses as sets_cross}
 use Rattle.std.specs.contracts.sync.Mutex as Mutex
 use Rattle.std.specs.contracts.sync.Arc as Arc
 use Rattle.std.specs.contracts.collections.VecDeque as VecDeque
@@ -16,8 +14,6 @@ use Rattle.command_queue.specs.declared.history.QueueName as queue
 use Rattle.command_queue.specs.contracts.queue.CommandQueue as CommandQueue
 use Rattle.command_queue.proofs.Sent.{claim_send, queue_send}
 use Rattle.std.specs.declared.sync.Wait as wait
-use Rattle.left_right.proofs.part.Part.TheSendSync as part
-use Rattle.left_right.proofs.part.Deed.TheSendSync as deed
 use Rattle.atomic_table.proofs.shared.Seat.TheSendSync as seat
 use Rattle.atomic_table.proofs.shared.Shared.TheSendSync as shared
 use Rattle.atomic_table.proofs.send_lease.SendLease.TheSendSync as lease
@@ -26,18 +22,15 @@ use Rattle.sector_dev.specs.declared.device.Device as device
 use Rattle.command_log.specs.declared.name.LogName as named
 use Rattle.command_log.specs.contracts.gathering.LoggedList as LoggedList
 use Rattle.command_log.specs.contracts.gathering.LogDesk as LogDesk
-use Rattle.command_log.proofs.Sent.{accepted_send, logged_send, list_send, log_send}
+use Rattle.command_log.proofs.Sent.{accepted_send, list_send, log_send}
 use Rattle.logged_state.specs.declared.name.StateName as opened
-use Rattle.logged_state.specs.contracts.receipt.LoggedReceipt as LoggedReceipt
 use Rattle.logged_state.specs.contracts.state.LoggedState as LoggedState
-use Rattle.path_hub.specs.declared.name.HubName as hub
-use Rattle.path_hub.specs.contracts.show.HubNote as HubNote
+use Rattle.hub_readers.specs.contracts.reader.HubReader as HubReader
+use Rattle.hub_readers.proofs.Sent.{segment_send, row_send, db_send, command_send, receipt_send, reader_send, show_send}
 use Rattle.path_hub.specs.contracts.answer.Answer as Answer
 use Rattle.path_hub.specs.contracts.answer.Slot as Slot
+use Rattle.path_hub.specs.contracts.guarded.Locked as Locked
 use Rattle.path_hub.specs.contracts.handing.UnderWay as UnderWay
-use Rattle.seg_core.specs.contracts.segment.Segment as Segment
-use Rattle.end_index.specs.contracts.index.EndIndex as EndIndex
-use Rattle.path_rows.specs.contracts.row.Row as Row
 use Rattle.rising_map.specs.contracts.map.RisingMap as RisingMap
 use Rattle.row_edits.specs.contracts.pour.Pour as Pour
 use Rattle.ckpt_stream.specs.contracts.merge.Merge as Merge
@@ -55,12 +48,7 @@ use Rattle.ckpt_stream.specs.contracts.half_read.HalfRead as HalfRead
 use Rattle.ckpt_stream.specs.contracts.preparation.Preparation as Preparation
 use Rattle.group_core.specs.declared.showcase.Showcase as show
 use Rattle.group_core.specs.contracts.state.State as State
-use Rattle.path_rows.specs.contracts.command.Command as Command
-use Rattle.path_rows.specs.contracts.database.PathDb as PathDb
-use Rattle.path_hub.specs.contracts.published.Published as Published
 use Rattle.path_hub.specs.contracts.hub.Hub as Hub
-use Rattle.path_hub.specs.contracts.show.HubShow as HubShow
-use Rattle.path_hub.specs.contracts.reader.HubReader as HubReader
 
 -- what puts claims together
 desk_sync : (N : RattleType) (l : named.Ghosts N.Denot) → IsSync N → IsSync (LogDesk.the_field N l).row
@@ -72,12 +60,6 @@ acknowledged_sync : (N : RattleType) (l : named.Ghosts N.Denot) → IsSend N →
 acknowledged_sync N l n = search (crosses, list_send) depth 12
 
 module _ (N : RattleType) (s : opened.Ghosts N.Denot) (l : named.Ghosts N.Denot) (q : queue.Ghosts N.Denot) (n : IsSend N) where
-  note_send : IsSend (HubNote.the_row N s l q)
-  note_send = search (sendable, crosses) depth 20
-
-  receipt_send : IsSend (LoggedReceipt.the_row N (HubNote.the_row N s l q) s l)
-  receipt_send = search (sendable, crosses, note_send, logged_send) depth 30 fits 20000
-
   answer_send : IsSend (Answer.the_row N s l q)
   answer_send = recorded_send _ _ _ (Answer.the_type N s l q).to_one (struct_send (shape (Answer.the_type N s l q)) (claim_send N q n, (search (sendable, crosses, receipt_send) depth 30 fits 20000, tt)))
 
@@ -99,41 +81,8 @@ module _ (N : RattleType) (s : opened.Ghosts N.Denot) (l : named.Ghosts N.Denot)
       let slots = Arc.the_row (Slot.the_row N s l q) Global.the_row heap.ghosts in
       let queue : IsSend (CommandQueue.the_row N slots q) = recorded_send _ _ _ (CommandQueue.the_type N slots q).to_one (queue_send N slots q n slots_send) in search crosses
 
-  pub under_way_sync : IsSync (Mutex.the_row (VecDeque.the_row (UnderWay.the_row N s l q) Global.the_row heap.ghosts))
-  under_way_sync = let all = Deque-send (UnderWay.the_row N s l q) under_way_send in search crosses
-
-segment_send : IsSend Segment.the_row
-segment_send = search (sendable, crosses) depth 60 fits 20000
-
-segment_sync : IsSync Segment.the_row
-segment_sync = search (sendable, crosses) depth 60 fits 20000
-
-row_send : IsSend Row.the_row
-row_send = search (sendable, crosses, segment_send) depth 60 fits 20000
-
-row_sync : IsSync Row.the_row
-row_sync = search (sendable, crosses, segment_sync) depth 60 fits 20000
-
-index_send : IsSend EndIndex.the_row
-index_send = search (sendable, crosses, sets_cross) depth 30 fits 20000
-
-index_sync : IsSync EndIndex.the_row
-index_sync = search (sendable, crosses, sets_cross) depth 30 fits 20000
-
-db_send : IsSend PathDb.the_row
-db_send = search (sendable, crosses, maps_cross, index_send, row_send) depth 30 fits 20000
-
-db_sync : IsSync PathDb.the_row
-db_sync = search (sendable, crosses, maps_cross, index_sync, row_sync) depth 30 fits 20000
-
-published_send : IsSend Published.the_row
-published_send = search (sendable, crosses, db_send) depth 20
-
-published_sync : IsSync Published.the_row
-published_sync = search (sendable, crosses, db_sync) depth 20
-
-command_send : IsSend Command.the_row
-command_send = search (sendable, crosses, segment_send) depth 30 fits 20000
+  all_under_way_send : IsSend (VecDeque.the_row (UnderWay.the_row N s l q) Global.the_row heap.ghosts)
+  all_under_way_send = Deque-send (UnderWay.the_row N s l q) under_way_send
 
 kept_send : (V : RattleType) → IsSend V → IsSend (RisingMap.the_row V)
 kept_send V v = search (sendable, crosses) depth 20
@@ -191,16 +140,21 @@ module _ (D S N M : RattleType) (d : device.Ghosts D.Denot) (g : show.Ghosts S.D
   with_log_send : IsSend (LoggedState.the_row D S N M d g s l)
   with_log_send = search (sendable, crosses, state_send, log_send) depth 30 fits 20000
 
-module _ (N R : RattleType) (h : hub.Ghosts N.Denot) (s : opened.Ghosts N.Denot) (l : named.Ghosts N.Denot) (q : queue.Ghosts N.Denot) (n : IsSend N) (m : IsSync N) (r : IsSend R) where
-  show_send : IsSend (HubShow.the_row N R h s l q)
-  show_send = search (sendable, crosses, published_send, published_sync, command_send, part.the_send, part.the_sync, deed.the_send, seat.the_send, shared.the_send, shared.the_sync, lease.the_send, lease.the_sync) depth 80 fits 50000
+-- the readers that no one has, under a lock
+readers_sync : (N : RattleType) (s : opened.Ghosts N.Denot) (l : named.Ghosts N.Denot) → IsSend N → IsSync N → IsSync (Mutex.the_row (Vec.the_row (HubReader.the_row N s l) Global.the_row heap.ghosts))
+readers_sync N s l n m = search (sendable, crosses, reader_send) depth 12
 
-  readers_sync : IsSync (Mutex.the_row (Vec.the_row (HubReader.the_row N h s l q) Global.the_row heap.ghosts))
-  readers_sync = search (sendable, crosses, published_send, published_sync, part.the_send, part.the_sync, deed.the_send, seat.the_send, shared.the_send, shared.the_sync, lease.the_send, lease.the_sync) depth 80 fits 50000
+module _ (D N R : RattleType) (s : opened.Ghosts N.Denot) (l : named.Ghosts N.Denot) (q : queue.Ghosts N.Denot) (d : device.Ghosts D.Denot) (w : wait.Ghosts R.Denot) (e : IsSend D) (n : IsSend N) (m : IsSync N) (r : IsSend R) where
+  locked_send : IsSend (Locked.the_row D N R s l q d w)
+  locked_send =
+      recorded_send _ _ _ (Locked.the_type D N R s l q d w).to_one (struct_send (shape (Locked.the_type D N R s l q d w)) (search (crosses, with_log_send, show_send) depth 12, (all_under_way_send N s l q n, tt)))
+
+  state_sync : IsSync (Mutex.the_row (Locked.the_row D N R s l q d w))
+  state_sync = search (crosses, locked_send) depth 12
 
 board_sync : IsSync (Board.the_field).row
 board_sync = search (sendable, crosses) depth 80 fits 50000
 
-module _ (D N R : RattleType) (s : opened.Ghosts N.Denot) (l : named.Ghosts N.Denot) (q : queue.Ghosts N.Denot) (d : device.Ghosts D.Denot) (h : hub.Ghosts N.Denot) (w : wait.Ghosts R.Denot) (e : IsSend D) (n : IsSend N) (m : IsSync N) (r : IsSend R) (t : IsSync R) where
-  pub hub_sync : IsSync (Hub.the_row D N R s l q d h w)
-  hub_sync = recorded_sync _ _ _ (Hub.the_type D N R s l q d h w).to_one (struct_sync (shape (Hub.the_type D N R s l q d h w)) (t, (search (sendable, crosses), (queue_sync N s l q n, (search (sendable, crosses), (under_way_sync N s l q n, (search (crosses, with_log_send, show_send) depth 12, (search (sendable, crosses) depth 20 fits 5000, (board_sync, (search (sendable, crosses), (readers_sync N R h s l q n m r, (desk_sync N l m, (acknowledged_sync N l n, tt)))))))))))))
+module _ (D N R : RattleType) (s : opened.Ghosts N.Denot) (l : named.Ghosts N.Denot) (q : queue.Ghosts N.Denot) (d : device.Ghosts D.Denot) (w : wait.Ghosts R.Denot) (e : IsSend D) (n : IsSend N) (m : IsSync N) (r : IsSend R) (t : IsSync R) where
+  pub hub_sync : IsSync (Hub.the_row D N R s l q d w)
+  hub_sync = recorded_sync _ _ _ (Hub.the_type D N R s l q d w).to_one (struct_sync (shape (Hub.the_type D N R s l q d w)) (t, (search (sendable, crosses), (queue_sync N s l q n, (search (sendable, crosses), (state_sync D N R s l q d w e n m r, (search (sendable, crosses) depth 20 fits 5000, (board_sync, (search (sendable, crosses), (readers_sync N s l n m, (desk_sync N l m, (acknowledged_sync N l n, tt))))))))))))

@@ -1,7 +1,7 @@
 -- What a hub returns for a command that was handed in.
 use Rattle.std.specs.Prelude.{◌≡◌, ℕ, ◌+◌, ◌<◌, nat_lt, Bool, true, false, List, Option, Some, None, MatchOption}
-use Rattle.path_rows.specs.Database.{RowView}
-use Rattle.path_rows.specs.declared.command.Command.{Command}
+use Rattle.path_db.specs.Database.{RowView}
+use Rattle.path_db.specs.declared.command.Command.{Command}
 use Rattle.store_layout.specs.Opening.{StoreValue}
 use Rattle.logged_state.specs.ReceiptView.{ReceiptView}
 use Rattle.path_hub.specs.declared.error.HubError.{HubError}

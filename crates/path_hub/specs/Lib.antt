@@ -1,6 +1,1 @@
 pub mod Committed
-pub mod Learnt
-pub mod Showcase
-pub mod Showing
-pub mod Shown
-pub mod Sight

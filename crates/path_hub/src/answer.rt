@@ -6,15 +6,10 @@ ghost use Rattle.path_hub.specs.Committed.{ReceiptShows, is_above};
 
 use crate::error::HubError;
 use crate::name::HubName;
-use crate::show::HubNote;
 use command_queue::Claim;
 use group_core::SubmitError;
-use logged_state::LoggedReceipt;
+use hub_readers::HubReceipt;
 use std::sync::{Mutex, Wait};
-
-/// A receipt of a command that a hub has committed, with the claim that the log of the hub's state
-/// has the command at its index.
-pub type HubReceipt<N> = LoggedReceipt<N, HubNote<N>>;
 
 /// Why a command that was handed in has no receipt.
 #[derive(Clone, Copy, Debug, PartialEq, Eq)]

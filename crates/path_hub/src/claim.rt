@@ -3,9 +3,10 @@
 ghost use Rattle.std.specs.Prelude.{◌≡◌, true, IfSome, IfOk, OnErr};
 ghost use Rattle.path_hub.specs.Committed.{ReceiptShows};
 
-use crate::answer::{HubReceipt, NotCommitted, Slot};
+use crate::answer::{NotCommitted, Slot};
 use crate::name::HubName;
 use command_queue::Claim;
+use hub_readers::HubReceipt;
 use std::alloc::Global;
 use std::marker::Model;
 use std::sync::{Arc, Wait};
@@ -20,7 +21,7 @@ pub struct HubClaim<N: HubName> {
 }
 
 impl<N: HubName> Model for HubClaim<N> {
-    ghost use Rattle.path_rows.specs.declared.command.Command.{Command};
+    ghost use Rattle.path_db.specs.declared.command.Command.{Command};
 
     ghost Value = { Command };
 

@@ -4,7 +4,7 @@ ghost use Rattle.std.specs.Prelude.{◌≡◌, ◌⊎◌, true, IfErr, IfNone, I
 ghost use Rattle.sector_dev.specs.Disk.{IsHonest};
 ghost use Rattle.sector_dev.specs.Image.{EveryImage};
 ghost use Rattle.group_core.specs.Starting.{value_of_store};
-ghost use Rattle.path_rows.specs.declared.command.Command.{Command};
+ghost use Rattle.path_db.specs.declared.command.Command.{Command};
 ghost use Rattle.path_hub.specs.declared.error.HubError.TheVariants.{NoMemory, NoReader};
 ghost use Rattle.sector_dev.specs.Stretch.{Stretch};
 ghost use Rattle.logged_state.specs.Left.{OpensToFrontOf, OpensToLog, OpensWithAll};

@@ -4,10 +4,9 @@
 ghost use Rattle.std.specs.Prelude.{◌≡◌, true, false};
 ghost use Rattle.store_loops.specs.Receipts.{IsTicketOrCommand, IsRedeemed, LeadsOn, LeadsOut, IsHandedIn, IsFollowedOrBack, IsPassedOn};
 
-use crate::handing::MOST_TAKEN;
+use crate::handing::{AllUnderWay, MOST_TAKEN};
 use crate::hub::Hub;
 use crate::name::HubName;
-use crate::show::{HubNote, HubShow};
 use group_core::{
     AtClosing, AtFollowed, AtFollowing, AtLaid, AtLive, AtOpened, AtPlan, AtStable, AtStaged,
     AtSwitched, AtWritten, BeginError, Closing, Commit, Durable, DurableFollowed, FollowError,
@@ -15,6 +14,7 @@ use group_core::{
     Redeemed, Stable, StageError, Staged, StepError, SubmitError, Switched, Ticket, Written,
 };
 use hub_board::Done;
+use hub_readers::{HubNote, HubShow};
 use logged_state::LoggedState;
 use path_db::Command;
 use sector_dev::Device;
@@ -30,26 +30,34 @@ const BETWEEN_PIECES: u64 = 1;
 /// The state of a hub, with its log.
 pub(crate) type HubState<D, N, R> = LoggedState<D, HubShow<N, R>, N>;
 
-/// The state of a hub under its lock.
-pub(crate) type Guarded<'a, D, N, R> = MutexGuard<'a, HubState<D, N, R>>;
+/// What the state's lock guards.
+pub(crate) struct Locked<D: Device, N: HubName, R: Wait> {
+    /// The state, with its log.
+    pub(crate) state: HubState<D, N, R>,
+    /// What is under way of the queue.
+    pub(crate) under_way: AllUnderWay<N>,
+}
+
+/// What the state's lock guards, while the lock is held.
+pub(crate) type Guarded<'a, D, N, R> = MutexGuard<'a, Locked<D, N, R>>;
 
 impl<D: Device, N: HubName, R: Wait + Clock> Hub<D, N, R> {
     /// Takes the state's lock for a call that uses the device, and notes on the board that the call
     /// begins.
     fn begin_call(&self, call: DeviceCall) -> Guarded<'_, D, N, R> {
-        let state = self.state.lock(&self.rt);
+        let locked = self.state.lock(&self.rt);
         self.board.begin(&self.rt, call);
-        state
+        locked
     }
 
     /// Shows the state's numbers on the board at the end of a guarded call, with what the call has
     /// completed, and gives the lock up. Commands of the queue are answered as far as their outcome
     /// is known then.
     #[tactic(auto, using(hub_board::proofs::Numbers::are_of_a_state))]
-    pub(crate) fn end_call(&self, mut state: Guarded<'_, D, N, R>, done: Done) {
-        self.answer_known(&mut state);
-        self.board.end(&self.rt, state.numbers(), done);
-        MutexGuard::unlock(state);
+    pub(crate) fn end_call(&self, mut locked: Guarded<'_, D, N, R>, done: Done) {
+        self.answer_known(&mut locked);
+        self.board.end(&self.rt, locked.state.numbers(), done);
+        MutexGuard::unlock(locked);
         self.changes.ringer.call(&self.rt);
     }
 
@@ -88,9 +96,9 @@ impl<D: Device, N: HubName, R: Wait + Clock> Steps for Hub<D, N, R> {
 
     #[tactic(auto, using(store_loops::proofs::Through::taken))]
     fn submit(&self, command: Command) -> Result<Ticket, (Command, SubmitError)> {
-        let mut state = self.state.lock(&self.rt);
-        let submitted = state.submit(command);
-        self.end_call(state, Done::Nothing);
+        let mut locked = self.state.lock(&self.rt);
+        let submitted = locked.state.submit(command);
+        self.end_call(locked, Done::Nothing);
         if submitted.is_ok() {
             self.changes.announce(Awaited::Work);
         }
@@ -99,84 +107,83 @@ impl<D: Device, N: HubName, R: Wait + Clock> Steps for Hub<D, N, R> {
 
     #[tactic(auto, using(store_loops::proofs::Through::is_redeemed))]
     fn redeem(&self, ticket: Ticket) -> Redeemed<HubNote<N>> {
-        let mut state = self.state.lock(&self.rt);
-        let redeemed = state.redeem(ticket);
-        self.end_call(state, Done::Nothing);
+        let mut locked = self.state.lock(&self.rt);
+        let redeemed = locked.state.redeem(ticket);
+        self.end_call(locked, Done::Nothing);
         redeemed
     }
 
     fn halt(&self) {
-        let mut state = self.state.lock(&self.rt);
-        state.halt();
-        self.end_call(state, Done::Nothing);
+        let mut locked = self.state.lock(&self.rt);
+        locked.state.halt();
+        self.end_call(locked, Done::Nothing);
         self.changes.announce_stop();
     }
 
     fn give_up<P: Copy>(&self, value: Commit<P>) {
         self.has_stranger.store(true, Ordering::SeqCst);
-        let mut state = self.state.lock(&self.rt);
-        state.give_up(value);
-        self.end_call(state, Done::Nothing);
+        let mut locked = self.state.lock(&self.rt);
+        locked.state.give_up(value);
+        self.end_call(locked, Done::Nothing);
         self.changes.announce_stop();
     }
 
     fn stage(&self) -> Result<Staged, StageError> {
         self.pause();
-        let mut state = self.state.lock(&self.rt);
-        self.take_commands(&mut state, MOST_TAKEN);
-        let staged = state.stage();
-        self.end_call(state, Done::Staged.unless_refused(staged.is_ok()));
+        let mut locked = self.state.lock(&self.rt);
+        self.take_commands(&mut locked, MOST_TAKEN);
+        let staged = locked.state.stage();
+        self.end_call(locked, Done::Staged.unless_refused(staged.is_ok()));
         staged
     }
 
     #[tactic(auto, using(store_loops::proofs::Through::flush_leads))]
     fn write_group(&self, value: Staged) -> Result<Written, StepError<AtStaged>> {
-        let mut state = self.begin_call(DeviceCall::WriteGroup);
-        let next = state.write_group(value);
-        self.end_call(state, Done::Nothing);
+        let mut locked = self.begin_call(DeviceCall::WriteGroup);
+        let next = locked.state.write_group(value);
+        self.end_call(locked, Done::Nothing);
         self.wake_if_stopped(&next);
         next
     }
 
     #[tactic(auto, using(store_loops::proofs::Through::flush_leads))]
     fn sync_group(&self, value: Written) -> Result<Stable, StepError<AtWritten>> {
-        let mut state = self.begin_call(DeviceCall::SyncGroup);
-        let next = state.sync_group(value);
-        self.end_call(state, Done::Nothing);
+        let mut locked = self.begin_call(DeviceCall::SyncGroup);
+        let next = locked.state.sync_group(value);
+        self.end_call(locked, Done::Nothing);
         self.wake_if_stopped(&next);
         next
     }
 
     #[tactic(auto, using(store_loops::proofs::Through::flush_leads))]
     fn open_gate(&self, value: Stable) -> Result<Opened, StepError<AtStable>> {
-        let mut state = self.begin_call(DeviceCall::OpenGate);
-        let next = state.open_gate(value);
-        self.end_call(state, Done::Nothing);
+        let mut locked = self.begin_call(DeviceCall::OpenGate);
+        let next = locked.state.open_gate(value);
+        self.end_call(locked, Done::Nothing);
         self.wake_if_stopped(&next);
         next
     }
 
     #[tactic(auto, using(store_loops::proofs::Through::flush_leads))]
     fn sync_gate(&self, value: Opened) -> Result<Durable, StepError<AtOpened>> {
-        let mut state = self.begin_call(DeviceCall::SyncGate);
-        let next = state.sync_gate(value);
+        let mut locked = self.begin_call(DeviceCall::SyncGate);
+        let next = locked.state.sync_gate(value);
         self.note_sync();
-        self.end_call(state, Done::Nothing);
+        self.end_call(locked, Done::Nothing);
         self.wake_if_stopped(&next);
         next
     }
 
     #[tactic(auto, using(store_loops::proofs::Through::handed_in))]
     fn publish(&self, value: Durable) -> Result<(), PublishError> {
-        let mut state = self.state.lock(&self.rt);
-        let from = state.place();
-        let published = state.publish(value);
-        let to = state.place();
-        let sealed = state.is_sealed();
+        let mut locked = self.state.lock(&self.rt);
+        let from = locked.state.place();
+        let published = locked.state.publish(value);
+        let to = locked.state.place();
+        let sealed = locked.state.is_sealed();
         let done = Done::published(from, to).unless_refused(published.is_ok());
         self.changes.pause.note_answered(to.saturating_sub(from));
-        self.end_call(state, done);
-        self.changes.announce_outcomes(from, to);
+        self.end_call(locked, done);
         if sealed {
             self.changes.announce(Awaited::Seal);
         }
@@ -185,48 +192,47 @@ impl<D: Device, N: HubName, R: Wait + Clock> Steps for Hub<D, N, R> {
 
     #[tactic(auto, using(store_loops::proofs::Through::followed_or_back))]
     fn follow(&self, value: Opened) -> Result<Following, (Opened, FollowError)> {
-        let mut state = self.state.lock(&self.rt);
-        self.take_commands(&mut state, 2 * MOST_TAKEN);
-        let next = state.follow(value);
-        self.end_call(state, Done::Followed.unless_refused(next.is_ok()));
+        let mut locked = self.state.lock(&self.rt);
+        self.take_commands(&mut locked, 2 * MOST_TAKEN);
+        let next = locked.state.follow(value);
+        self.end_call(locked, Done::Followed.unless_refused(next.is_ok()));
         next
     }
 
     #[tactic(auto, using(store_loops::proofs::Through::flush_leads))]
     fn write_following(&self, value: Following) -> Result<Followed, StepError<AtFollowing>> {
-        let mut state = self.begin_call(DeviceCall::WriteFollowing);
-        let next = state.write_following(value);
-        self.end_call(state, Done::Nothing);
+        let mut locked = self.begin_call(DeviceCall::WriteFollowing);
+        let next = locked.state.write_following(value);
+        self.end_call(locked, Done::Nothing);
         self.wake_if_stopped(&next);
         next
     }
 
     #[tactic(auto, using(store_loops::proofs::Through::flush_leads))]
     fn sync_followed(&self, value: Followed) -> Result<DurableFollowed, StepError<AtFollowed>> {
-        let mut state = self.begin_call(DeviceCall::SyncFollowed);
-        let next = state.sync_followed(value);
+        let mut locked = self.begin_call(DeviceCall::SyncFollowed);
+        let next = locked.state.sync_followed(value);
         self.note_sync();
-        self.end_call(state, Done::Nothing);
+        self.end_call(locked, Done::Nothing);
         self.wake_if_stopped(&next);
         next
     }
 
     #[tactic(auto, using(store_loops::proofs::Through::passed_on))]
     fn publish_followed(&self, value: DurableFollowed) -> Result<Stable, PublishFollowedError> {
-        let mut state = self.state.lock(&self.rt);
-        let from = state.place();
-        let published = state.publish_followed(value);
-        let to = state.place();
+        let mut locked = self.state.lock(&self.rt);
+        let from = locked.state.place();
+        let published = locked.state.publish_followed(value);
+        let to = locked.state.place();
         let done = Done::published(from, to).unless_refused(published.is_ok());
-        self.end_call(state, done);
-        self.changes.announce_outcomes(from, to);
+        self.end_call(locked, done);
         published
     }
 
     fn prepare(&self) -> Result<Prepared, BeginError> {
-        let mut state = self.begin_call(DeviceCall::Begin);
-        let prepared = state.prepare();
-        self.end_call(state, Done::Nothing);
+        let mut locked = self.begin_call(DeviceCall::Begin);
+        let prepared = locked.state.prepare();
+        self.end_call(locked, Done::Nothing);
         self.wake_if_refused(&prepared);
         if let Ok(Prepared::Part) = prepared {
             self.leave_lock();
@@ -235,63 +241,63 @@ impl<D: Device, N: HubName, R: Wait + Clock> Steps for Hub<D, N, R> {
     }
 
     fn begin(&self) -> Result<Plan, BeginError> {
-        let mut state = self.begin_call(DeviceCall::Begin);
-        let begun = state.begin();
-        self.end_call(state, Done::Nothing);
+        let mut locked = self.begin_call(DeviceCall::Begin);
+        let begun = locked.state.begin();
+        self.end_call(locked, Done::Nothing);
         self.wake_if_refused(&begun);
         begun
     }
 
     #[tactic(auto, using(store_loops::proofs::Through::chunk_leads))]
     fn write_chunk(&self, value: Plan) -> Result<Plan, StepError<AtPlan>> {
-        let mut state = self.begin_call(DeviceCall::WriteChunk);
-        let next = state.write_chunk(value);
-        self.end_call(state, Done::Nothing);
+        let mut locked = self.begin_call(DeviceCall::WriteChunk);
+        let next = locked.state.write_chunk(value);
+        self.end_call(locked, Done::Nothing);
         self.wake_if_stopped(&next);
         next
     }
 
     #[tactic(auto, using(store_loops::proofs::Through::chunks_lead))]
     fn sync_chunks(&self, value: Plan) -> Result<Laid, StepError<AtPlan>> {
-        let mut state = self.begin_call(DeviceCall::SyncChunks);
-        let next = state.sync_chunks(value);
-        self.end_call(state, Done::Nothing);
+        let mut locked = self.begin_call(DeviceCall::SyncChunks);
+        let next = locked.state.sync_chunks(value);
+        self.end_call(locked, Done::Nothing);
         self.wake_if_stopped(&next);
         next
     }
 
     #[tactic(auto, using(store_loops::proofs::Through::gate_leads))]
     fn open_half(&self, value: Laid) -> Result<Switched, StepError<AtLaid>> {
-        let mut state = self.begin_call(DeviceCall::OpenHalf);
-        let next = state.open_half(value);
-        self.end_call(state, Done::Nothing);
+        let mut locked = self.begin_call(DeviceCall::OpenHalf);
+        let next = locked.state.open_half(value);
+        self.end_call(locked, Done::Nothing);
         self.wake_if_stopped(&next);
         next
     }
 
     #[tactic(auto, using(store_loops::proofs::Through::half_leads))]
     fn sync_half(&self, value: Switched) -> Result<Live, StepError<AtSwitched>> {
-        let mut state = self.begin_call(DeviceCall::SyncHalf);
-        let next = state.sync_half(value);
-        self.end_call(state, Done::Nothing);
+        let mut locked = self.begin_call(DeviceCall::SyncHalf);
+        let next = locked.state.sync_half(value);
+        self.end_call(locked, Done::Nothing);
         self.wake_if_stopped(&next);
         next
     }
 
     #[tactic(auto, using(store_loops::proofs::Through::gate_leads))]
     fn close_half(&self, value: Live) -> Result<Closing, StepError<AtLive>> {
-        let mut state = self.begin_call(DeviceCall::CloseHalf);
-        let next = state.close_half(value);
-        self.end_call(state, Done::Nothing);
+        let mut locked = self.begin_call(DeviceCall::CloseHalf);
+        let next = locked.state.close_half(value);
+        self.end_call(locked, Done::Nothing);
         self.wake_if_stopped(&next);
         next
     }
 
     #[tactic(auto, using(store_loops::proofs::Through::close_leads))]
     fn sync_close(&self, value: Closing) -> Result<(), StepError<AtClosing>> {
-        let mut state = self.begin_call(DeviceCall::SyncClose);
-        let closed = state.sync_close(value);
-        self.end_call(state, Done::Checkpoint.unless_refused(closed.is_ok()));
+        let mut locked = self.begin_call(DeviceCall::SyncClose);
+        let closed = locked.state.sync_close(value);
+        self.end_call(locked, Done::Checkpoint.unless_refused(closed.is_ok()));
         if closed.is_ok() {
             self.changes.announce(Awaited::Work);
         }

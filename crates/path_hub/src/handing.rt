@@ -1,11 +1,11 @@
 //! What is done with a hub's state, under its lock, for the commands that were handed in: they are
 //! submitted, their tickets redeemed, and their answers put where they go.
 
-ghost use Rattle.std.specs.Prelude.{◌≡◌, ◌+◌, ◌<◌, true};
+ghost use Rattle.std.specs.Prelude.{◌≡◌, ◌+◌, ◌<◌, ◌≤◌, true};
 ghost use Rattle.std.specs.VecDeque.{deque_len, deque_capacity};
 
 use crate::answer::{Answer, NotCommitted, Slot};
-use crate::guarded::HubState;
+use crate::guarded::{HubState, Locked};
 use crate::hub::Hub;
 use crate::name::HubName;
 use command_queue::{Claim, HandedIn, MOST_WAITING};
@@ -44,19 +44,38 @@ pub(crate) struct UnderWay<N: HubName> {
 /// places.
 pub(crate) type AllUnderWay<N> = VecDeque<UnderWay<N>>;
 
+/// Commands that were taken from the queue at once, in the order in which they waited.
+type Batch<N> = VecDeque<HandedIn<N, Arc<Slot<N>, Global>>>;
+
 impl<D: Device, N: HubName, R: Wait + Clock> Hub<D, N, R> {
-    /// Submits commands of the queue, the longest waiting one first: at most 32, and only while
-    /// fewer than `most` are pending. Commands for whose tickets memory is refused keep waiting.
-    pub(crate) fn take_commands(&self, state: &mut HubState<D, N, R>, most: u64) {
-        let mut under_way = self.under_way.lock(&self.rt);
-        for _ in 0..MOST_TAKEN {
-            if state.numbers().pending >= most || under_way.reserve(1).is_err() {
-                break;
-            }
-            let Some(handed) = self.queue.lock(&self.rt).take() else {
-                break;
-            };
-            self.submit_one(state, &mut under_way, handed);
+    /// Submits commands of the queue, the longest waiting one first: at most 32, and so few that no
+    /// more than `most` are pending then. Where memory is refused for them, all keep waiting. The
+    /// queue's lock is taken once.
+    pub(crate) fn take_commands(&self, locked: &mut Locked<D, N, R>, most: u64) {
+        let missing = most.saturating_sub(locked.state.numbers().pending);
+        let room = missing.min(MOST_TAKEN) as usize;
+        let Ok(mut batch) = Batch::with_capacity(self.alloc, room) else {
+            return;
+        };
+        if locked.under_way.reserve(room).is_err() {
+            return;
+        }
+        self.queue.lock(&self.rt).take_into(&mut batch, room);
+        self.submit_all(&mut locked.state, &mut locked.under_way, batch);
+    }
+
+    /// Submits the commands of a batch in their order.
+    fn submit_all(
+        &self,
+        state: &mut HubState<D, N, R>,
+        under_way: &mut AllUnderWay<N>,
+        batch: Batch<N>,
+    )
+        requires { deque_len under_way.old + deque_len batch ≤ deque_capacity under_way.old }
+    {
+        let mut batch = batch;
+        while let Some(handed) = batch.pop_front() {
+            self.submit_one(state, under_way, handed);
         }
     }
 
@@ -69,6 +88,8 @@ impl<D: Device, N: HubName, R: Wait + Clock> Hub<D, N, R> {
         handed: HandedIn<N, Arc<Slot<N>, Global>>,
     )
         requires { deque_len under_way.old < deque_capacity under_way.old }
+        ensures len { deque_len under_way.new ≤ deque_len under_way.old + 1 }
+        ensures capacity { deque_capacity under_way.new ≡ deque_capacity under_way.old }
     {
         let HandedIn {
             claim,
@@ -93,25 +114,25 @@ impl<D: Device, N: HubName, R: Wait + Clock> Hub<D, N, R> {
 
     /// Submits commands of the queue in this thread: the hub has no thread for its flusher.
     pub(crate) fn take_at_once(&self) {
-        let mut state = self.state.lock(&self.rt);
-        self.take_commands(&mut state, u64::MAX);
-        self.end_call(state, Done::Nothing);
+        let mut locked = self.state.lock(&self.rt);
+        self.take_commands(&mut locked, u64::MAX);
+        self.end_call(locked, Done::Nothing);
     }
 
     /// Judges a command by the state.
     pub(crate) fn judge(&self, command: &Command) -> Result<(), SubmitError> {
-        let state = self.state.lock(&self.rt);
-        let judged = state.judge(command);
-        MutexGuard::unlock(state);
+        let locked = self.state.lock(&self.rt);
+        let judged = locked.state.judge(command);
+        MutexGuard::unlock(locked);
         judged
     }
 
     /// Answers all commands whose outcome is known: those that are committed, and all others where
     /// the state has stopped.
-    pub(crate) fn answer_known(&self, state: &mut HubState<D, N, R>) {
-        let numbers = state.numbers();
+    pub(crate) fn answer_known(&self, locked: &mut Locked<D, N, R>) {
+        let numbers = locked.state.numbers();
         self.redeem_below(
-            state,
+            locked,
             if numbers.stopped {
                 u64::MAX
             } else {
@@ -124,8 +145,8 @@ impl<D: Device, N: HubName, R: Wait + Clock> Hub<D, N, R> {
     }
 
     /// Answers the commands under way whose places are below this one.
-    fn redeem_below(&self, state: &mut HubState<D, N, R>, end: u64) {
-        let mut under_way = self.under_way.lock(&self.rt);
+    fn redeem_below(&self, locked: &mut Locked<D, N, R>, end: u64) {
+        let Locked { state, under_way } = locked;
         for _ in 0..under_way.len() {
             let Some(first) = under_way.pop_front_if(|first| first.ticket.place() < end) else {
                 break;

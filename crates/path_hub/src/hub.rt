@@ -5,17 +5,16 @@ ghost use Rattle.path_hub.specs.declared.error.HubError.TheVariants.{NoReader};
 ghost use Rattle.path_hub.specs.Committed.{ReceiptShows, RefusesCommand, RefusesHandingIn, EndsWaiting};
 ghost use Rattle.hub_board.specs.Numbers.{AreNumbers};
 
-use crate::answer::{HubReceipt, Slot};
+use crate::answer::Slot;
 use crate::claim::HubClaim;
 use crate::error::HubError;
-use crate::guarded::HubState;
-use crate::handing::AllUnderWay;
+use crate::guarded::Locked;
 use crate::name::HubName;
-use crate::reader::HubReader;
 use crate::waiter::{Patient, Waiter};
 use command_queue::{CommandQueue, NotQueued};
 use group_core::{Numbers, SubmitError};
 use hub_board::{Board, Changes, Completed, LONGEST_REST};
+use hub_readers::{HubReader, HubReceipt};
 use logged_state::{LogDesk, LoggedList};
 use path_db::Command;
 use sector_dev::Device;
@@ -25,13 +24,10 @@ use std::sync::{Arc, Mutex, Wait};
 use std::time::{Clock, Duration};
 use store_loops::{Awaited, DeviceCall, Steps};
 
-/// The number of readers of a hub.
-pub const READERS: usize = 64;
-
 /// A store's state under one lock, a queue of commands for it under another, and the readers of
 /// what it shows, under one name.
 ///
-/// The lock's value is a `LoggedState`, so what that type says of a state and its log holds
+/// The lock's value has a `LoggedState`, so what that type says of a state and its log holds
 /// whenever the lock is free: a stop at that moment leaves an image that opens to what the hub
 /// opened with after a front of the log, which has at least all committed commands.
 pub struct Hub<D: Device, N: HubName, R: Wait + Clock> {
@@ -40,9 +36,7 @@ pub struct Hub<D: Device, N: HubName, R: Wait + Clock> {
     pub(crate) queue: Mutex<CommandQueue<N, Arc<Slot<N>, Global>>>,
     /// Whether a flusher's thread takes the commands of the queue.
     pub(crate) has_flusher: AtomicBool,
-    /// What is under way of the queue. Its lock is taken by who has the state's lock, alone.
-    pub(crate) under_way: Mutex<AllUnderWay<N>>,
-    pub(crate) state: Mutex<HubState<D, N, R>>,
+    pub(crate) state: Mutex<Locked<D, N, R>>,
     pub(crate) changes: Changes,
     pub(crate) board: Board,
     /// Whether an actor has given up a stranger.

@@ -1,32 +1,27 @@
 //! Making a hub, and its end.
 
-ghost use Rattle.std.specs.Prelude.{◌≡◌, ◌⊎◌, true, [], IfOk, IfErr, drop};
-ghost use Rattle.left_right.specs.Sides.{view};
+ghost use Rattle.std.specs.Prelude.{◌≡◌, ◌⊎◌, true, IfOk, IfErr};
 ghost use Rattle.sector_dev.specs.Disk.{IsHonest};
 ghost use Rattle.sector_dev.specs.Image.{EveryImage};
 ghost use Rattle.group_core.specs.Starting.{value_of_store};
-ghost use Rattle.path_rows.specs.declared.command.Command.{Command};
+ghost use Rattle.path_db.specs.declared.command.Command.{Command};
 ghost use Rattle.path_hub.specs.declared.error.HubError.TheVariants.{NoMemory, NoReader};
-ghost use Rattle.path_hub.specs.Shown.{IsShownAfter};
 ghost use Rattle.sector_dev.specs.Stretch.{Stretch};
 ghost use Rattle.logged_state.specs.Left.{OpensToFrontOf, OpensToLog, OpensWithAll};
 ghost use Rattle.logged_state.specs.Kept.{AllClaimsKept};
 
 use crate::error::HubError;
+use crate::guarded::Locked;
 use crate::handing::{AllUnderWay, MOST_UNDER_WAY, give_up_all};
-use crate::hub::{Hub, READERS};
+use crate::hub::Hub;
 use crate::name::{HubName, NewName};
-use crate::published::Published;
-use crate::reader::HubReader;
-use crate::show::{HubShow, HubWriter};
 use command_queue::CommandQueue;
 use group_core::State;
 use hub_board::{Board, Changes};
-use left_right::writer::Writer;
+use hub_readers::{ReaderError, open_readers};
 use logged_state::{Left, LoggedState};
-use path_db::PathDb;
 use sector_dev::Device;
-use std::alloc::{AllocError, Global};
+use std::alloc::Global;
 use std::marker::Brand;
 use std::sync::atomic::AtomicBool;
 use std::sync::{Mutex, Wait};
@@ -135,21 +130,15 @@ impl<D: Device, N: HubName, R: Wait + Clock> Hub<D, N, R> {
         let Ok(desk) = name.log.desk::<N>() else {
             return Err((store, HubError::NoMemory));
         };
-        let Ok(writer) = new_writer::<N>(alloc, store.db(), store.place()) else {
-            return Err((store, HubError::NoMemory));
-        };
-        let readers = match new_readers(alloc, &writer) {
-            Ok(readers) => readers,
-            Err(refused) => {
-                writer.take(&rt);
-                return Err((store, refused));
-            }
+        let (show, readers) = match open_readers::<N, R>(rt, alloc, store.db(), store.place()) {
+            Ok(made) => made,
+            Err(ReaderError::NoMemory) => return Err((store, HubError::NoMemory)),
+            Err(ReaderError::NoReader) => return Err((store, HubError::NoReader)),
         };
         let Ok(under_way) = AllUnderWay::with_capacity(alloc, MOST_UNDER_WAY) else {
-            writer.take(&rt);
+            show.close();
             return Err((store, HubError::NoMemory));
         };
-        let show = HubShow::over(rt, alloc, writer);
         let NewName { history, log } = name;
         let state = LoggedState::new(State::new(alloc, store, show, home), log);
         let board = Board::new(state.numbers());
@@ -158,8 +147,7 @@ impl<D: Device, N: HubName, R: Wait + Clock> Hub<D, N, R> {
             alloc,
             queue: Mutex::new(CommandQueue::new(alloc, history)),
             has_flusher: AtomicBool::new(false),
-            under_way: Mutex::new(under_way),
-            state: Mutex::new(state),
+            state: Mutex::new(Locked { state, under_way }),
             changes: Changes::new(),
             board,
             has_stranger: AtomicBool::new(false),
@@ -187,7 +175,6 @@ impl<D: Device, N: HubName, R: Wait + Clock> Hub<D, N, R> {
             alloc: _alloc,
             queue: _queue,
             has_flusher: _has_flusher,
-            under_way,
             state,
             changes: _changes,
             board: _board,
@@ -196,8 +183,11 @@ impl<D: Device, N: HubName, R: Wait + Clock> Hub<D, N, R> {
             desk: _desk,
             acknowledged,
         } = self;
-        let mut state = state.into_inner();
-        give_up_all(&mut state, under_way.into_inner());
+        let Locked {
+            mut state,
+            under_way,
+        } = state.into_inner();
+        give_up_all(&mut state, under_way);
         let (device, show, log) = state.into_parts();
         show.close();
         let (log, acknowledged) = log.unnamed_with(acknowledged.into_inner());
@@ -205,39 +195,4 @@ impl<D: Device, N: HubName, R: Wait + Clock> Hub<D, N, R> {
         left.find_acknowledged();
         (device, left)
     }
-}
-
-/// The writer that publishes a store's rows at a place. No group is published yet.
-fn new_writer<N: HubName>(
-    alloc: Global,
-    db: &PathDb,
-    place: u64,
-) -> Result<HubWriter<N>, AllocError>
-    requires { record { db = db.now; place = place } ≡ N.opening }
-    ensures value { IfOk result (λ w. w.desk.shown.value ≡ N.opening) }
-    ensures shown { IfOk result (λ w. IsShownAfter N.opening w.desk.shown.value (view w.desk.place).groups) }
-    ensures idle { IfOk result (λ w. drop w.behind w.log.items ≡ []) }
-{
-    let first = Published::new(db.try_clone()?, place);
-    let second = Published::new(db.try_clone()?, place);
-    Writer::new(alloc, first, second, READERS)
-}
-
-/// All readers of a writer.
-fn new_readers<N: HubName>(
-    alloc: Global,
-    writer: &HubWriter<N>,
-) -> Result<Vec<HubReader<N>>, HubError>
-    ensures { IfErr result (λ e. (e ≡ NoMemory) ⊎ (e ≡ NoReader)) }
-{
-    let mut readers = Vec::with_capacity(alloc, READERS)?;
-    for _ in 0..READERS {
-        let Ok(seat) = writer.factory().reader() else {
-            return Err(HubError::NoReader);
-        };
-        if readers.push(HubReader::over(seat)).is_err() {
-            return Err(HubError::NoMemory);
-        }
-    }
-    Ok(readers)
 }

@@ -4,20 +4,19 @@ ghost use Rattle.std.specs.Prelude.{◌≡◌, ◌⊎◌, ◌≤◌, ◌<◌, No
 ghost use Rattle.std.specs.List.{AllByRecursion};
 ghost use mathlib.Core.List.{IsPrefix};
 ghost use Rattle.seg_core.specs.Encoding.{IsSegment};
-ghost use Rattle.path_rows.specs.Answer.{segments_of};
+ghost use Rattle.path_db.specs.Answer.{segments_of};
 ghost use Rattle.left_right.specs.Sides.{view};
-ghost use Rattle.path_hub.specs.declared.error.HubError.TheVariants.{NoMemory, NoReader};
-ghost use Rattle.path_hub.specs.Sight.{answer_after, place_after};
-ghost use Rattle.path_hub.specs.Learnt.{learnt};
+ghost use Rattle.hub_readers.specs.declared.error.ReaderError.TheVariants.{NoMemory, NoReader};
+ghost use Rattle.hub_readers.specs.Sight.{answer_after, place_after};
+ghost use Rattle.hub_readers.specs.Learnt.{learnt};
 
-use crate::answer::HubReceipt;
-use crate::error::HubError;
-use crate::name::HubName;
+use crate::error::ReaderError;
+use crate::note::{HubNote, HubReceipt};
 use crate::published::Published;
 use crate::rule::{ReaderRule, SeenGroups, SeesAll};
-use crate::show::HubNote;
 use core::mem::replace_with;
 use left_right::reader::Reader;
+use logged_state::StateName;
 use seg_core::Segment;
 use seg_lookup::{ANSWER_LIMIT, Query, answer};
 use std::alloc::AllocError;
@@ -29,21 +28,21 @@ pub(crate) type HubSeat<N> = Reader<Published, SeenGroups, ReaderRule<N>>;
 /// A reader of the hub of this name. Contracts see the groups after which its last lookup was
 /// answered, and the greatest place that a lookup or a receipt has shown it.
 #[derive(Drop)]
-pub struct HubReader<N: HubName> {
+pub struct HubReader<N: StateName> {
     seat: HubSeat<N>,
     seen: u64,
 }
 
-impl<N: HubName> Model for HubReader<N> {
+impl<N: StateName> Model for HubReader<N> {
     ghost use Rattle.left_right.specs.Sides.{view as seat_view};
-    ghost use Rattle.path_hub.specs.Sight.{Sight};
+    ghost use Rattle.hub_readers.specs.Sight.{Sight};
 
     ghost Value = { Sight };
 
     ghost view = { λ r. record { groups = (seat_view r.seat.place).groups; seen = r.seen } };
 }
 
-impl<N: HubName> HubReader<N> {
+impl<N: StateName> HubReader<N> {
     /// A reader at this seat, which has been shown nothing.
     pub(crate) fn over(seat: HubSeat<N>) -> HubReader<N>
         ensures groups { result.groups ≡ (view seat.place).groups }
@@ -56,7 +55,7 @@ impl<N: HubName> HubReader<N> {
     /// from what is published at one moment within the call, which is no older than what this
     /// reader was shown before or has learnt. The call takes no lock and waits for nobody. The
     /// segments are shared with the published rows, not copied.
-    pub fn lookup(&mut self, query: &Query, now: u64) -> Result<Vec<Segment>, HubError>
+    pub fn lookup(&mut self, query: &Query, now: u64) -> Result<Vec<Segment>, ReaderError>
         ensures answer { IfOk result (λ found. found.items ≡ segments_of (answer_after N.opening self.new.groups query.now now)) }
         ensures few { IfOk result (λ found. length found.items ≤ ANSWER_LIMIT) }
         ensures whole { IfOk result (λ found. AllByRecursion IsSegment found.items) }
@@ -78,10 +77,10 @@ impl<N: HubName> HubReader<N> {
         ensures grows { self.old.seen ≤ self.new.seen }
     {
         let Some(sight) = look_in(&mut self.seat, query, now) else {
-            return Err(HubError::NoReader);
+            return Err(ReaderError::NoReader);
         };
         if sight.place < self.seen {
-            return Err(HubError::NoReader);
+            return Err(ReaderError::NoReader);
         }
         self.seen = sight.place;
         Ok(sight.found?)
@@ -116,7 +115,7 @@ struct Found {
 }
 
 /// Looks at what is published, once.
-fn look_in<N: HubName>(seat: &mut HubSeat<N>, query: &Query, now: u64) -> Option<Found>
+fn look_in<N: StateName>(seat: &mut HubSeat<N>, query: &Query, now: u64) -> Option<Found>
     ensures later { IsPrefix (view seat.old.place).groups (view seat.new.place).groups }
     ensures place { IfSome result (λ f. f.place ≡ place_after N.opening (view seat.new.place).groups) }
     ensures found { IfSome result (λ f. IfOk f.found (λ found. found.items ≡ segments_of (answer_after N.opening (view seat.new.place).groups query.now now))) }
@@ -133,7 +132,7 @@ fn look_in<N: HubName>(seat: &mut HubSeat<N>, query: &Query, now: u64) -> Option
 }
 
 /// Looks at what is published from a seat, and returns the seat.
-fn look<N: HubName>(seat: HubSeat<N>, query: &Query, now: u64) -> (HubSeat<N>, Option<Found>)
+fn look<N: StateName>(seat: HubSeat<N>, query: &Query, now: u64) -> (HubSeat<N>, Option<Found>)
     ensures later { IsPrefix (view seat.place).groups (view result.0.place).groups }
     ensures place { IfSome result.1 (λ f. f.place ≡ place_after N.opening (view result.0.place).groups) }
     ensures found { IfSome result.1 (λ f. IfOk f.found (λ found. found.items

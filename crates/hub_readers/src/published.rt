@@ -16,7 +16,7 @@ pub struct Published {
 
 impl Model for Published {
     ghost use Rattle.std.specs.Prelude.{List};
-    ghost use Rattle.path_rows.specs.Database.{RowView};
+    ghost use Rattle.path_db.specs.Database.{RowView};
     ghost use Rattle.store_layout.specs.Opening.{StoreValue};
 
     ghost Value = { StoreValue (List RowView) };
@@ -48,7 +48,7 @@ impl Published {
 }
 
 impl Absorb<Command> for Published {
-    ghost use Rattle.path_hub.specs.Shown.{value_with_command};
+    ghost use Rattle.hub_readers.specs.Shown.{value_with_command};
 
     type State = Published;
 

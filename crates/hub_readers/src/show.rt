@@ -1,4 +1,4 @@
-//! The hub's showcase, and its notes.
+//! The hub's showcase.
 
 ghost use Rattle.std.specs.Prelude.{◌≡◌, ◌+◌, ◌<◌, ◌≤◌, [], length, take, drop, IfSome, MatchResult, OnOk, OnErr};
 ghost use Rattle.store_layout.specs.Group.{last_place};
@@ -6,64 +6,30 @@ ghost use Rattle.store_layout.specs.StoreValues.{value_after};
 ghost use Rattle.store_open.specs.PathStores.{store_format};
 ghost use Rattle.group_core.specs.Showing.{IsFrontOf};
 ghost use Rattle.left_right.specs.Sides.{view};
-ghost use Rattle.path_hub.specs.Shown.{IsShownAfter, groups_with};
-ghost use Rattle.path_hub.specs.Showcase.{Publishes};
+ghost use Rattle.hub_readers.specs.Shown.{IsShownAfter, groups_with};
+ghost use Rattle.hub_readers.specs.Showcase.{Publishes};
 
-use crate::name::HubName;
+use crate::note::HubNote;
 use crate::published::Published;
 use crate::rule::{GroupName, PublishesGroup, ReaderRule, SeenGroups};
 use core::mem::replace_with;
 use group_core::{Showcase, ShowsRows};
 use left_right::writer::Writer;
+use logged_state::StateName;
 use path_db::{Command, PathDb};
 use std::alloc::{AllocError, Global};
-use std::marker::{Brand, Model, PhantomData};
+use std::marker::{Brand, Model};
 use std::sync::Wait;
 
 /// The writer that publishes to a hub's readers.
 pub(crate) type HubWriter<N> = Writer<Published, Command, SeenGroups, ReaderRule<N>>;
-
-/// A note that the hub of this name has shown a place, which is the number of commands that had
-/// made the rows. Contracts see a note as that number. Only the hub's showcase makes one.
-#[derive(Drop)]
-pub struct HubNote<N: HubName> {
-    shown: u64,
-    of: PhantomData<N>,
-}
-
-impl<N: HubName> Model for HubNote<N> {
-    ghost use Rattle.std.specs.Prelude.{ℕ};
-
-    ghost Value = { ℕ };
-
-    ghost view = { λ note. note.shown };
-}
-
-impl<N: HubName> HubNote<N> {
-    /// A note of this place.
-    fn of(shown: u64) -> HubNote<N>
-        ensures { result ≡ shown }
-    {
-        HubNote {
-            shown,
-            of: PhantomData,
-        }
-    }
-
-    /// The place.
-    pub fn shown(&self) -> u64
-        ensures { result ≡ self.now }
-    {
-        self.shown
-    }
-}
 
 /// Publishes committed groups to readers that wait for nobody. The hub ends the showcase, which is
 /// not `Drop`.
 ///
 /// Contracts see the groups that it has published, the rows and the place after them, and the
 /// commands of the next group that it already has, since memory was refused for that group.
-pub struct HubShow<N: HubName, R: Wait> {
+pub struct HubShow<N: StateName, R: Wait> {
     rt: R,
     alloc: Global,
     writer: HubWriter<N>,
@@ -71,11 +37,11 @@ pub struct HubShow<N: HubName, R: Wait> {
     owed: usize,
 }
 
-impl<N: HubName, R: Wait> Model for HubShow<N, R> {
+impl<N: StateName, R: Wait> Model for HubShow<N, R> {
     ghost use Rattle.std.specs.Prelude.{◌≡◌, length, drop};
     ghost use Rattle.left_right.specs.Sides.{view as seat_view};
-    ghost use Rattle.path_hub.specs.Shown.{IsShownAfter};
-    ghost use Rattle.path_hub.specs.Showing.{Showing};
+    ghost use Rattle.hub_readers.specs.Shown.{IsShownAfter};
+    ghost use Rattle.hub_readers.specs.Showing.{Showing};
 
     ghost Value = { Showing };
 
@@ -90,7 +56,7 @@ impl<N: HubName, R: Wait> Model for HubShow<N, R> {
         × (h.owed ≡ length (drop h.writer.behind h.writer.log.items)) };
 }
 
-impl<N: HubName, R: Wait> Showcase for HubShow<N, R> {
+impl<N: StateName, R: Wait> Showcase for HubShow<N, R> {
     ghost use Rattle.std.specs.Prelude.{◌≡◌};
 
     type Note = HubNote<N>;
@@ -134,13 +100,13 @@ impl<N: HubName, R: Wait> Showcase for HubShow<N, R> {
     }
 }
 
-impl<N: HubName, R: Wait> ShowsRows for HubShow<N, R> {
+impl<N: StateName, R: Wait> ShowsRows for HubShow<N, R> {
     fn rows(&self) -> &PathDb {
         self.writer.published().db()
     }
 }
 
-impl<N: HubName, R: Wait> HubShow<N, R> {
+impl<N: StateName, R: Wait> HubShow<N, R> {
     /// Makes the showcase of this writer, which has published no group yet.
     pub(crate) fn over(rt: R, alloc: Global, writer: HubWriter<N>) -> HubShow<N, R>
         requires shown { IsShownAfter N.opening writer.desk.shown.value (view writer.desk.place).groups }
@@ -157,7 +123,7 @@ impl<N: HubName, R: Wait> HubShow<N, R> {
     }
 
     /// Ends the showcase. The call waits for readers that are within a lookup.
-    pub(crate) fn close(self)
+    pub fn close(self)
     where
         R: Drop,
     {
@@ -173,7 +139,7 @@ impl<N: HubName, R: Wait> HubShow<N, R> {
 
 /// Passes copies of the commands of a group, from an index on, to the writer. Returns the number of
 /// commands of the group that the writer then has, which is less than all where memory is refused.
-fn hand_over<N: HubName>(
+fn hand_over<N: StateName>(
     alloc: Global,
     writer: &mut HubWriter<N>,
     from: usize,
@@ -197,7 +163,7 @@ fn hand_over<N: HubName>(
 }
 
 /// Publishes what the writer has as one group.
-fn publish_in<N: HubName, R: Wait>(rt: &R, writer: &mut HubWriter<N>) -> Result<(), AllocError>
+fn publish_in<N: StateName, R: Wait>(rt: &R, writer: &mut HubWriter<N>) -> Result<(), AllocError>
     requires shown { IsShownAfter N.opening writer.old.desk.shown.value (view writer.old.desk.place).groups }
     requires some { 0 < length (drop writer.old.behind writer.old.log.items) }
     ensures { Publishes N.opening result
@@ -208,7 +174,7 @@ fn publish_in<N: HubName, R: Wait>(rt: &R, writer: &mut HubWriter<N>) -> Result<
 }
 
 /// Publishes what a writer has as one group, and returns the writer.
-fn publish<N: HubName, R: Wait>(
+fn publish<N: StateName, R: Wait>(
     rt: &R,
     writer: HubWriter<N>,
 ) -> (HubWriter<N>, Result<(), AllocError>)
@@ -222,7 +188,7 @@ fn publish<N: HubName, R: Wait>(
 }
 
 /// `publish` for one name `G` of the group.
-fn publish_group<N: HubName, G: GroupName, R: Wait>(
+fn publish_group<N: StateName, G: GroupName, R: Wait>(
     rt: &R,
     writer: HubWriter<N>,
 ) -> (HubWriter<N>, Result<(), AllocError>)

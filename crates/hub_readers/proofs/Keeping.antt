@@ -5,15 +5,15 @@ use mathlib.Core.List.{IsPrefix}
 use lib.ListN.{get_elem?}
 use Rattle.crossbeam_utils.specs.Register.{Admits, TurnsAt, Turns}
 use Rattle.atomic_table.proofs.Lists.{at_set, at_snoc}
-use Rattle.path_rows.specs.Database.{RowView}
-use Rattle.path_rows.specs.declared.command.Command.{Command}
+use Rattle.path_db.specs.Database.{RowView}
+use Rattle.path_db.specs.declared.command.Command.{Command}
 use Rattle.store_layout.specs.Opening.{StoreValue}
 use Rattle.store_layout.specs.StoreValues.{value_after}
 use Rattle.store_open.specs.PathStores.{store_format}
-use Rattle.path_hub.specs.declared.rule.SeenGroups.{SeenGroups}
-use Rattle.path_hub.specs.Shown.{value_with_command, newcomer, shown_after, IsShownAfter, KeepsRule, IsSeen, HasSeenGroup}
-use Rattle.path_hub.specs.Showcase.{Publishes}
-use Rattle.path_hub.proofs.Groups.{prefix_whole, prefix_more, commands_lead, same_groups, shown_more}
+use Rattle.hub_readers.specs.declared.rule.SeenGroups.{SeenGroups}
+use Rattle.hub_readers.specs.Shown.{value_with_command, newcomer, shown_after, IsShownAfter, KeepsRule, IsSeen, HasSeenGroup}
+use Rattle.hub_readers.specs.Showcase.{Publishes}
+use Rattle.hub_readers.proofs.Groups.{prefix_whole, prefix_more, commands_lead, same_groups, shown_more}
 
 -- each seat has still seen a beginning, where one has come to see another
 seats_set : (groups now : List (List Command)) (views : List SeenGroups) (by : ℕ) (w : SeenGroups)

@@ -1,7 +1,7 @@
 -- What contracts see of a hub's showcase.
 use Rattle.std.specs.Prelude.{List}
-use Rattle.path_rows.specs.Database.{RowView}
-use Rattle.path_rows.specs.declared.command.Command.{Command}
+use Rattle.path_db.specs.Database.{RowView}
+use Rattle.path_db.specs.declared.command.Command.{Command}
 use Rattle.store_layout.specs.Opening.{StoreValue}
 
 -- A hub's showcase as contracts see it.

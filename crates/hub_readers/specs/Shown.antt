@@ -4,13 +4,13 @@ use Rattle.std.specs.List.{AllByRecursion}
 use mathlib.Core.Option.{some}
 use mathlib.Core.List.{IsPrefix}
 use lib.ListN.{get_elem?}
-use Rattle.path_rows.specs.Database.{RowView}
-use Rattle.path_rows.specs.Command.{database_after}
-use Rattle.path_rows.specs.declared.command.Command.{Command}
+use Rattle.path_db.specs.Database.{RowView}
+use Rattle.path_db.specs.Command.{database_after}
+use Rattle.path_db.specs.declared.command.Command.{Command}
 use Rattle.store_layout.specs.Opening.{StoreValue}
 use Rattle.store_layout.specs.StoreValues.{value_after}
 use Rattle.store_open.specs.PathStores.{store_format}
-use Rattle.path_hub.specs.declared.rule.SeenGroups.{SeenGroups}
+use Rattle.hub_readers.specs.declared.rule.SeenGroups.{SeenGroups}
 
 -- The rows and their place after one more command.
 abbrev pub value_with_command : StoreValue (List RowView) → Command → StoreValue (List RowView)

@@ -1,8 +1,8 @@
 //! The rule over what is published and what each seat has seen of it.
 
-use crate::name::HubName;
 use crate::published::Published;
 use crossbeam_utils::rule::{Outcome, Protocol};
+use logged_state::StateName;
 use path_db::Command;
 use std::collections::LinkedList;
 use std::marker::{Brand, PhantomData};
@@ -19,8 +19,8 @@ pub struct ReaderRule<N> {
     of: PhantomData<N>,
 }
 
-impl<N: HubName> Protocol<Published, SeenGroups> for ReaderRule<N> {
-    ghost use Rattle.path_hub.specs.Shown.{KeepsRule, newcomer};
+impl<N: StateName> Protocol<Published, SeenGroups> for ReaderRule<N> {
+    ghost use Rattle.hub_readers.specs.Shown.{KeepsRule, newcomer};
 
     ghost holds = { KeepsRule N.opening };
 
@@ -32,8 +32,8 @@ pub struct SeesAll<N> {
     of: PhantomData<N>,
 }
 
-impl<N: HubName> Outcome<Published, SeenGroups> for SeesAll<N> {
-    ghost use Rattle.path_hub.specs.Shown.{IsSeen};
+impl<N: StateName> Outcome<Published, SeenGroups> for SeesAll<N> {
+    ghost use Rattle.hub_readers.specs.Shown.{IsSeen};
 
     ghost then = { IsSeen N.opening };
 }
@@ -41,7 +41,7 @@ impl<N: HubName> Outcome<Published, SeenGroups> for SeesAll<N> {
 /// Names the group that one step of the writer publishes. The call that publishes picks it.
 pub(crate) trait GroupName {
     ghost use Rattle.std.specs.Prelude.{List};
-    ghost use Rattle.path_rows.specs.declared.command.Command.{Command};
+    ghost use Rattle.path_db.specs.declared.command.Command.{Command};
 
     ghost group: { List Command };
 }
@@ -58,7 +58,7 @@ pub(crate) struct PublishesGroup<G> {
 }
 
 impl<G: GroupName> Outcome<Published, SeenGroups> for PublishesGroup<G> {
-    ghost use Rattle.path_hub.specs.Shown.{HasSeenGroup};
+    ghost use Rattle.hub_readers.specs.Shown.{HasSeenGroup};
 
     ghost then = { HasSeenGroup G.group };
 }

@@ -1,0 +1,25 @@
+//! What a hub publishes, and readers of it that wait for nobody.
+//!
+//! The committed rows are there twice. A writer applies a group to the copy that no reader is in,
+//! and shows it. A reader enters the shown copy by a seat of its own, without a lock.
+//!
+//! To the layer above: `open_readers` makes the showcase of a hub, which publishes groups, and its
+//! 64 readers. `HubReader::lookup` answers from what is published, which is never older than what
+//! this reader was shown or has learnt.
+#![tactic(auto)]
+
+mod error;
+mod note;
+mod opening;
+mod published;
+mod reader;
+mod rule;
+mod show;
+
+pub use error::ReaderError;
+pub use note::{HubNote, HubReceipt};
+pub use opening::{READERS, open_readers};
+pub use published::Published;
+pub use reader::HubReader;
+pub use rule::{ReaderRule, SeenGroups, SeesAll};
+pub use show::HubShow;
