@@ -117,9 +117,12 @@ fn write_no_store<W: fmt::Write>(
 ) -> fmt::Result {
     match fault {
         StoreFault::Format(error) => write!(f, "cannot format {path}: {error}"),
+        StoreFault::Copy(error) => write!(f, "cannot make a copy at {path}: {error}"),
         StoreFault::Open(error) => write!(f, "cannot open {path}: {error}"),
         StoreFault::Checkpoint(error) => write!(f, "cannot upgrade {path}: {error}"),
         StoreFault::File => write!(f, "cannot open {path}"),
+        StoreFault::Taken => write!(f, "{path} has a store, and is left as it is"),
+        StoreFault::Declined => write!(f, "{path} is left as it is, as the answer was not yes"),
         StoreFault::Memory => write!(f, "cannot open {path}: out of memory"),
         StoreFault::Output => write!(f, "cannot write standard output"),
     }

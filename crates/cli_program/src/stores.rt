@@ -2,32 +2,129 @@
 
 use crate::failure::Failure;
 use clap::ArgMatches;
-use cli_store::{Fault, format, show, show_layout, status, upgrade};
-use cli_words::{CHECKPOINT, DEVICE, JOURNAL, LAYOUT};
-use device_files::{create, open, open_to_read};
+use cli_store::{
+    Consent, Fault, Wishes, ask, copy, decide, format, show, show_layout, sizes_for, status,
+    upgrade,
+};
+use cli_words::{CHECKPOINT, DEVICE, FORCE, JOURNAL, LAYOUT, NEW, ROWS, TARGET};
+use device_files::{LockedFile, open, open_to_read};
 use sector_dev::{FileDevice, SECTOR, SystemFile};
 use std::alloc::Global;
 use std::fs::File;
 use std::io;
-use std::io::{BufWriter, Write};
+use std::io::{BufWriter, Read, Write};
 use std::rt::Files;
-use store_open::Geometry;
+use store_open::{Geometry, OpenError, has_title, read_geometry};
 
 /// Makes a file, whose former contents are dropped where it exists, and a store on it. On a block
-/// device only the store is made.
-pub(crate) fn format_file<'a, R: AllocGlobal + Files<File = File>, O: Write>(
+/// device only the store is made. Where a store is there, that is done only if the options say so,
+/// or whoever is asked agrees; `is_terminal` says that a person can be asked. The file is locked
+/// before it is looked at, and nothing of a store that is kept is written.
+pub(crate) fn format_file<'a, R: AllocGlobal + Files<File = File>, I: Read, O: Write>(
+    rt: &R,
+    options: &ArgMatches<'a>,
+    input: &mut I,
+    output: &mut O,
+    is_terminal: bool,
+) -> Result<(), Failure<'a>> {
+    let path = path_of(options);
+    let file = LockedFile::open(rt, path).map_err(|error| Failure::File(path, error))?;
+    let wishes = Wishes {
+        is_new: options.get_flag(NEW),
+        is_forced: options.get_flag(FORCE),
+        is_terminal,
+    };
+    if decide(wishes) != Consent::Given {
+        ask_for(rt.alloc(), path, &file, wishes, input, output)?;
+    }
+    make_store(rt, options, file, output)
+}
+
+/// Asks whether a store may be made on a file, which is only read.
+fn ask_for<'a, I: Read, O: Write>(
+    alloc: Global,
+    path: &'a str,
+    file: &LockedFile,
+    wishes: Wishes,
+    input: &mut I,
+    output: &mut O,
+) -> Result<(), Failure<'a>> {
+    let mut device = device_over(path, file.as_found(alloc))?;
+    said_of(path, ask(alloc, path, &mut device, wishes, input, output))
+}
+
+/// Makes a store of the sizes that the options say on a file, and whatever was there is lost.
+fn make_store<'a, R: AllocGlobal + Files<File = File>, O: Write>(
+    rt: &R,
+    options: &ArgMatches<'a>,
+    file: LockedFile,
+    output: &mut O,
+) -> Result<(), Failure<'a>> {
+    let path = path_of(options);
+    let geometry = sizes_of(
+        options,
+        Geometry {
+            checkpoint: 0,
+            journal: 0,
+        },
+    );
+    let len = geometry.sectors().saturating_mul(SECTOR as u64);
+    let mut device = device_over(path, file.into_zeros(rt, path, len))?;
+    said_of(path, format(rt.alloc(), &mut device, geometry, output))
+}
+
+/// The sizes that the options say, and those that they leave out from other sizes.
+fn sizes_of(options: &ArgMatches<'_>, others: Geometry) -> Geometry {
+    match options.get_one::<u32>(ROWS) {
+        Some(rows) => sizes_for(rows),
+        None => Geometry {
+            checkpoint: options
+                .get_one::<u32>(CHECKPOINT)
+                .unwrap_or(others.checkpoint),
+            journal: options.get_one::<u32>(JOURNAL).unwrap_or(others.journal),
+        },
+    }
+}
+
+/// Makes a file, whose former contents are dropped where it exists and has no store, and on it a
+/// store with the rows and the place of another file's store, which is only read, beside other
+/// processes that read it. Sizes that are left out are those of the other store.
+pub(crate) fn copy_file<'a, R: AllocGlobal + Files<File = File>, O: Write>(
     rt: &R,
     options: &ArgMatches<'a>,
     output: &mut O,
 ) -> Result<(), Failure<'a>> {
     let path = path_of(options);
-    let geometry = Geometry {
-        checkpoint: options.get_one::<u32>(CHECKPOINT).unwrap_or(0),
-        journal: options.get_one::<u32>(JOURNAL).unwrap_or(0),
+    let mut from = device_over(path, open_to_read(rt, path))?;
+    let geometry = match read_geometry(&mut from) {
+        Ok(Some(geometry)) => sizes_of(options, geometry),
+        Ok(None) => return said_of(path, Err(Fault::Open(OpenError::NotAStore))),
+        Err(_) => return said_of(path, Err(Fault::Open(OpenError::Device))),
     };
+    let target = options.get_str(TARGET).unwrap_or("");
+    let mut to = empty_device(rt, target, geometry)?;
+    match copy(rt.alloc(), &mut from, &mut to, geometry, output) {
+        Err(Fault::Open(error)) => said_of(path, Err(Fault::Open(error))),
+        copied => said_of(target, copied),
+    }
+}
+
+/// A device over a file of zeros with room for a store of these sizes, or over a block device. A
+/// file that has a store is refused, and left as it is.
+fn empty_device<'a, R: AllocGlobal + Files<File = File>>(
+    rt: &R,
+    path: &'a str,
+    geometry: Geometry,
+) -> Result<FileDevice<SystemFile>, Failure<'a>> {
+    let file = LockedFile::open(rt, path).map_err(|error| Failure::File(path, error))?;
+    let mut device = device_over(path, file.as_found(rt.alloc()))?;
+    match has_title(&mut device) {
+        Ok(false) => {}
+        Ok(true) => return Err(Failure::Store(path, Fault::Taken)),
+        Err(_) => return Err(Failure::Store(path, Fault::Open(OpenError::Device))),
+    }
     let len = geometry.sectors().saturating_mul(SECTOR as u64);
-    let mut device = device_over(path, create(rt, path, len))?;
-    said_of(path, format(rt.alloc(), &mut device, geometry, output))
+    device_over(path, file.into_zeros(rt, path, len))
 }
 
 /// Prints the rows of a file's store and its place, or the layout of the file, which is then opened

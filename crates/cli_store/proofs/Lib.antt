@@ -3,4 +3,5 @@ mod Upgraded
 mod Stops
 mod Drawn
 mod PartlyShown
+mod Copied
 mod Reported

@@ -12,7 +12,7 @@ use Rattle.store_open.specs.declared.error.OpenError.TheVariants.{NotAStore, Dev
 use Rattle.store_open.specs.declared.store_error.StoreError.{StoreError}
 use Rattle.store_open.specs.declared.store_error.StoreError.TheVariants as checkpoint
 use Rattle.cli_store.specs.declared.error.Fault.{Fault}
-use Rattle.cli_store.specs.declared.error.Fault.TheVariants.{Format, Open, Checkpoint, File, Memory, Output}
+use Rattle.cli_store.specs.declared.error.Fault.TheVariants.{Format, Copy, Open, Checkpoint, File, Taken, Declined, Memory, Output}
 
 -- The device is returned in every case.
 abbrev pub device_after : {D : Type 0} → Result D (D × Fault) → D
@@ -44,9 +44,12 @@ faults_after_checkpoint checkpoint.Broken faults = faults
 -- The number of the device's failed calls after a command that ended with this fault.
 abbrev pub faults_after_fault : Fault → ℕ → ℕ
 faults_after_fault (Format e) faults = faults
+faults_after_fault (Copy e) faults = faults
 faults_after_fault (Open e) faults = faults_after_opening e faults
 faults_after_fault (Checkpoint e) faults = faults_after_checkpoint e faults
 faults_after_fault File faults = faults
+faults_after_fault Taken faults = faults
+faults_after_fault Declined faults = faults
 faults_after_fault Memory faults = faults
 faults_after_fault Output faults = faults
 

@@ -1,9 +1,12 @@
 pub mod Fault
 pub mod Text
 pub mod Writing
+pub mod Asking
 pub mod Devices
 pub mod Stops
 pub mod Formatting
+pub mod Copying
+pub mod Sizes
 pub mod Showing
 pub mod Upgrading
 pub mod Walking

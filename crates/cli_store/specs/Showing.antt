@@ -2,13 +2,13 @@
 use Rattle.std.specs.Prelude.{◌⊎◌, ℕ, List, Option}
 use Rattle.std.specs.Io.KnownBytes.{Appends}
 use Rattle.sector_dev.specs.Disk.{Disk, IsHonest, reads_of}
-use Rattle.path_rows.specs.Database.{RowView}
+use Rattle.path_db.specs.Database.{RowView}
 use Rattle.store_open.specs.PathStores.{IsStoreOf}
 use Rattle.cli_store.specs.Text.{store_text}
 use Rattle.whole_writes.specs.Written.{IsWrittenInPart}
 use Rattle.cli_store.specs.Devices.{IsNotOpened, OpeningLacksMemory}
 use Rattle.cli_store.specs.declared.error.Fault.{Fault}
-use Rattle.cli_store.specs.declared.error.Fault.TheVariants.{Format, Open, Checkpoint, File, Memory, Output}
+use Rattle.cli_store.specs.declared.error.Fault.TheVariants.{Format, Copy, Open, Checkpoint, File, Taken, Declined, Memory, Output}
 
 -- What reads give opens to rows at a place, and their text was written.
 pub record ShowsStore (disk : Disk) (output output_left : Option (List ℕ)) : Type 0 where
@@ -27,8 +27,11 @@ pub record IsShownInPart (disk : Disk) (output output_left : Option (List ℕ)) 
 -- Why a store is not shown, or only in part.
 abbrev pub FailsToShow : Fault → Disk → Option (List ℕ) → Option (List ℕ) → Type 0
 FailsToShow (Format e) disk output output_left = ⊥
+FailsToShow (Copy e) disk output output_left = ⊥
 FailsToShow (Open e) disk output output_left = IsNotOpened e disk output output_left
 FailsToShow (Checkpoint e) disk output output_left = ⊥
 FailsToShow File disk output output_left = ⊥
+FailsToShow Taken disk output output_left = ⊥
+FailsToShow Declined disk output output_left = ⊥
 FailsToShow Memory disk output output_left = OpeningLacksMemory disk output output_left ⊎ IsShownInPart disk output output_left
 FailsToShow Output disk output output_left = IsShownInPart disk output output_left

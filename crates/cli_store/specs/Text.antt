@@ -9,7 +9,7 @@ use Rattle.seg_core.specs.declared.seg_type.SegType.TheVariants.{Up, Down, Core}
 use Rattle.seg_core.specs.SegmentView.{EntryView}
 use Rattle.seg_core.specs.Digest.{segment_digest}
 use Rattle.seg_check.specs.Expiry.{expiry_of}
-use Rattle.path_rows.specs.Database.{RowView}
+use Rattle.path_db.specs.Database.{RowView}
 
 -- The word of a type.
 abbrev pub type_word : SegType → List ℕ
@@ -67,6 +67,10 @@ store_text rows place = rows_text rows ++ place_line place
 -- The line that says how many sectors a new store takes.
 abbrev pub formatted_line : ℕ → List ℕ
 formatted_line sectors = codes "formatted " ++ (decimal sectors ++ (codes " sectors" ++ 0x0a ∷ []))
+
+-- The line that says how many rows were copied, and the place of the copy.
+abbrev pub copied_line : ℕ → ℕ → List ℕ
+copied_line rows place = codes "copied " ++ (decimal rows ++ (codes " rows at place " ++ (decimal place ++ 0x0a ∷ [])))
 
 -- The line of the version that stores are written in.
 abbrev pub version_line : List ℕ

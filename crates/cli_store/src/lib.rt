@@ -1,11 +1,13 @@
 //! The commands of the program over a device with a store: what each does and prints.
 //!
-//! To the layer above, `format` makes a store, `show` prints the rows and the place that a device
-//! opens to, `upgrade` has the store in the version that is written, and `show_layout` and `status`
-//! change nothing: the one draws what is on a device, and the other prints the numbers of what the
-//! device opens with.
+//! To the layer above, `format` makes a store, and `ask` says before whether one that is there may
+//! be lost. `copy` makes a store with the rows and the place of another. `show` prints the rows and the place that a device opens to, `upgrade` has the store in
+//! the version that is written, and `show_layout` and `status` change nothing: the one draws what is
+//! on a device, and the other prints the numbers of what the device opens with.
 #![tactic(auto)]
 
+mod asking;
+mod copying;
 mod drawing;
 mod error;
 mod formatting;
@@ -13,14 +15,18 @@ mod halves;
 mod layout;
 mod reporting;
 mod showing;
+mod sizes;
 mod text;
 mod upgrading;
 mod walking;
 mod writing;
 
+pub use asking::{Consent, Wishes, ask, decide};
+pub use copying::copy;
 pub use error::Fault;
 pub use formatting::format;
 pub use layout::show_layout;
 pub use reporting::status;
 pub use showing::show;
+pub use sizes::sizes_for;
 pub use upgrading::upgrade;

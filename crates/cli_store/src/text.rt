@@ -3,8 +3,8 @@
 ghost use Rattle.std.specs.Prelude.{◌≡◌, IfOk, string_bytes};
 ghost use Rattle.std.specs.Option.{option_map};
 ghost use Rattle.seg_core.specs.EntryView.{entry_view};
-ghost use Rattle.path_rows.specs.Row.{row_view};
-ghost use Rattle.cli_store.specs.Text.{type_word, end_text, row_head, row_ends, row_line, place_line, formatted_line};
+ghost use Rattle.path_db.specs.Row.{row_view};
+ghost use Rattle.cli_store.specs.Text.{type_word, end_text, row_head, row_ends, row_line, place_line, formatted_line, copied_line};
 
 use path_db::Row;
 use seg_check::expiry;
@@ -74,4 +74,11 @@ pub(crate) fn formatted_line(alloc: Global, sectors: u64) -> Result<String, Allo
     ensures { IfOk result (λ line. string_bytes line ≡ formatted_line sectors) }
 {
     format!(in alloc; "formatted {sectors} sectors\n")
+}
+
+/// The line of a store that was copied: the number of its rows, and its place.
+pub(crate) fn copied_line(alloc: Global, rows: usize, place: u64) -> Result<String, AllocError>
+    ensures { IfOk result (λ line. string_bytes line ≡ copied_line rows place) }
+{
+    format!(in alloc; "copied {rows} rows at place {place}\n")
 }

@@ -13,6 +13,7 @@ pub record HasPlainNumbers (rows : List Row) : Type 0 where
   pub now : IsPlainNumber rows (codes "now")
   pub checkpoint : IsPlainNumber rows (codes "checkpoint")
   pub journal : IsPlainNumber rows (codes "journal")
+  pub room : IsPlainNumber rows (codes "rows")
   pub sessions : IsPlainNumber rows (codes "sessions")
   pub peer_sessions : IsPlainNumber rows (codes "peer-sessions")
   pub idle : IsPlainNumber rows (codes "idle")

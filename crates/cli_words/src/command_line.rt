@@ -5,7 +5,7 @@ ghost use Rattle.clap.specs.Words.{found_of, rows_of, subcommand_name_of, subcom
 ghost use Rattle.cli_words.specs.declared.command_line.Subcommand.{Subcommand};
 ghost use Rattle.cli_words.specs.Commands.{name_of};
 
-use crate::{FORMAT, ONCE, RUN, SHOW, STATUS, UPGRADE};
+use crate::{COPY, FORMAT, ONCE, RUN, SHOW, STATUS, UPGRADE};
 use clap::ArgMatches;
 
 /// A command of the program.
@@ -15,6 +15,8 @@ pub enum Subcommand {
     Once,
     /// Makes a store: `FORMAT`.
     Format,
+    /// Makes a store with the rows of another: `COPY`.
+    Copy,
     /// Prints what a store has: `SHOW`.
     Show,
     /// Prints the status of a store: `STATUS`.
@@ -34,6 +36,7 @@ impl Subcommand {
         Some(match name {
             ONCE => Subcommand::Once,
             FORMAT => Subcommand::Format,
+            COPY => Subcommand::Copy,
             SHOW => Subcommand::Show,
             STATUS => Subcommand::Status,
             UPGRADE => Subcommand::Upgrade,

@@ -1,8 +1,8 @@
 //! The words of the program's command line, as `clap` reads them.
 //!
 //! To the layer above, `command` is the program's command with those within it that have the names
-//! of `ONCE`, `FORMAT`, `SHOW`, `STATUS`, `UPGRADE` and `RUN`, and `read` reads words by it, as a
-//! `CommandLine`; what their options say is read by `clap`, but that numbers are decimal digits
+//! of `ONCE`, `FORMAT`, `COPY`, `SHOW`, `STATUS`, `UPGRADE` and `RUN`, and `read` reads words by it,
+//! as a `CommandLine`; what their options say is read by `clap`, but that numbers are decimal digits
 //! alone.
 #![tactic(auto)]
 
@@ -36,6 +36,9 @@ pub const HEX: &str = "hex";
 
 /// The name of the command that makes a store.
 pub const FORMAT: &str = "format";
+
+/// The name of the command that makes a store with the rows of another.
+pub const COPY: &str = "copy";
 
 /// The name of the command that prints what a store has.
 pub const SHOW: &str = "show";
@@ -85,11 +88,26 @@ pub const QUIET: &str = "quiet";
 /// The name of the argument with the path of a device's file.
 pub const DEVICE: &str = "device";
 
+/// The name of the argument with the path of the file to which a store is copied.
+pub const TARGET: &str = "target";
+
 /// The name of the option with the size of a checkpoint area, in sectors.
 pub const CHECKPOINT: &str = "checkpoint";
 
 /// The name of the option with the size of a journal, in sectors.
 pub const JOURNAL: &str = "journal";
+
+/// The name of the option with the number of rows for which a store has room.
+pub const ROWS: &str = "rows";
+
+/// The most such rows: a sector of a checkpoint area is reserved for each, and one more.
+const MOST_ROWS: u32 = MOST_SECTORS - 1;
+
+/// The name of the flag by which a store is made only where none is.
+pub const NEW: &str = "new";
+
+/// The name of the flag by which a store that is there is lost without asking.
+pub const FORCE: &str = "force";
 
 /// The name of the flag for the layout of a device.
 pub const LAYOUT: &str = "layout";
@@ -111,14 +129,25 @@ const RUN_NOTES: &str = concat!(
 /// What the help says of the key.
 const KEY_HELP: &str = "Check signatures by this key of a test profile; without it all are trusted";
 
+/// What the help says of the size of a checkpoint area.
+const CHECKPOINT_HELP: &str = "The sectors of a checkpoint area, 2 to 1048576";
+
+/// What the help says of the size of a journal.
+const JOURNAL_HELP: &str = "The sectors of a journal, 516 to 1048576";
+
+/// What the help says of the number of rows.
+const ROWS_HELP: &str =
+    "Reserve a sector of a checkpoint area for each of this number of rows, and a journal to match";
+
 /// The program's commands and their options.
 pub fn command<'a>(alloc: Global) -> Result<Command<'a>, AllocError>
     ensures { IfOk result (λ command. subcommand_names command
-        ≡ codes "once" ∷ codes "format" ∷ codes "show" ∷ codes "status" ∷ codes "upgrade" ∷ codes "run" ∷ []) }
+        ≡ codes "once" ∷ codes "format" ∷ codes "copy" ∷ codes "show" ∷ codes "status" ∷ codes "upgrade" ∷ codes "run" ∷ []) }
 {
     let command = bare_command(alloc)?;
     let command = with_subcommand(command, once_command(alloc))?;
     let command = with_subcommand(command, format_command(alloc))?;
+    let command = with_subcommand(command, copy_command(alloc))?;
     let command = with_subcommand(command, show_command(alloc))?;
     let command = with_subcommand(command, status_command(alloc))?;
     let command = with_subcommand(command, upgrade_command(alloc))?;
@@ -168,15 +197,64 @@ fn once_command<'a>(alloc: Global) -> Result<Command<'a>, AllocError>
 fn format_command<'a>(alloc: Global) -> Result<Command<'a>, AllocError>
     ensures { IfOk result (λ command. (out-Command command).name.now ≡ codes "format") }
 {
-    let checkpoint = "The sectors of a checkpoint area, 2 to 1048576";
-    let journal = "The sectors of a journal, 516 to 1048576";
-    Command::new(alloc, FORMAT)
+    let checkpoint = sectors(
+        option(alloc, CHECKPOINT, "C", CHECKPOINT_HELP),
+        LEAST_CHECKPOINT,
+    );
+    let journal = sectors(option(alloc, JOURNAL, "J", JOURNAL_HELP), LEAST_JOURNAL);
+    let command = Command::new(alloc, FORMAT)
         .about(
             "Makes a file of 1 + 2 * (C + 1 + J) sectors with an empty store; one that is there is lost",
         )
         .arg(device_argument(alloc))?
-        .arg(sectors(option(alloc, CHECKPOINT, "C", checkpoint), LEAST_CHECKPOINT))?
-        .arg(sectors(option(alloc, JOURNAL, "J", journal), LEAST_JOURNAL))
+        .arg(checkpoint.required_unless_present(ROWS)?)?
+        .arg(journal.required_unless_present(ROWS)?)?
+        .arg(rows_option(alloc)?)?;
+    with_consent(alloc, command)
+}
+
+/// The command that makes a store with the rows of another.
+fn copy_command<'a>(alloc: Global) -> Result<Command<'a>, AllocError>
+    ensures { IfOk result (λ command. (out-Command command).name.now ≡ codes "copy") }
+{
+    let command = Command::new(alloc, COPY)
+        .about(
+            "Makes a store with the rows and the place of another, of other sizes where these are given",
+        )
+        .arg(
+            device_argument(alloc)
+                .value_name("OLD")
+                .help("The file of the store"),
+        )?
+        .arg(target_argument(alloc))?;
+    with_sizes(alloc, command)
+}
+
+/// Gives the command that makes a store with the rows of another the options for its sizes.
+fn with_sizes<'a>(alloc: Global, command: Command<'a>) -> Result<Command<'a>, AllocError>
+    requires { (out-Command command).name.now ≡ codes "copy" }
+    ensures { IfOk result (λ new. (out-Command new).name.now ≡ codes "copy") }
+{
+    let rows = rows_option(alloc)?;
+    command
+        .arg(sectors(
+            option(alloc, CHECKPOINT, "C", CHECKPOINT_HELP),
+            LEAST_CHECKPOINT,
+        ))?
+        .arg(sectors(option(alloc, JOURNAL, "J", JOURNAL_HELP), LEAST_JOURNAL))?
+        .arg(rows)
+}
+
+/// Gives the command that makes a store the flags for one that is there.
+fn with_consent<'a>(alloc: Global, command: Command<'a>) -> Result<Command<'a>, AllocError>
+    requires { (out-Command command).name.now ≡ codes "format" }
+    ensures { IfOk result (λ new. (out-Command new).name.now ≡ codes "format") }
+{
+    let new = "Refuse where a store is";
+    let force = "Lose a store that is there, without asking";
+    command
+        .arg(flag(alloc, NEW, new))?
+        .arg(flag(alloc, FORCE, force).conflicts_with(NEW)?)
 }
 
 /// The command that prints what a store has.
@@ -282,6 +360,15 @@ fn device_argument<'a>(alloc: Global) -> Arg<'a> {
         .action(ArgAction::Set)
 }
 
+/// The path of the file of a copy.
+fn target_argument<'a>(alloc: Global) -> Arg<'a> {
+    Arg::new(alloc, TARGET)
+        .value_name("NEW")
+        .help("The file of the copy, without a store")
+        .required(true)
+        .action(ArgAction::Set)
+}
+
 /// An option that takes one value.
 fn option<'a>(
     alloc: Global,
@@ -304,9 +391,15 @@ fn flag<'a>(alloc: Global, name: &'static str, help: &'static str) -> Arg<'a> {
         .action(ArgAction::SetTrue)
 }
 
-/// An option that has to be there, whose value is a number of sectors.
+/// An option whose value is a number of sectors.
 fn sectors<'a>(option: Arg<'a>, least: u32) -> Arg<'a> {
-    option
-        .value_parser(value_parser!(u32).range(i64::from(least)..=i64::from(MOST_SECTORS)))
-        .required(true)
+    option.value_parser(value_parser!(u32).range(i64::from(least)..=i64::from(MOST_SECTORS)))
+}
+
+/// The option by which the sizes follow from a number of rows.
+fn rows_option<'a>(alloc: Global) -> Result<Arg<'a>, AllocError> {
+    option(alloc, ROWS, "N", ROWS_HELP)
+        .value_parser(value_parser!(u32).range(1..=i64::from(MOST_ROWS)))
+        .conflicts_with(CHECKPOINT)?
+        .conflicts_with(JOURNAL)
 }

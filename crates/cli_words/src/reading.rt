@@ -8,7 +8,7 @@ ghost use Rattle.cli_words.specs.Numbers.{IsPlainNumber, HasPlainNumbers};
 
 use crate::command_line::{CommandLine, command_line};
 use crate::{
-    CHECKPOINT, FUTURE, GRACE, IDLE, JOURNAL, NOW, PEER_SESSIONS, SESSIONS, SPARE, command,
+    CHECKPOINT, FUTURE, GRACE, IDLE, JOURNAL, NOW, PEER_SESSIONS, ROWS, SESSIONS, SPARE, command,
 };
 use clap::error::ErrorKind;
 use clap::{ArgMatches, Command, Error};
@@ -53,6 +53,7 @@ fn check_numbers(
     check_number(alloc, command, options, NOW)?;
     check_number(alloc, command, options, CHECKPOINT)?;
     check_number(alloc, command, options, JOURNAL)?;
+    check_number(alloc, command, options, ROWS)?;
     check_number(alloc, command, options, SESSIONS)?;
     check_number(alloc, command, options, PEER_SESSIONS)?;
     check_number(alloc, command, options, IDLE)?;

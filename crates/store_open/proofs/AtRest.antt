@@ -16,10 +16,10 @@ use Rattle.store_layout.specs.TakeOver.{taken_over, empty_journal}
 use Rattle.store_open.specs.Closing.{HasClosedGates}
 use Rattle.store_open.specs.NewStore.{DeviceHasRoomFor}
 use Rattle.store_open.specs.Behind.{SameBehind}
-use Rattle.path_rows.specs.Database.{RowView, rows_len}
-use Rattle.path_db.specs.RowRecord.{rows_encoding}
-use Rattle.path_db.specs.RecordLaws.{WrittenRowsAreCounted}
-use Rattle.path_rows.specs.declared.command.Command.{Command}
+use Rattle.path_db.specs.Database.{RowView, rows_len}
+use Rattle.path_records.specs.RowRecord.{rows_encoding}
+use Rattle.path_records.specs.RecordLaws.{WrittenRowsAreCounted}
+use Rattle.path_db.specs.declared.command.Command.{Command}
 use Rattle.ckpt_pair.specs.Versions.{latest}
 use Rattle.ckpt_pair.specs.Rows.{rows_format}
 use Rattle.ckpt_pair.specs.Checkpoint.{written_checkpoint}
@@ -61,7 +61,7 @@ value_by_tail opening (Some behind) is = absurd (some_is_none is)
     some_is_none same = cc
 
 -- a checkpoint of these rows has room in the area
-fits_area : (epoch place area : ℕ) (rows : List RowView) (bytes : List ℕ) → bytes ≡ checkpoint_encoding rows_format (written_checkpoint epoch place rows) → WrittenRowsAreCounted
+pub fits_area : (epoch place area : ℕ) (rows : List RowView) (bytes : List ℕ) → bytes ≡ checkpoint_encoding rows_format (written_checkpoint epoch place rows) → WrittenRowsAreCounted
     → 32 + rows_len rows ≤ 512 * area → length bytes ≤ 512 * area
 fits_area epoch place area rows bytes spelled counted fits =
     let long : length bytes ≡ 512 * sectors_of (length (checkpoint_bytes rows_format (written_checkpoint epoch place rows))) = ap length spelled ∙ length-padded (checkpoint_bytes rows_format (written_checkpoint epoch place rows)) in

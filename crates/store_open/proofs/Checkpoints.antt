@@ -5,8 +5,8 @@ use Rattle.std.specs.Result.{is_ok, IsOk}
 use Rattle.byte_lists.specs.Content.{part}
 use Rattle.byte_lists.specs.Sectors.{sector_at}
 use Rattle.byte_lists.proofs.Contents.{length-part}
-use Rattle.path_rows.specs.Database.{RowView}
-use Rattle.path_db.specs.RowRecord.{rows_decoding}
+use Rattle.path_db.specs.Database.{RowView}
+use Rattle.path_records.specs.RowRecord.{rows_decoding}
 use Rattle.store_layout.specs.declared.half.Half.{Half}
 use Rattle.store_layout.specs.declared.half.Half.TheVariants.{First, Second}
 use Rattle.store_layout.specs.Checkpoint.{Checkpoint, Head}

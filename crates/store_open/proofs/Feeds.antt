@@ -4,7 +4,7 @@ use Rattle.std.proofs.lemmas.List.{drop-drop}
 use Rattle.std.proofs.Math.Seq.{take-add}
 use Rattle.std.specs.Prelude.{◌≢◌}
 use Rattle.byte_lists.specs.Content.{part}
-use Rattle.path_db.specs.RowRecord.{rows_decoding}
+use Rattle.path_records.specs.RowRecord.{rows_decoding}
 use Rattle.ckpt_pair.specs.declared.error.PairError.{PairError}
 use Rattle.ckpt_pair.specs.declared.error.PairError.TheVariants as pair
 use Rattle.ckpt_pair.specs.Reading.{AreNoRows}

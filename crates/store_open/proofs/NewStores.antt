@@ -11,8 +11,8 @@ use Rattle.store_layout.specs.StoreFormat.{StoreFormat}
 use Rattle.store_open.specs.NewStore.{first_head, IsNewStore, IsEmptyStore, IsFormattedInAny}
 use Rattle.ckpt_pair.specs.Versions.{latest}
 use Rattle.store_layout.proofs.TakeOver.{opens_empty}
-use Rattle.path_rows.specs.Database.{RowView}
-use Rattle.path_rows.specs.declared.command.Command.{Command}
+use Rattle.path_db.specs.Database.{RowView}
+use Rattle.path_db.specs.declared.command.Command.{Command}
 use Rattle.store_open.specs.PathStores.{store_format}
 
 -- a closed gate is not open

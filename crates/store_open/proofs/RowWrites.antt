@@ -8,8 +8,8 @@ use Rattle.std.proofs.lemmas.List.Edits.{take-paste, paste_all, paste-paste}
 use Rattle.byte_lists.specs.Content.{part, overwrite}
 use Rattle.byte_lists.specs.Sectors.{sectors_of, padded}
 use Rattle.byte_lists.proofs.Contents.{length-overwrite, overwrite_before, overwrite_within, overwrite_behind, length-part, get_or-part, same_content, overwrite_same, part_new}
-use Rattle.path_rows.specs.Database.{RowView}
-use Rattle.path_db.specs.RowRecord.{rows_encoding}
+use Rattle.path_db.specs.Database.{RowView}
+use Rattle.path_records.specs.RowRecord.{rows_encoding}
 use Rattle.sector_dev.specs.Disk.{History, Disk, IsHonest, IsWhole, reads_of}
 use Rattle.sector_dev.specs.Calls.{Keeps, WriteCall}
 use Rattle.sector_dev.specs.Stretch.{Stretch}

@@ -1,7 +1,7 @@
 -- The state of a store whose commands were folded into its rows.
 use Rattle.std.specs.Prelude.{false, List}
-use Rattle.path_rows.specs.Database.{RowView}
-use Rattle.path_rows.specs.declared.command.Command.{Command}
+use Rattle.path_db.specs.Database.{RowView}
+use Rattle.path_db.specs.declared.command.Command.{Command}
 use Rattle.sector_dev.specs.Disk.{Disk, IsHonest, reads_of}
 use Rattle.store_layout.specs.Opening.{Opening, IsOpening}
 use Rattle.ckpt_pair.specs.Heads.{head_view}

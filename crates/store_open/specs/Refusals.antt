@@ -3,7 +3,7 @@
 use Rattle.std.specs.Prelude.{◌≡◌, ◌≢◌, ℕ, Result, Ok, Err}
 use Rattle.sector_dev.specs.Disk.{Disk, IsHonest}
 use Rattle.sector_dev.specs.Calls.{Keeps, one_more}
-use Rattle.path_rows.specs.declared.command.Command.{Command}
+use Rattle.path_db.specs.declared.command.Command.{Command}
 use Rattle.store_layout.specs.GroupReading.{JournalRefusal}
 use Rattle.store_layout.specs.Journal.{Reading}
 use Rattle.gate_journal.specs.declared.error.JournalError.{JournalError}

@@ -1,6 +1,6 @@
 -- The reading of the rows of a checkpoint.
 use Rattle.std.specs.Prelude.{◌≡◌, ℕ, List, None, Result, Ok, Err}
-use Rattle.path_db.specs.RowRecord.{rows_decoding}
+use Rattle.path_records.specs.RowRecord.{rows_decoding}
 use Rattle.ckpt_pair.specs.Rows.{as_counted}
 use Rattle.ckpt_pair.specs.declared.error.PairError.TheVariants as pair
 use Rattle.store_open.specs.declared.error.OpenError.{OpenError}

@@ -1,11 +1,12 @@
 -- A store that was opened, as contracts see it, and the contents of its device.
 use Rattle.std.specs.Prelude.{◌≡◌, ℕ, ◌+◌, ◌*◌, ◌^◌, ◌-◌, ◌<◌, ◌≤◌, min, Bool, true, false, List, [], Result, Ok, Err}
 use Rattle.byte_lists.specs.declared.format.TheConstants.{SECTOR}
-use Rattle.path_rows.specs.Database.{RowView, rows_len}
-use Rattle.path_rows.specs.declared.command.Command.{Command}
+use Rattle.path_db.specs.Database.{RowView, rows_len}
+use Rattle.path_db.specs.declared.command.Command.{Command}
 use Rattle.sector_dev.specs.Disk.{Disk, IsHonest}
 use Rattle.sector_dev.specs.Image.{EveryImage}
 use Rattle.sector_dev.specs.Calls.{one_more}
+use Rattle.store_layout.specs.declared.format.TheConstants.{BEFORE_ROWS}
 use Rattle.store_layout.specs.declared.half.Half.{Half}
 use Rattle.store_layout.specs.Layout.{Geometry, other}
 use Rattle.store_layout.specs.Checkpoint.{Head}
@@ -89,7 +90,7 @@ pub record IsSound (view : StoreView) : Type 0 where
 
 -- The checkpoint of the store's rows has no room in the area.
 abbrev pub HasNoRoomInArea : StoreView → Type 0
-HasNoRoomInArea view = SECTOR * view.geometry.checkpoint < 32 + rows_len view.rows
+HasNoRoomInArea view = SECTOR * view.geometry.checkpoint < BEFORE_ROWS + rows_len view.rows
 
 -- A store may make a checkpoint.
 pub record MayCheckpoint (view : StoreView) : Type 0 where
@@ -100,7 +101,7 @@ pub record MayCheckpoint (view : StoreView) : Type 0 where
   -- A next epoch exists.
   pub epoch : view.head.epoch < 2 ^ 64 - 1
   -- The rows fit the area.
-  pub fits : 32 + rows_len view.rows ≤ SECTOR * view.geometry.checkpoint
+  pub fits : BEFORE_ROWS + rows_len view.rows ≤ SECTOR * view.geometry.checkpoint
 
 -- The same store, once the other half has its rows and an empty journal, in the version that is
 -- written.

@@ -11,7 +11,7 @@ use crate::store::Store;
 use crate::store_error::StoreError;
 use crate::taking_over::take_over;
 use ckpt_pair::{Head, area_room, checkpoint_head};
-use path_db::written_rows_are_counted;
+use path_records::written_rows_are_counted;
 use sector_dev::Device;
 use store_layout::LATEST;
 

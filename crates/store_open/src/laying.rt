@@ -5,37 +5,32 @@ ghost use Rattle.std.specs.Option.{option_map, ForSome};
 ghost use Rattle.byte_lists.specs.Content.{overwrite};
 ghost use Rattle.byte_lists.specs.Sectors.{padded};
 ghost use Rattle.byte_lists.specs.declared.format.TheConstants.{SECTOR};
-ghost use Rattle.path_rows.specs.Row.{row_view};
-ghost use Rattle.path_db.specs.RowRecord.{row_record, rows_encoding};
+ghost use Rattle.path_db.specs.Row.{row_view};
+ghost use Rattle.path_records.specs.declared.format.TheConstants.{PIECE};
+ghost use Rattle.path_records.specs.RowRecord.{row_record, rows_encoding};
 ghost use Rattle.sector_dev.specs.Disk.{IsHonest, reads_of};
 ghost use Rattle.sector_dev.specs.Calls.{WriteCall, count_after};
 ghost use Rattle.sector_dev.specs.Stretch.{Stretch};
 ghost use Rattle.seg_core.specs.Encoding.{segment_encoding};
 ghost use Rattle.store_open.specs.RowWrites.{IsWrittenUpTo, record_if_any};
 ghost use Rattle.store_open.specs.TakingOver.{IsTornAt};
-ghost use Rattle.store_open.specs.declared.laying.TheConstants.{BUFFER, WRITE_BYTES};
+ghost use Rattle.store_open.specs.declared.laying.TheConstants.{BUFFER};
 
 use byte_lists::{put, sector_count};
-use ckpt_pair::BEFORE_ROWS;
-use path_db::{PathDb, ROW_HEAD, Row, Rows, row_head};
+use path_db::{MOST_ROW_BYTES, PathDb, ROW_HEAD, Row, Rows};
+use path_records::{PIECE, row_head};
 use sector_dev::{DevError, Device, SECTOR};
-use seg_core::MOST_SEGMENT_BYTES;
+use store_layout::BEFORE_ROWS;
 
-/// The bytes of one write.
-const WRITE_BYTES: usize = 131_072;
-
-/// The sectors of one write.
-const WRITE_SECTORS: u64 = (WRITE_BYTES / SECTOR) as u64;
-
-/// The most bytes of a row's record.
-const MOST_ROW: usize = ROW_HEAD + MOST_SEGMENT_BYTES;
+/// The sectors of one write: a piece.
+const WRITE_SECTORS: u64 = (PIECE / SECTOR) as u64;
 
 /// The length of the buffer in bytes: a piece and the seven greatest rows, in whole sectors.
-pub(crate) const BUFFER: usize = (WRITE_BYTES + 7 * MOST_ROW + (SECTOR - 1)) / SECTOR * SECTOR;
+pub const BUFFER: usize = (PIECE + 7 * MOST_ROW_BYTES + (SECTOR - 1)) / SECTOR * SECTOR;
 
 /// Writes the front of a checkpoint and its rows from a sector on, padded with zeros to whole
 /// sectors, piece by piece from one buffer, and syncs. Nothing may be dirty before the call.
-pub(crate) fn lay<D: Device>(
+pub fn lay<D: Device>(
     device: &mut D,
     at: u64,
     head: &[u8; 32],
@@ -74,14 +69,14 @@ fn write_rows<D: Device>(
 ) -> Result<(u64, usize), DevError>
     requires inside { SECTOR * at + length (padded (take before buffer.old ++ rows_encoding rows)) ≤ SECTOR * (D.disk device.old).sectors }
     requires buffer { length buffer.old ≡ BUFFER }
-    requires used { before < WRITE_BYTES }
+    requires used { before < PIECE }
     requires clean { IsHonest (D.disk device.old) → (D.disk device.old).history.now.dirty ≡ [] }
     ensures any_moment { Stretch (D.disk device.old) (D.disk device.new)
         (IsTornAt (SECTOR * at) (length (padded (take before buffer.old ++ rows_encoding rows.entry))) (reads_of (D.disk device.old))) }
     ensures poured { IfOk result (λ rest. IsWrittenUpTo (D.disk device.old) (D.disk device.new) at rest.0
         (take rest.1 buffer.new) (take before buffer.old ++ rows_encoding rows.entry)) }
     ensures buffer { length buffer.new ≡ length buffer.old }
-    ensures rest { IfOk result (λ rest. rest.1 < WRITE_BYTES) }
+    ensures rest { IfOk result (λ rest. rest.1 < PIECE) }
     ensures faults { (D.disk device.new).faults ≡ count_after result (D.disk device.old).faults }
 {
     let mut rows = rows;
@@ -89,10 +84,10 @@ fn write_rows<D: Device>(
     let mut used = before;
     while let Some(row) = rows.next() {
         used = put_seven(buffer, used, row, &mut rows);
-        if used >= WRITE_BYTES {
+        if used >= PIECE {
             write_piece(device, sector, buffer, used)?;
             sector += WRITE_SECTORS;
-            used -= WRITE_BYTES;
+            used -= PIECE;
         }
     }
     Ok((sector, used))
@@ -105,15 +100,15 @@ fn write_piece<D: Device>(
     buffer: &mut [u8],
     used: usize,
 ) -> Result<(), DevError>
-    requires used { WRITE_BYTES ≤ used }
+    requires used { PIECE ≤ used }
     requires buffer { used ≤ length buffer.old }
-    requires inside { SECTOR * sector + WRITE_BYTES ≤ SECTOR * (D.disk device.old).sectors }
-    ensures write { WriteCall sector (take WRITE_BYTES buffer.old) result (D.disk device.old) (D.disk device.new) }
-    ensures rest { OnOk result (take WRITE_BYTES buffer.old ++ take (used - WRITE_BYTES) buffer.new ≡ take used buffer.old) }
+    requires inside { SECTOR * sector + PIECE ≤ SECTOR * (D.disk device.old).sectors }
+    ensures write { WriteCall sector (take PIECE buffer.old) result (D.disk device.old) (D.disk device.new) }
+    ensures rest { OnOk result (take PIECE buffer.old ++ take (used - PIECE) buffer.new ≡ take used buffer.old) }
     ensures buffer { length buffer.new ≡ length buffer.old }
 {
-    device.write(sector, &buffer[..WRITE_BYTES])?;
-    buffer.copy_within(WRITE_BYTES..used, 0);
+    device.write(sector, &buffer[..PIECE])?;
+    buffer.copy_within(PIECE..used, 0);
     Ok(())
 }
 
@@ -125,7 +120,7 @@ fn write_rest<D: Device>(
     used: usize,
 ) -> Result<(), DevError>
     requires buffer { length buffer.old ≡ BUFFER }
-    requires used { used ≤ WRITE_BYTES }
+    requires used { used ≤ PIECE }
     requires inside { SECTOR * sector + length (padded (take used buffer.old)) ≤ SECTOR * (D.disk device.old).sectors }
     ensures write { WriteCall sector (padded (take used buffer.old)) result (D.disk device.old) (D.disk device.new) }
 {
@@ -139,7 +134,7 @@ fn write_rest<D: Device>(
 /// waits for their memory at the same time.
 fn put_seven(buffer: &mut [u8], used: usize, first: &Row, rows: &mut Rows<'_>) -> usize
     requires buffer { length buffer.old ≡ BUFFER }
-    requires used { used < WRITE_BYTES }
+    requires used { used < PIECE }
     ensures put { take result buffer.new ++ rows_encoding rows.new ≡ take used buffer.old ++ rows_encoding (row_view first.now ∷ rows.old) }
     ensures buffer { length buffer.new ≡ length buffer.old }
     ensures inside { result ≤ used + 114723 }

@@ -3,7 +3,8 @@
 //! To the layer above: after `format` every image of the device is a new store. `read_geometry`
 //! returns the sizes of a store exactly where an image is one. `open` returns what the image opens
 //! with, and at every moment leaves the image unchanged, or an image that opens with the same.
-//! `look` returns what the image opens with, and leaves the device unchanged.
+//! `look` returns what the image opens with, and leaves the device unchanged. `lay`, `write_through`
+//! and `title_sector` are the steps of which a store with given rows is made.
 #![tactic(auto)]
 
 mod checkpoint;
@@ -36,6 +37,7 @@ pub use error::OpenError;
 pub use first_sector::{has_title, read_geometry, titled_sizes};
 pub use folded::Folded;
 pub use in_threads::open_in_threads;
+pub use laying::{BUFFER, lay};
 pub use looking::look;
 pub use new_store::{FormatError, format};
 pub use new_store_laws::new_stores_are_formatted;
@@ -43,6 +45,8 @@ pub use open_store::open;
 pub use reading::read_sector;
 pub use scanning::scan_journal;
 pub use sealed::SealedError;
+pub use sectors::title_sector;
 pub use store::Store;
 pub use store_error::StoreError;
 pub use store_layout::Geometry;
+pub use taking_over::write_through;

@@ -1,7 +1,7 @@
 //! Reading what a device opens with.
 
 ghost use Rattle.std.specs.Prelude.{◌≡◌, IfOk, IfErr};
-ghost use Rattle.path_rows.specs.Database.{IsDatabase};
+ghost use Rattle.path_db.specs.Database.{IsDatabase};
 ghost use Rattle.sector_dev.specs.Calls.{Keeps};
 ghost use Rattle.sector_dev.specs.Disk.{IsHonest, reads_of};
 ghost use Rattle.store_open.specs.Folded.{IsSeenOn};
@@ -11,7 +11,7 @@ ghost use Rattle.store_open.specs.Refusals.{OnOkOrNoMemory};
 use crate::error::OpenError;
 use crate::folded::{Folded, fold_found};
 use crate::opening::read_opening;
-use path_db::OneThread;
+use path_records::OneThread;
 use sector_dev::Device;
 use std::alloc::Global;
 

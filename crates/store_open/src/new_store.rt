@@ -10,7 +10,7 @@ ghost use Rattle.store_layout.specs.Geometry.{geometry_view};
 ghost use Rattle.store_open.specs.NewStore.{Formats, HoldsNewStore, DeviceHasRoomFor};
 ghost use Rattle.store_open.specs.Behind.{SameBehind};
 
-use crate::sectors::{first_checkpoint, first_sector};
+use crate::sectors::{first_checkpoint, title_sector};
 use byte_lists::{closed_gate, open_gate};
 use sector_dev::{DevError, Device};
 use store_layout::{Geometry, Half};
@@ -62,7 +62,7 @@ fn lay_out<D: Device>(device: &mut D, geometry: Geometry) -> Result<(), DevError
     ensures behind { Stretch (D.disk device.old) (D.disk device.new)
         (IsFromImage (D.disk device.old).history.now (SameBehind (geometry_view geometry))) }
 {
-    device.write(0, &first_sector(geometry))?;
+    device.write(0, &title_sector(geometry))?;
     device.write(geometry.area_at(Half::First), &first_checkpoint())?;
     device.write(geometry.gate_at(Half::First), &open_gate())?;
     device.write(geometry.journal_at(Half::First), &closed_gate())?;

@@ -1,7 +1,7 @@
 //! Opening a store.
 
 ghost use Rattle.std.specs.Prelude.{◌≡◌, [], false, IfOk, IfErr};
-ghost use Rattle.path_rows.specs.Database.{IsDatabase};
+ghost use Rattle.path_db.specs.Database.{IsDatabase};
 ghost use Rattle.sector_dev.specs.Disk.{IsHonest, reads_of, after_sync};
 ghost use Rattle.sector_dev.specs.Image.{IsFromImage};
 ghost use Rattle.sector_dev.specs.Stretch.{Stretch};
@@ -17,7 +17,7 @@ use crate::folded::{Folded, fold_found};
 use crate::opening::read_opening;
 use crate::store::Store;
 use gate_journal::JournalError;
-use path_db::{OneThread, RowReading};
+use path_records::{OneThread, RowReading};
 use sector_dev::Device;
 use std::alloc::Global;
 

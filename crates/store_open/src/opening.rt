@@ -1,7 +1,7 @@
 //! What is found on a device when it is opened.
 
 ghost use Rattle.std.specs.Prelude.{◌≡◌, None, Ok, IfOk};
-ghost use Rattle.path_rows.specs.Database.{IsDatabase};
+ghost use Rattle.path_db.specs.Database.{IsDatabase};
 ghost use Rattle.sector_dev.specs.Disk.{IsHonest, reads_of};
 ghost use Rattle.byte_lists.specs.Sectors.{is_open_gate};
 ghost use Rattle.store_layout.specs.Layout.{other, gate_of};
@@ -25,7 +25,7 @@ use crate::rows::read_checkpoint;
 use crate::scanning::scan_journal;
 use ckpt_pair::{Checkpoint, PairError, tail_half};
 use gate_journal::Scan;
-use path_db::RowReading;
+use path_records::RowReading;
 use sector_dev::Device;
 use std::alloc::Global;
 use store_layout::{Geometry, Half};

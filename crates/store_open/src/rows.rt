@@ -4,7 +4,8 @@ ghost use Rattle.std.specs.Prelude.{◌≡◌, ◌+◌, ◌*◌, ◌≤◌, IfOk
 ghost use Rattle.byte_lists.specs.Content.{part};
 ghost use Rattle.byte_lists.specs.declared.format.TheConstants.{SECTOR};
 ghost use Rattle.sector_dev.specs.Disk.{IsHonest, reads_of};
-ghost use Rattle.path_rows.specs.Database.{IsDatabase};
+ghost use Rattle.path_db.specs.Database.{IsDatabase};
+ghost use Rattle.store_layout.specs.declared.format.TheConstants.{BEFORE_ROWS};
 ghost use Rattle.store_layout.specs.CheckpointReading.{checkpoint_in};
 ghost use Rattle.store_layout.specs.Layout.{IsGeometry, image_sectors, area_of};
 ghost use Rattle.ckpt_pair.specs.Versions.{latest};
@@ -18,13 +19,12 @@ use crate::error::OpenError;
 use crate::reading::read_sector;
 use crate::scanning::read_piece;
 use ckpt_pair::{
-    BEFORE_ROWS, Checkpoint, checkpoints_are_read_by_their_fronts, feed_rows_by, finish_rows,
-    read_front,
+    Checkpoint, checkpoints_are_read_by_their_fronts, feed_rows_by, finish_rows, read_front,
 };
-use path_db::{RowReading, RowsReader};
+use path_records::{RowReading, RowsReader};
 use sector_dev::{Device, SECTOR};
 use std::alloc::Global;
-use store_layout::{Geometry, Half};
+use store_layout::{BEFORE_ROWS, Geometry, Half};
 
 /// The most sectors that are read at a time: 16 MiB. Each piece is one call of the device, and its
 /// rows are shared out among the threads of an opening.
@@ -40,9 +40,9 @@ pub(crate) fn feed_area<B: RowReading, D: Device>(
     size: u32,
 ) -> Result<RowsReader, OpenError>
     requires ready { B.is_ready by.now }
-    requires room { SECTOR * area + 32 + size ≤ SECTOR * (D.disk device.old).sectors }
+    requires room { SECTOR * area + BEFORE_ROWS + size ≤ SECTOR * (D.disk device.old).sectors }
     ensures looks { LooksFor result (D.disk device.old) (D.disk device.new) }
-    ensures rows { IsHonest (D.disk device.old) → FeedsSo (part (SECTOR * area + 32) size (reads_of (D.disk device.old))) result }
+    ensures rows { IsHonest (D.disk device.old) → FeedsSo (part (SECTOR * area + BEFORE_ROWS) size (reads_of (D.disk device.old))) result }
 {
     let sector = SECTOR as u64;
     let end = BEFORE_ROWS as u64 + u64::from(size);

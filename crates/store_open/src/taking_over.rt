@@ -4,7 +4,7 @@ ghost use Rattle.std.specs.Prelude.{◌≡◌, ◌%◌, ◌*◌, ◌+◌, ◌≤
 ghost use Rattle.byte_lists.specs.Content.{overwrite};
 ghost use Rattle.byte_lists.specs.Sectors.{padded};
 ghost use Rattle.byte_lists.specs.declared.format.TheConstants.{SECTOR};
-ghost use Rattle.path_db.specs.RowRecord.{rows_encoding};
+ghost use Rattle.path_records.specs.RowRecord.{rows_encoding};
 ghost use Rattle.sector_dev.specs.Disk.{IsHonest, reads_of};
 ghost use Rattle.sector_dev.specs.Calls.{Keeps, count_after};
 ghost use Rattle.sector_dev.specs.Stretch.{Stretch};
@@ -54,7 +54,7 @@ pub(crate) fn take_over<D: Device>(
 }
 
 /// Writes whole sectors, and syncs. Nothing may be dirty before the call.
-fn write_through<D: Device>(device: &mut D, at: u64, bytes: &[u8]) -> Result<(), DevError>
+pub fn write_through<D: Device>(device: &mut D, at: u64, bytes: &[u8]) -> Result<(), DevError>
     requires whole { length bytes.now % SECTOR ≡ 0 }
     requires inside { SECTOR * at + length bytes.now ≤ SECTOR * (D.disk device.old).sectors }
     requires clean { IsHonest (D.disk device.old) → (D.disk device.old).history.now.dirty ≡ [] }

@@ -1,6 +1,6 @@
 use Rattle.std.proofs.Common.{rules, ◌≡◌, ◌∷◌, ◌∙◌}
 use Rattle.std.proofs.lemmas.Result.{err_from_is_err_and}
-use Rattle.path_rows.specs.Row.{row_view}
+use Rattle.path_db.specs.Row.{row_view}
 use Rattle.cli_store.specs.Text.{row_line, rows_text}
 use Rattle.cli_store.proofs.Fronts.{HasWritten-next, fails_behind}
 use Rattle.cli_store.proofs.writing.write_rows.Goals as goal

@@ -1,7 +1,7 @@
 -- The front, whole pieces, and the rest.
 use Rattle.std.proofs.Common.{rules, ◌≡◌, ◌*◌, ◌++◌, ℕ, List, length, take, ap, subst, arith}
 use Rattle.byte_lists.specs.Sectors.{padded}
-use Rattle.path_db.specs.RowRecord.{rows_encoding}
+use Rattle.path_records.specs.RowRecord.{rows_encoding}
 use Rattle.sector_dev.specs.Disk.{reads_of}
 use Rattle.sector_dev.specs.Stretch.{Stretch}
 use Rattle.sector_dev.proofs.Stretches.{stretch_sync}

@@ -1,7 +1,7 @@
 -- How much is written, and what a stop leaves.
 use Rattle.std.proofs.Common.{◌≡◌, ◌<◌, ◌*◌, ◌++◌, length, take}
 use Rattle.byte_lists.specs.Sectors.{padded}
-use Rattle.path_db.specs.RowRecord.{rows_encoding}
+use Rattle.path_records.specs.RowRecord.{rows_encoding}
 use Rattle.sector_dev.specs.Disk.{reads_of}
 use Rattle.sector_dev.specs.Stretch.{Stretch}
 use Rattle.store_open.specs.RowWrites.{IsWrittenUpTo}

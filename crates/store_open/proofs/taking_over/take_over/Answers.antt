@@ -3,7 +3,7 @@ use Rattle.std.proofs.Common.{arith, refl, ◌++◌}
 use Rattle.std.proofs.lemmas.Result.{on_ok_weaker}
 use Rattle.sector_dev.proofs.Stretches.{honest_after}
 use Rattle.byte_lists.specs.Sectors.{padded}
-use Rattle.path_db.specs.RowRecord.{rows_encoding}
+use Rattle.path_records.specs.RowRecord.{rows_encoding}
 use Rattle.store_layout.specs.Geometry.{geometry_view}
 use Rattle.store_open.proofs.Gates.{gates_inside}
 use Rattle.store_open.proofs.TakingOver.{first_taking, second_taking, third_taking, all_taken}

@@ -1,7 +1,7 @@
 -- The four numbers, one after the other.
 use Rattle.std.proofs.Common.{◌∙◌, replicate}
 use Rattle.byte_lists.specs.Content.{overwrite}
-use Rattle.store_open.proofs.sectors.first_sector.Goals as goal
+use Rattle.store_open.proofs.sectors.title_sector.Goals as goal
 
 pub returns : goal.returns
 returns c =
