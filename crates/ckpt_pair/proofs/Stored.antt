@@ -5,9 +5,9 @@ use Rattle.byte_lists.specs.Content.{part}
 use Rattle.byte_lists.proofs.Contents.{bytes-part}
 use Rattle.store_layout.specs.Checkpoint as laws
 use Rattle.store_layout.specs.CheckpointReading.{PairRefusal, head_in, rows_size, rows_count, db_in, with_rows}
-use Rattle.path_rows.specs.Database.{RowView}
-use Rattle.path_db.specs.RowRecord.{rows_decoding}
-use Rattle.path_db.proofs.RowsBack.{rows_back, rows_spelled}
+use Rattle.path_db.specs.Database.{RowView}
+use Rattle.path_records.specs.RowRecord.{rows_decoding}
+use Rattle.path_records.proofs.RowsBack.{rows_back, rows_spelled}
 use Rattle.ckpt_pair.specs.Versions.{latest}
 use Rattle.ckpt_pair.specs.Rows.{as_counted, counted_rows, rows_format}
 use Rattle.ckpt_pair.specs.Checkpoint.{DatabasesAreStorable, DatabasesCanBeCheckpoints, ReadCheckpointsAreDatabases}

@@ -2,12 +2,12 @@
 use Rattle.std.proofs.Common.{◌≡◌, ◌≢◌, ℕ, zero, suc, ◌+◌, ◌-◌, ◌<◌, ◌≤◌, Bool, true, false, List, [], ◌∷◌, ◌++◌, length, take, drop, refl, sym, ap, subst, ◌∙◌, arith, append-nil, Ok, Err, Some, None, ne_eqb, eq-eqb}
 use Rattle.std.specs.Prelude.{Result, Option, if◌then◌else◌}
 use Rattle.std.proofs.lemmas.List.{length-append, length-take}
-use Rattle.path_rows.specs.Database.{RowView}
-use Rattle.path_db.specs.declared.error.DbError.{DbError}
-use Rattle.path_db.specs.RowRecord.{rows_decoding, has_row}
-use Rattle.path_db.specs.RowWalk.{WalkView, HasGiven}
-use Rattle.path_db.specs.RowsReader.{AreRefused}
-use Rattle.path_db.proofs.Exports.{given_all, given_cut, given_begin}
+use Rattle.path_db.specs.Database.{RowView}
+use Rattle.path_records.specs.declared.error.DbError.{DbError}
+use Rattle.path_records.specs.RowRecord.{rows_decoding, has_row}
+use Rattle.path_records.specs.RowWalk.{WalkView, HasGiven}
+use Rattle.path_records.specs.RowsReader.{AreRefused}
+use Rattle.path_records.proofs.Exports.{given_all, given_cut, given_begin}
 use Rattle.ckpt_pair.specs.Rows.{as_counted, counted_rows}
 use Rattle.ckpt_pair.specs.Reading.{FrontView, with_head, with_rows_behind, rows_behind}
 use Rattle.ckpt_pair.specs.Stream.{StreamView, HasStreamed, AreNoStreamedRows, IsRefusedWalk, StreamsBeginRows, StreamsReadHalves}

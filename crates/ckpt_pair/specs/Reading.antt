@@ -1,10 +1,11 @@
 -- Reading an area: its front first, and then its rows.
 use Rattle.std.specs.Prelude.{◌≡◌, ℕ, ◌+◌, ◌≤◌, Bool, true, false, List, ◌++◌, length, take, Result, Ok, Err, IsOk, Option, Some, None, nat_le}
 use Rattle.byte_lists.specs.Content.{part}
+use Rattle.store_layout.specs.declared.format.TheConstants.{BEFORE_ROWS}
 use Rattle.store_layout.specs.Checkpoint as laws
 use Rattle.store_layout.specs.CheckpointReading.{PairRefusal, BadCheckpoint, head_in, rows_size, rows_count, checkpoint_in}
-use Rattle.path_rows.specs.Database.{RowView}
-use Rattle.path_db.specs.RowRecord.{rows_decoding, HasOutline}
+use Rattle.path_db.specs.Database.{RowView}
+use Rattle.path_records.specs.RowRecord.{rows_decoding, HasOutline}
 use Rattle.ckpt_pair.specs.declared.reading.Front.{Front}
 use Rattle.ckpt_pair.specs.declared.reading.Checkpoint.{Checkpoint}
 use Rattle.ckpt_pair.specs.Heads.{head_view}
@@ -36,7 +37,7 @@ with_room (Ok head) true size count = Ok (record { head = head; size = size; cou
 
 -- The front of an area of `size` bytes, from its first bytes.
 abbrev pub front_in : ℕ → ℕ → List ℕ → Result FrontView PairRefusal
-front_in known size bytes = with_room (head_in known bytes) (nat_le (32 + rows_size bytes) size) (rows_size bytes) (rows_count bytes)
+front_in known size bytes = with_room (head_in known bytes) (nat_le (BEFORE_ROWS + rows_size bytes) size) (rows_size bytes) (rows_count bytes)
 
 -- A value that may be missing, which is refused as BadCheckpoint where it is.
 abbrev pub or_bad : {X : Type 0} → Option X → Result X PairRefusal
@@ -51,7 +52,7 @@ AreNoRows bytes = (count : ℕ) (behind : List ℕ) → as_counted count (rows_d
 -- Reading an area takes memory: its front is valid, and the first of its rows has an outline.
 pub record HasRowsToRead (area : List ℕ) : Type 0 where
   pub front : IsOk (front_in latest (length area) area)
-  pub outline : HasOutline (part 32 (rows_size area) area)
+  pub outline : HasOutline (part BEFORE_ROWS (rows_size area) area)
 
 -- A checkpoint, by its head and the result of reading its rows.
 abbrev pub with_head : laws.Head → Option (List RowView) → Result (laws.Checkpoint (List RowView)) PairRefusal
@@ -65,7 +66,7 @@ with_rows_behind (Ok front) found = with_head front.head (found front)
 
 -- The rows of a front, in the bytes of an area after it.
 abbrev pub rows_behind : List ℕ → FrontView → Option (List RowView)
-rows_behind area front = as_counted front.count (rows_decoding (part 32 front.size area))
+rows_behind area front = as_counted front.count (rows_decoding (part BEFORE_ROWS front.size area))
 
 -- An area is read by its front and its rows.
 pub record IsReadByItsFront (area : List ℕ) : Type 0 where
@@ -73,8 +74,8 @@ pub record IsReadByItsFront (area : List ℕ) : Type 0 where
   pub checkpoint : checkpoint_in rows_format latest area
       ≡ with_rows_behind (front_in latest (length area) area) (rows_behind area)
   -- The front depends on the first 32 bytes of the area alone.
-  pub front : (bytes : List ℕ) → take 32 bytes ≡ take 32 area → front_in latest (length area) bytes ≡ front_in latest (length area) area
+  pub front : (bytes : List ℕ) → take BEFORE_ROWS bytes ≡ take BEFORE_ROWS area → front_in latest (length area) bytes ≡ front_in latest (length area) area
 
 -- Each area is read by its front.
 abbrev pub AreReadByTheirFronts : Type 0
-AreReadByTheirFronts = (area : List ℕ) → 32 ≤ length area → IsReadByItsFront area
+AreReadByTheirFronts = (area : List ℕ) → BEFORE_ROWS ≤ length area → IsReadByItsFront area

@@ -2,10 +2,10 @@
 use Rattle.std.specs.Prelude.{◌≡◌, ℕ, Bool, true, false, List, length, Result, Ok, Err, Option, Some, None, if◌then◌else◌, ◌==◌}
 use Rattle.std.proofs.Common.{refl, sym, ap, ◌∙◌, eqb-true}
 use Rattle.store_layout.specs.StoreFormat.{RowsFormat}
-use Rattle.path_db.specs.declared.error.DbError.{DbError}
-use Rattle.path_rows.specs.Database.{RowView}
-use Rattle.path_db.specs.RowRecord.{rows_encoding, rows_decoding}
-use Rattle.path_db.proofs.RowsBack.{rows_spelled}
+use Rattle.path_records.specs.declared.error.DbError.{DbError}
+use Rattle.path_db.specs.Database.{RowView}
+use Rattle.path_records.specs.RowRecord.{rows_encoding, rows_decoding}
+use Rattle.path_records.proofs.RowsBack.{rows_spelled}
 
 -- The rows that were read, where their number is this count.
 abbrev pub as_counted : ℕ → Result (List RowView) DbError → Option (List RowView)

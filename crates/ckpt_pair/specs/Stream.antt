@@ -1,12 +1,13 @@
 -- Rows that a stream returns: the bytes that were pushed, the rows that were returned, and what is
 -- still to come.
 use Rattle.std.specs.Prelude.{◌≡◌, ℕ, ◌+◌, ◌-◌, ◌≤◌, List, ◌++◌, length, take, drop, Ok, Some, None}
+use Rattle.store_layout.specs.declared.format.TheConstants.{BEFORE_ROWS}
 use Rattle.store_layout.specs.CheckpointReading.{checkpoint_in}
-use Rattle.path_rows.specs.Database.{RowView}
-use Rattle.path_db.specs.declared.error.DbError.{DbError}
-use Rattle.path_db.specs.RowRecord.{rows_decoding}
-use Rattle.path_db.specs.RowWalk.{WalkView, HasGiven}
-use Rattle.path_db.specs.RowsReader.{AreRefused}
+use Rattle.path_db.specs.Database.{RowView}
+use Rattle.path_records.specs.declared.error.DbError.{DbError}
+use Rattle.path_records.specs.RowRecord.{rows_decoding}
+use Rattle.path_records.specs.RowWalk.{WalkView, HasGiven}
+use Rattle.path_records.specs.RowsReader.{AreRefused}
 use Rattle.ckpt_pair.specs.declared.row_stream.RowStream.TheInside.{Inside}
 use Rattle.ckpt_pair.specs.Versions.{latest}
 use Rattle.ckpt_pair.specs.Rows.{rows_format, as_counted}
@@ -61,5 +62,5 @@ StreamsBeginRows =
 -- the size and the count of its front.
 abbrev pub StreamsReadHalves : Type 0
 StreamsReadHalves =
-    (area bytes : List ℕ) (front : FrontView) → 32 ≤ length area → front_in latest (length area) area ≡ Ok front → bytes ≡ drop 32 area
+    (area bytes : List ℕ) (front : FrontView) → BEFORE_ROWS ≤ length area → front_in latest (length area) area ≡ Ok front → bytes ≡ drop BEFORE_ROWS area
     → checkpoint_in rows_format latest area ≡ with_head front.head (as_counted front.count (rows_decoding (take front.size bytes)))

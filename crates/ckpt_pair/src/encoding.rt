@@ -2,18 +2,17 @@
 
 ghost use Rattle.std.specs.Prelude.{◌≡◌, ◌<◌, ◌^◌, ◌++◌, List, length, IfOk, OnOk};
 ghost use Rattle.store_layout.specs.Checkpoint.{checkpoint_bytes, checkpoint_encoding, CanBeCheckpoint};
-ghost use Rattle.path_rows.specs.Database.{RowView, IsDatabase, rows_len};
-ghost use Rattle.path_db.specs.RowRecord.{rows_encoding};
+ghost use Rattle.path_db.specs.Database.{RowView, IsDatabase, rows_len};
+ghost use Rattle.path_records.specs.RowRecord.{rows_encoding};
 ghost use Rattle.ckpt_pair.specs.Rows.{rows_format};
 ghost use Rattle.ckpt_pair.specs.Checkpoint.{written_checkpoint};
 
-use crate::format::{
-    BEFORE_ROWS, CHECKPOINT_MAGIC, COUNT_AT, EPOCH_AT, PLACE_AT, SIZE_AT, VERSION_AT,
-};
+use crate::format::{CHECKPOINT_MAGIC, COUNT_AT, EPOCH_AT, PLACE_AT, SIZE_AT, VERSION_AT};
 use byte_lists::{SECTOR, pad, put, sector_count};
-use path_db::{PathDb, write_rows};
+use path_db::PathDb;
+use path_records::write_rows;
 use std::alloc::{AllocError, Global};
-use store_layout::LATEST;
+use store_layout::{BEFORE_ROWS, LATEST};
 
 /// A database as the checkpoint of an epoch and a place, in version `LATEST`, padded with zeros to
 /// whole sectors. Its records have to have less than 4 GiB; such a database can be a checkpoint.

@@ -2,7 +2,7 @@
 //! is chosen.
 //!
 //! To the layer above, each call returns what the definitions of `store_layout` give for the bytes,
-//! with the rows of `path_db`, and an error exactly where they give one.
+//! with the rows of `path_records`, and an error exactly where they give one.
 #![tactic(auto)]
 
 mod choice;
@@ -18,9 +18,9 @@ mod rows_laws;
 pub use choice::{choose, openings_go_on_there, tail_half};
 pub use encoding::{checkpoint_front, checkpoint_head, encode_checkpoint};
 pub use error::PairError;
-pub use format::{BEFORE_ROWS, CHECKPOINT_MAGIC, COUNT_AT, SIZE_AT, area_room};
+pub use format::{CHECKPOINT_MAGIC, COUNT_AT, SIZE_AT, area_room};
 pub use head::{Head, Heads, read_head};
-pub use path_db::RowsReader;
+pub use path_records::RowsReader;
 pub use pieces::{feed_rows, feed_rows_by, finish_rows};
 pub use reading::{Checkpoint, Front, read_front, read_half};
 pub use row_stream::RowStream;

@@ -2,8 +2,8 @@
 //! memory for them.
 
 ghost use Rattle.std.specs.Prelude.{◌≡◌, ◌≢◌, ◌<◌, ◌++◌, length, IfOk, IfErr, IsOk};
-ghost use Rattle.path_rows.specs.Database.{IsDatabase};
-ghost use Rattle.path_db.specs.RowRecord.{rows_decoding};
+ghost use Rattle.path_db.specs.Database.{IsDatabase};
+ghost use Rattle.path_records.specs.RowRecord.{rows_decoding};
 ghost use Rattle.ckpt_pair.specs.declared.error.PairError.TheVariants.{NoMemory, BadCheckpoint};
 ghost use Rattle.ckpt_pair.specs.Refusals.{GivesPair};
 ghost use Rattle.ckpt_pair.specs.Rows.{as_counted};
@@ -11,7 +11,8 @@ ghost use Rattle.ckpt_pair.specs.Reading.{or_bad, AreNoRows};
 
 use crate::error::PairError;
 use crate::reading::has_count;
-use path_db::{DbError, OneThread, PathDb, RowReading, RowsReader};
+use path_db::PathDb;
+use path_records::{DbError, OneThread, RowReading, RowsReader};
 
 /// Reads the next piece of the rows' bytes, cut anywhere, on the calling thread. A `BadCheckpoint`
 /// does not depend on the count of rows or on the bytes after this piece. An empty piece takes no

@@ -2,8 +2,9 @@
 
 ghost use Rattle.std.specs.Prelude.{◌≡◌, ◌≤◌, ◌+◌, ◌==◌, length, IfOk, IfErr};
 ghost use Rattle.byte_lists.specs.Content.{part};
-ghost use Rattle.path_rows.specs.Database.{IsDatabase};
-ghost use Rattle.path_db.specs.RowRecord.{rows_decoding, HasOutline};
+ghost use Rattle.path_db.specs.Database.{IsDatabase};
+ghost use Rattle.path_records.specs.RowRecord.{rows_decoding, HasOutline};
+ghost use Rattle.store_layout.specs.declared.format.TheConstants.{BEFORE_ROWS};
 ghost use Rattle.store_layout.specs.CheckpointReading.{checkpoint_in};
 ghost use Rattle.ckpt_pair.specs.declared.error.PairError.TheVariants.{NoMemory};
 ghost use Rattle.ckpt_pair.specs.Refusals.{ReadsPair, GivesPair};
@@ -12,11 +13,13 @@ ghost use Rattle.ckpt_pair.specs.Rows.{rows_format, as_counted};
 ghost use Rattle.ckpt_pair.specs.Reading.{front_view, front_in, checkpoint_view, or_bad, HasRowsToRead};
 
 use crate::error::PairError;
-use crate::format::{BEFORE_ROWS, COUNT_AT, SIZE_AT};
+use crate::format::{COUNT_AT, SIZE_AT};
 use crate::head::{Head, open_head};
 use byte_lists::read_u32;
-use path_db::{DbError, PathDb, read_rows};
+use path_db::PathDb;
+use path_records::{DbError, read_rows};
 use std::alloc::Global;
+use store_layout::BEFORE_ROWS;
 
 /// The front of a checkpoint: its head, the length of the rows' records in bytes, and the number of
 /// rows.
@@ -55,7 +58,7 @@ pub fn read_front(bytes: &[u8], area: u64) -> Result<Front, PairError>
 /// order of their keys, are `BadCheckpoint`. Bytes after the rows are not read. The call takes
 /// memory from the first row on whose segment has an outline.
 pub fn read_half(alloc: Global, area: &[u8]) -> Result<Checkpoint, PairError>
-    requires { 32 ≤ length area.now }
+    requires { BEFORE_ROWS ≤ length area.now }
     ensures checkpoint { GivesPair checkpoint_view result (checkpoint_in rows_format latest area.now) }
     ensures whole { IfOk result (λ checkpoint. IsDatabase checkpoint.db) }
     ensures memory { IfErr result (λ e. e ≡ NoMemory → HasRowsToRead area.now) }
@@ -70,8 +73,8 @@ pub fn read_half(alloc: Global, area: &[u8]) -> Result<Checkpoint, PairError>
 
 /// The bytes of the rows after a front.
 fn rows_bytes(area: &[u8], size: u32) -> &[u8]
-    requires { 32 + size ≤ length area.now }
-    ensures { result.now ≡ part 32 size area.now }
+    requires { BEFORE_ROWS + size ≤ length area.now }
+    ensures { result.now ≡ part BEFORE_ROWS size area.now }
 {
     &area[BEFORE_ROWS..BEFORE_ROWS + size as usize]
 }

@@ -6,11 +6,11 @@ use Rattle.byte_lists.specs.Sectors.{sectors_of}
 use Rattle.byte_lists.proofs.Contents.{bytes-part}
 use Rattle.byte_lists.proofs.Padding.{length-padded}
 use Rattle.sector_dev.specs.Disk.{Disk, IsHonest, reads_of}
-use Rattle.path_rows.specs.declared.command.Command.{Command}
-use Rattle.path_rows.specs.Database.{RowView, rows_len}
-use Rattle.path_rows.specs.Command.{database_after, database_after_all}
-use Rattle.path_db.specs.RowRecord.{rows_encoding, rows_decoding}
-use Rattle.path_db.proofs.RowsBack.{rows_counted, rows_spelled}
+use Rattle.path_db.specs.declared.command.Command.{Command}
+use Rattle.path_db.specs.Database.{RowView, rows_len}
+use Rattle.path_db.specs.Command.{database_after, database_after_all}
+use Rattle.path_records.specs.RowRecord.{rows_encoding, rows_decoding}
+use Rattle.path_records.proofs.RowsBack.{rows_counted, rows_spelled}
 use Rattle.store_layout.specs.declared.half.Half.{Half}
 use Rattle.store_layout.specs.declared.half.Half.TheVariants.{First, Second}
 use Rattle.store_layout.specs.Checkpoint.{Checkpoint, Head, CanBeCheckpoint, checkpoint_bytes, checkpoint_encoding, checkpoint_size}

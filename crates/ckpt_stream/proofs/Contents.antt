@@ -5,10 +5,10 @@ use Rattle.std.proofs.lemmas.List.{drop-drop}
 use Rattle.byte_lists.specs.Content.{AreBytes, part}
 use Rattle.byte_lists.specs.Sectors.{whole_sectors, sectors_of}
 use Rattle.byte_lists.proofs.Contents.{length-part, bytes-part}
-use Rattle.path_rows.specs.Database.{RowView}
-use Rattle.path_rows.specs.declared.command.Command.{Command}
-use Rattle.path_db.specs.RowRecord.{rows_encoding, rows_decoding}
-use Rattle.path_db.proofs.RowsBack.{rows_spelled}
+use Rattle.path_db.specs.Database.{RowView}
+use Rattle.path_db.specs.declared.command.Command.{Command}
+use Rattle.path_records.specs.RowRecord.{rows_encoding, rows_decoding}
+use Rattle.path_records.proofs.RowsBack.{rows_spelled}
 use Rattle.store_layout.specs.declared.half.Half.{Half}
 use Rattle.store_layout.specs.declared.half.Half.TheVariants.{First, Second}
 use Rattle.store_layout.specs.Checkpoint.{Head, Checkpoint}
@@ -25,7 +25,7 @@ use Rattle.ckpt_pair.specs.Reading.{with_head}
 use Rattle.ckpt_pair.specs.Rows.{rows_format, as_counted, counted_rows}
 use Rattle.ckpt_pair.specs.Stream.{StreamView, HasStreamed}
 use Rattle.ckpt_pair.specs.Versions.{latest}
-use Rattle.path_db.specs.RowWalk.{HasGiven}
+use Rattle.path_records.specs.RowWalk.{HasGiven}
 use Rattle.store_open.specs.Sealed.{folded_in, folded_behind, sealed_half}
 use Rattle.store_open.proofs.FirstSectors.{part_in_front}
 use Rattle.store_open.proofs.Journals.{journal_sectors, journal_size}

@@ -3,16 +3,16 @@ use Rattle.std.proofs.Common.{◌≡◌, ℕ, ◌+◌, ◌-◌, ◌*◌, ◌≤�
 use Rattle.std.specs.Prelude.{Result, OnOk, IfErr}
 use Rattle.std.proofs.lemmas.List.{drop-drop, take-take, length-take, length-drop, length-append}
 use Rattle.byte_lists.specs.Content.{part}
-use Rattle.path_rows.specs.Database.{RowView, rows_len}
-use Rattle.path_db.specs.RowRecord.{rows_decoding}
-use Rattle.path_db.proofs.RowsBack.{rows_read}
+use Rattle.path_db.specs.Database.{RowView, rows_len}
+use Rattle.path_records.specs.RowRecord.{rows_decoding}
+use Rattle.path_records.proofs.RowsBack.{rows_read}
 use Rattle.ckpt_pair.specs.Rows.{as_counted, counted_rows}
 use Rattle.ckpt_pair.specs.Stream.{StreamView, HasStreamed}
 use Rattle.store_open.proofs.FirstSectors.{part_in_front}
 use Rattle.store_open.proofs.Feeds.{split_part}
 use Rattle.store_open.specs.declared.error.OpenError.{OpenError}
 use Rattle.store_open.specs.declared.error.OpenError.TheVariants.{NotAStore, Device, Pair, Journal, NoMemory}
-use Rattle.path_rows.specs.declared.command.Command.{Command}
+use Rattle.path_db.specs.declared.command.Command.{Command}
 use Rattle.store_layout.specs.declared.half.Half.{Half}
 use Rattle.store_layout.specs.GroupReading.{JournalRefusal}
 use Rattle.store_layout.specs.Journal.{Reading}

@@ -1,10 +1,10 @@
 -- A pour of which nothing is taken, and the checkpoint that it makes.
 use Rattle.std.proofs.Common.{◌≡◌, ℕ, ◌-◌, ◌^◌, ◌<◌, List, ◌∷◌, ◌++◌, length, min, Ok, Err, IfOk, sym, ap, subst, ◌∙◌, arith}
 use Rattle.std.specs.Prelude.{Result, OnOk, IfErr}
-use Rattle.path_rows.specs.declared.command.Command.{Command}
-use Rattle.path_rows.specs.Database.{RowView, rows_len}
-use Rattle.path_rows.specs.Command.{database_after_all}
-use Rattle.path_db.specs.RowRecord.{rows_encoding}
+use Rattle.path_db.specs.declared.command.Command.{Command}
+use Rattle.path_db.specs.Database.{RowView, rows_len}
+use Rattle.path_db.specs.Command.{database_after_all}
+use Rattle.path_records.specs.RowRecord.{rows_encoding}
 use Rattle.store_layout.specs.Checkpoint.{checkpoint_bytes}
 use Rattle.ckpt_pair.specs.Checkpoint.{written_checkpoint}
 use Rattle.ckpt_pair.specs.Rows.{rows_format}

@@ -2,10 +2,11 @@
 use Rattle.std.specs.Prelude.{◌≡◌, ℕ, ◌+◌, ◌*◌, ◌≤◌, List, length, Some, Result, Ok, Err}
 use Rattle.byte_lists.specs.declared.format.TheConstants.{SECTOR}
 use Rattle.sector_dev.specs.Disk.{Disk, IsHonest, reads_of}
-use Rattle.path_rows.specs.declared.command.Command.{Command}
-use Rattle.path_rows.specs.Database.{RowView, rows_len}
-use Rattle.path_rows.specs.Command.{database_after_all}
-use Rattle.path_db.specs.RowRecord.{rows_encoding}
+use Rattle.path_db.specs.declared.command.Command.{Command}
+use Rattle.path_db.specs.Database.{RowView, rows_len}
+use Rattle.path_db.specs.Command.{database_after_all}
+use Rattle.path_records.specs.RowRecord.{rows_encoding}
+use Rattle.store_layout.specs.declared.format.TheConstants.{BEFORE_ROWS}
 use Rattle.store_layout.specs.declared.half.Half.{Half}
 use Rattle.store_layout.specs.Layout.{Geometry, area_of}
 use Rattle.store_layout.specs.Checkpoint.{Checkpoint, CanBeCheckpoint, checkpoint_bytes, checkpoint_size}
@@ -30,7 +31,7 @@ pub record PoursCheckpoint (epoch place : ℕ) (rows : List RowView) (commands :
   -- It makes the checkpoint's bytes from the records of these rows.
   pub makes : untaken pour (rows_encoding rows) ≡ checkpoint_bytes rows_format (written_checkpoint epoch place (database_after_all rows commands))
   -- It makes as many bytes.
-  pub len : untaken_len pour ≡ 32 + rows_len (database_after_all rows commands)
+  pub len : untaken_len pour ≡ BEFORE_ROWS + rows_len (database_after_all rows commands)
   -- Its edits read exactly the records of these rows.
   pub end : edits_end pour ≡ rows_len rows
 
@@ -54,7 +55,7 @@ pub record IsMergeOf (geometry : Geometry) (half : Half) (epoch : ℕ) (disk : D
   pub can : CanBeCheckpoint rows_format (checkpoint_from epoch sealed)
   pub fits : checkpoint_size rows_format (checkpoint_from epoch sealed) ≤ SECTOR * geometry.checkpoint
   -- The rows of the old area end within it.
-  pub inside : 32 + merge.size ≤ SECTOR * geometry.checkpoint
+  pub inside : BEFORE_ROWS + merge.size ≤ SECTOR * geometry.checkpoint
   -- All bytes of the checkpoint are still to be taken, and the first ones are made.
   pub len : untaken_len merge.pour ≡ length (bytes_made merge)
   pub ready : IsReady merge.pour

@@ -3,7 +3,8 @@ use Rattle.std.specs.Prelude.{◌≡◌, ℕ, suc, ◌+◌, ◌-◌, ◌*◌, �
 use Rattle.byte_lists.specs.Content.{part}
 use Rattle.byte_lists.specs.Sectors.{sectors_of}
 use Rattle.byte_lists.specs.declared.format.TheConstants.{SECTOR}
-use Rattle.path_db.specs.RowRecord.{rows_decoding}
+use Rattle.path_records.specs.RowRecord.{rows_decoding}
+use Rattle.store_layout.specs.declared.format.TheConstants.{BEFORE_ROWS}
 use Rattle.store_layout.specs.declared.half.Half.{Half}
 use Rattle.store_layout.specs.Limits.{limits_of}
 use Rattle.store_layout.specs.JournalReading.{journal_scan}
@@ -35,7 +36,7 @@ IsHalfRead (Planned planned) = ArePlanned planned
 
 -- The rows of a front end within an area.
 abbrev pub FitsWithin : Geometry → Front → Type 0
-FitsWithin geometry front = 32 + front.size ≤ SECTOR * geometry.checkpoint
+FitsWithin geometry front = BEFORE_ROWS + front.size ≤ SECTOR * geometry.checkpoint
 
 -- What is read is within these sizes.
 abbrev pub IsWithin : Geometry → HalfRead → Type 0
@@ -48,7 +49,7 @@ IsWithin geometry (Planned planned) = FitsWithin geometry planned.front
 abbrev pub pieces_to_come : HalfRead → ℕ
 pieces_to_come Unread = all_pieces
 pieces_to_come (Journal journal) = 2 ^ 32 + pieces_left journal.scanner
-pieces_to_come (Rows rows) = suc (sectors_of (32 + rows.front.size) - rows.first)
+pieces_to_come (Rows rows) = suc (sectors_of (BEFORE_ROWS + rows.front.size) - rows.first)
 pieces_to_come (Planned planned) = 0
 
 -- A half's journal has this reading, which a seal ends.
@@ -73,8 +74,8 @@ pub record AreRowsReadOn (geometry : Geometry) (half : Half) (reads : List ℕ) 
 pub record ArePlannedOn (geometry : Geometry) (half : Half) (reads : List ℕ) (planned : PlannedRows) : Type 0 where
   pub front : IsReadByFront planned.front geometry half reads
   pub journal : HasScan geometry half reads planned.front planned.journal
-  pub rows : as_counted planned.front.count (rows_decoding (part (SECTOR * area_at geometry half + 32) planned.front.size reads)) ≡ Some planned.note.rows
-  pub summed : AreSummed planned.sums.items (part (SECTOR * area_at geometry half + 32) planned.front.size reads)
+  pub rows : as_counted planned.front.count (rows_decoding (part (SECTOR * area_at geometry half + BEFORE_ROWS) planned.front.size reads)) ≡ Some planned.note.rows
+  pub summed : AreSummed planned.sums.items (part (SECTOR * area_at geometry half + BEFORE_ROWS) planned.front.size reads)
 
 -- What is read so far is of a half, as reads give it.
 abbrev pub IsReadOn : Geometry → Half → List ℕ → HalfRead → Type 0

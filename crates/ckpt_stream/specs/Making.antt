@@ -3,13 +3,14 @@ use Rattle.std.specs.Prelude.{◌≡◌, ℕ, suc, ◌+◌, ◌<◌, ◌≤◌, 
 use Rattle.row_edits.specs.declared.edit.Edit.TheVariants.{Keep}
 use Rattle.row_edits.specs.Edits.{bytes_in}
 use Rattle.row_edits.specs.Pouring.{PourView, left_to_keep}
-use Rattle.row_edits.specs.declared.pour.TheConstants.{PIECE}
+use Rattle.path_records.specs.declared.format.TheConstants.{PIECE}
+use Rattle.store_layout.specs.declared.format.TheConstants.{BEFORE_ROWS}
 
 -- Why making stops: a piece is made, or nothing is left to be made, or a byte is wanted that is not
 -- between these two offsets in the area.
 abbrev pub WhyPoured : ℕ → ℕ → PourView → Type 0
 WhyPoured from to pour =
-    (PIECE ≤ length pour.out) ⊎ ((pour.edits ≡ Keep 0 ∷ []) ⊎ ((0 < left_to_keep pour) × ((pour.position + 32 < from) ⊎ (to ≤ pour.position + 32))))
+    (PIECE ≤ length pour.out) ⊎ ((pour.edits ≡ Keep 0 ∷ []) ⊎ ((0 < left_to_keep pour) × ((pour.position + BEFORE_ROWS < from) ⊎ (to ≤ pour.position + BEFORE_ROWS))))
 
 -- The number of bytes of the old rows that may still be read for this piece, and one more while any
 -- are wanted.

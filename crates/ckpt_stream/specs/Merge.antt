@@ -7,13 +7,14 @@ use Rattle.sector_dev.specs.Disk.{Disk, IsHonest, reads_of}
 use Rattle.sector_dev.specs.Calls.{Keeps, one_more}
 use Rattle.ckpt_stream.specs.declared.error.PieceError.{PieceError}
 use Rattle.ckpt_stream.specs.declared.error.PieceError.TheVariants.{Fault, Damaged}
-use Rattle.path_rows.specs.Database.{RowView}
+use Rattle.path_db.specs.Database.{RowView}
+use Rattle.store_layout.specs.declared.format.TheConstants.{BEFORE_ROWS}
 use Rattle.store_layout.specs.Checkpoint.{checkpoint_bytes, checkpoint_encoding}
 use Rattle.ckpt_pair.specs.Checkpoint.{written_checkpoint}
 use Rattle.ckpt_pair.specs.Rows.{rows_format}
 use Rattle.row_edits.specs.declared.edit.Edit.TheVariants.{Keep}
 use Rattle.row_edits.specs.Pouring.{PourView, untaken, untaken_len, edits_end}
-use Rattle.row_edits.specs.declared.pour.TheConstants.{PIECE}
+use Rattle.path_records.specs.declared.format.TheConstants.{PIECE}
 use Rattle.ckpt_stream.specs.declared.merge.Merge.TheInside.{Inside}
 
 -- A merge as contracts see it.
@@ -57,7 +58,7 @@ pub record IsMerge (s : Inside) : Type 0 where
   -- The edits read exactly the rows of the old area.
   pub end : edits_end s.pour ≡ s.size
   -- Each sector up to the end of those rows has a sum.
-  pub summed : length s.sums.items ≡ sectors_of (32 + s.size)
+  pub summed : length s.sums.items ≡ sectors_of (BEFORE_ROWS + s.size)
 
 -- The bytes that are written next: at most 256 sectors of what is made, with zeros up to a whole
 -- sector.
@@ -94,6 +95,6 @@ pub record LooksForPiece (result : Result (Unit {0}) PieceError) (old new : Disk
 -- More is made from the rows of an area, which have `size` bytes.
 pub record MakesOn (disk : Disk) (area size : ℕ) (old new : PourView) : Type 0 where
   -- On an honest device, the bytes that are not taken are the same as before.
-  pub same : IsHonest disk → untaken new (part (SECTOR * area + 32) size (reads_of disk)) ≡ untaken old (part (SECTOR * area + 32) size (reads_of disk))
+  pub same : IsHonest disk → untaken new (part (SECTOR * area + BEFORE_ROWS) size (reads_of disk)) ≡ untaken old (part (SECTOR * area + BEFORE_ROWS) size (reads_of disk))
   -- They are as many as before.
   pub len : untaken_len new ≡ untaken_len old

@@ -2,7 +2,8 @@
 use Rattle.std.specs.Prelude.{◌≡◌, ℕ, ◌+◌, ◌*◌, List, Result, Ok, Err}
 use Rattle.byte_lists.specs.Content.{part}
 use Rattle.byte_lists.specs.declared.format.TheConstants.{SECTOR}
-use Rattle.path_db.specs.RowRecord.{rows_decoding}
+use Rattle.path_records.specs.RowRecord.{rows_decoding}
+use Rattle.store_layout.specs.declared.format.TheConstants.{BEFORE_ROWS}
 use Rattle.store_layout.specs.declared.half.Half.{Half}
 use Rattle.store_layout.specs.Layout.{Geometry, area_at, area_of}
 use Rattle.store_layout.specs.CheckpointReading.{PairRefusal, checkpoint_in}
@@ -23,7 +24,7 @@ pub record IsNoCheckpoint (geometry : Geometry) (half : Half) (reads : List ℕ)
 abbrev pub IsReadByFront : Front → Geometry → Half → List ℕ → Type 0
 IsReadByFront front geometry half reads =
     checkpoint_in rows_format latest (area_of geometry half reads)
-    ≡ with_head (head_view front.head) (as_counted front.count (rows_decoding (part (SECTOR * area_at geometry half + 32) front.size reads)))
+    ≡ with_head (head_view front.head) (as_counted front.count (rows_decoding (part (SECTOR * area_at geometry half + BEFORE_ROWS) front.size reads)))
 
 -- The result of reading the front of a half's checkpoint. An error is the front's refusal, or a
 -- failure of the device.

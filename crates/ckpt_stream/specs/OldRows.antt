@@ -3,13 +3,14 @@ use Rattle.std.specs.Prelude.{◌≡◌, ℕ, ◌+◌, ◌-◌, ◌*◌, ◌≤�
 use Rattle.byte_lists.specs.Content.{part}
 use Rattle.byte_lists.specs.Sectors.{sectors_of}
 use Rattle.byte_lists.specs.declared.format.TheConstants.{SECTOR}
-use Rattle.path_rows.specs.Database.{RowView, IsDatabase, rows_len}
-use Rattle.path_db.specs.RowRecord.{rows_decoding}
+use Rattle.path_db.specs.Database.{RowView, IsDatabase, rows_len}
+use Rattle.path_records.specs.RowRecord.{rows_decoding}
 use Rattle.ckpt_pair.specs.Rows.{as_counted}
 use Rattle.ckpt_pair.specs.Stream.{StreamView, HasStreamed}
 use Rattle.store_open.specs.declared.error.OpenError.{OpenError}
 use Rattle.store_open.specs.declared.error.OpenError.TheVariants.{NotAStore, Device, Pair, Journal, NoMemory}
 use Rattle.row_edits.specs.Planner.{HasSeen, IsPlanOf}
+use Rattle.store_layout.specs.declared.format.TheConstants.{BEFORE_ROWS}
 use Rattle.ckpt_stream.specs.Sums.{sums_in}
 use Rattle.ckpt_stream.specs.declared.old_rows.RowsRead.{RowsRead}
 use Rattle.ckpt_stream.specs.declared.old_rows.PlannedRows.{PlannedRows}
@@ -21,25 +22,25 @@ pub record AreRowsRead (rows : RowsRead) : Type 0 where
   -- The bytes of these sectors after the front were pushed to the stream, which has returned the
   -- rows.
   pub pushed : List ℕ
-  pub long : length pushed ≡ SECTOR * rows.first - 32
+  pub long : length pushed ≡ SECTOR * rows.first - BEFORE_ROWS
   pub streamed : HasStreamed rows.front.size rows.front.count pushed rows.note.rows rows.stream
   -- Each of these sectors has a sum.
   pub summed : length rows.sums.items ≡ rows.first
   -- No sector after the rows is read.
-  pub inside : rows.first ≤ sectors_of (32 + rows.front.size)
+  pub inside : rows.first ≤ sectors_of (BEFORE_ROWS + rows.front.size)
 
 -- The bytes of the first sectors of an area were pushed to the stream.
 abbrev pub AreStreamed : ℕ → List ℕ → RowsRead → Type 0
 AreStreamed area reads rows =
-    HasStreamed rows.front.size rows.front.count (part (SECTOR * area + 32) (SECTOR * rows.first - 32) reads) rows.note.rows rows.stream
+    HasStreamed rows.front.size rows.front.count (part (SECTOR * area + BEFORE_ROWS) (SECTOR * rows.first - BEFORE_ROWS) reads) rows.note.rows rows.stream
 
 -- The sums are those of the first sectors of an area.
 abbrev pub AreSummedOn : ℕ → List ℕ → RowsRead → Type 0
-AreSummedOn area reads rows = rows.sums.items ≡ sums_in rows.first 0 (part (SECTOR * area + 32) rows.front.size reads)
+AreSummedOn area reads rows = rows.sums.items ≡ sums_in rows.first 0 (part (SECTOR * area + BEFORE_ROWS) rows.front.size reads)
 
 -- The rows of an area, by their front.
 abbrev pub rows_in : ℕ → List ℕ → RowsRead → Option (List RowView)
-rows_in area reads rows = as_counted rows.front.count (rows_decoding (part (SECTOR * area + 32) rows.front.size reads))
+rows_in area reads rows = as_counted rows.front.count (rows_decoding (part (SECTOR * area + BEFORE_ROWS) rows.front.size reads))
 
 -- The bytes that were pushed are no rows, whatever bytes come next.
 abbrev pub AreNoRowsAfter : List RowView → StreamView → Type 0
@@ -73,4 +74,4 @@ pub record ArePlanned (planned : PlannedRows) : Type 0 where
   pub plan : IsPlanOf planned.note.rows planned.journal.commands.items planned.plan
   pub database : IsDatabase planned.note.rows
   pub size : rows_len planned.note.rows ≡ planned.front.size
-  pub summed : length planned.sums.items ≡ sectors_of (32 + planned.front.size)
+  pub summed : length planned.sums.items ≡ sectors_of (BEFORE_ROWS + planned.front.size)

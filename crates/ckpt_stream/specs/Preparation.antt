@@ -2,9 +2,10 @@
 use Rattle.std.specs.Prelude.{◌≡◌, ℕ, ◌+◌, ◌-◌, ◌*◌, ◌⊎◌, Bool, true, false, List, length, take, Ok}
 use Rattle.byte_lists.specs.Sectors.{whole_sectors}
 use Rattle.byte_lists.specs.declared.format.TheConstants.{SECTOR}
-use Rattle.path_rows.specs.Database.{RowView}
-use Rattle.path_rows.specs.declared.command.Command.{Command}
-use Rattle.path_db.specs.RowRecord.{rows_encoding}
+use Rattle.path_db.specs.Database.{RowView}
+use Rattle.path_db.specs.declared.command.Command.{Command}
+use Rattle.path_records.specs.RowRecord.{rows_encoding}
+use Rattle.store_layout.specs.declared.format.TheConstants.{BEFORE_ROWS}
 use Rattle.store_layout.specs.declared.half.Half.{Half}
 use Rattle.store_layout.specs.Limits.{limits_of}
 use Rattle.store_layout.specs.Journal.{IsGroupChain, JournalEndsAs, Reading, all_of}
@@ -110,8 +111,8 @@ pub record AreRowsFrom (contents : SealedContents) (rows : RowsRead) : Type 0 wh
   pub journal : reading_of rows.journal ≡ sealed_reading contents
   -- The bytes that were pushed to the stream begin with the bytes of the rows in these sectors.
   pub pushed : List ℕ
-  pub long : length pushed ≡ SECTOR * rows.first - 32
-  pub same : take rows.front.size pushed ≡ take (SECTOR * rows.first - 32) (rows_encoding contents.checkpoint.db)
+  pub long : length pushed ≡ SECTOR * rows.first - BEFORE_ROWS
+  pub same : take rows.front.size pushed ≡ take (SECTOR * rows.first - BEFORE_ROWS) (rows_encoding contents.checkpoint.db)
   pub streamed : HasStreamed rows.front.size rows.front.count pushed rows.note.rows rows.stream
   -- The sums are those of these sectors.
   pub summed : rows.sums.items ≡ sums_in rows.first 0 (rows_encoding contents.checkpoint.db)

@@ -2,6 +2,7 @@
 -- with the first.
 use Rattle.std.specs.Prelude.{◌≡◌, ℕ, zero, suc, ◌+◌, ◌-◌, ◌*◌, ◌^◌, ◌%◌, List, [], ◌∷◌, length, take, drop, min}
 use Rattle.byte_lists.specs.declared.format.TheConstants.{SECTOR}
+use Rattle.store_layout.specs.declared.format.TheConstants.{BEFORE_ROWS}
 
 -- A sum with one more byte. The factor is odd, so that two contents that differ in one byte have
 -- different sums.
@@ -20,7 +21,7 @@ sum_of bytes = sum_more 0 bytes
 -- The offset of the first byte of a sector among the bytes of the rows, which begin after the 32
 -- bytes of the front.
 abbrev pub row_offset : ℕ → ℕ
-row_offset sector = SECTOR * sector - 32
+row_offset sector = SECTOR * sector - BEFORE_ROWS
 
 -- The number of bytes of the rows in a sector, where the rows go on after it.
 abbrev pub row_bytes_in : ℕ → ℕ
@@ -33,7 +34,7 @@ sums_in (suc n) sector bytes = sum_of (take (row_bytes_in sector) bytes) ∷ sum
 
 -- The bytes of the rows, which have `size` bytes, in a window that has sectors from a sector on.
 abbrev pub rows_in_window : ℕ → ℕ → ℕ → List ℕ → List ℕ
-rows_in_window size first count window = take (min (row_offset (first + count)) size - row_offset first) (drop (32 - SECTOR * first) window)
+rows_in_window size first count window = take (min (row_offset (first + count)) size - row_offset first) (drop (BEFORE_ROWS - SECTOR * first) window)
 
 -- The sums of rows' bytes are these.
 abbrev pub AreSummed : List ℕ → List ℕ → Type 0

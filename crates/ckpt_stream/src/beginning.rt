@@ -2,8 +2,9 @@
 
 ghost use Rattle.std.specs.Prelude.{◌≡◌, ◌+◌, ◌*◌, ◌<◌, ◌≤◌, ◌^◌, List, IfOk, OnOk};
 ghost use Rattle.byte_lists.specs.declared.format.TheConstants.{SECTOR};
-ghost use Rattle.path_rows.specs.Database.{RowView, IsDatabase, rows_len};
-ghost use Rattle.path_rows.specs.declared.command.Command.{Command};
+ghost use Rattle.path_db.specs.Database.{RowView, IsDatabase, rows_len};
+ghost use Rattle.path_db.specs.declared.command.Command.{Command};
+ghost use Rattle.store_layout.specs.declared.format.TheConstants.{BEFORE_ROWS};
 ghost use Rattle.store_layout.specs.Checkpoint.{CanBeCheckpoint};
 ghost use Rattle.store_layout.specs.Layout.{Geometry as GeometryView, IsGeometry, image_sectors};
 ghost use Rattle.store_layout.specs.Geometry.{geometry_view};
@@ -25,12 +26,12 @@ use crate::merge::{Merge, WINDOW};
 use crate::old_rows::PlannedRows;
 use crate::preparation::Preparation;
 use byte_lists::sector_count;
-use ckpt_pair::{BEFORE_ROWS, area_room, checkpoint_front};
+use ckpt_pair::{area_room, checkpoint_front};
 use row_edits::{Plan, Pour};
 use sector_dev::Device;
 use std::alloc::{AllocError, Global};
 use std::mem::replace;
-use store_layout::{Geometry, Half};
+use store_layout::{BEFORE_ROWS, Geometry, Half};
 use store_open::SealedError;
 
 /// Reads a half whose journal is sealed, and plans its checkpoint of this epoch: the half's rows
@@ -95,7 +96,7 @@ fn read_rest<D: Device>(
     requires reads { IsHonest (D.disk device.old) → IsReadOn (geometry_view geometry) half (reads_of (D.disk device.old)) read }
     ensures looks { LooksAtHalf result (D.disk device.old) (D.disk device.new) }
     ensures planned { IfOk result ArePlanned }
-    ensures fits { IfOk result (λ planned. 32 + planned.front.size ≤ SECTOR * geometry.checkpoint) }
+    ensures fits { IfOk result (λ planned. BEFORE_ROWS + planned.front.size ≤ SECTOR * geometry.checkpoint) }
     ensures reads { IsHonest (D.disk device.old) → ReadsAll (geometry_view geometry) half (reads_of (D.disk device.old)) result }
 {
     let mut read = read;
@@ -119,7 +120,7 @@ fn merge_of<D: Device>(
     requires allowed { IsGeometry (geometry_view geometry) }
     requires room { image_sectors (geometry_view geometry) ≤ (D.disk device.old).sectors }
     requires planned { ArePlanned planned }
-    requires fits { 32 + planned.front.size ≤ SECTOR * geometry.checkpoint }
+    requires fits { BEFORE_ROWS + planned.front.size ≤ SECTOR * geometry.checkpoint }
     requires reads { IsHonest (D.disk device.old) → ArePlannedOn (geometry_view geometry) half (reads_of (D.disk device.old)) planned }
     ensures looks { LooksAtHalf result (D.disk device.old) (D.disk device.new) }
     ensures merges { MergesSealed (geometry_view geometry) half epoch result (D.disk device.old) }

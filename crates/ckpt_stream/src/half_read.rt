@@ -3,6 +3,7 @@
 ghost use Rattle.std.specs.Prelude.{◌≡◌, ◌≤◌, ◌+◌, ◌-◌, ◌*◌, ◌↔◌, IfOk, IsTrue};
 ghost use Rattle.byte_lists.specs.declared.format.TheConstants.{SECTOR};
 ghost use Rattle.sector_dev.specs.Disk.{IsHonest, reads_of};
+ghost use Rattle.store_layout.specs.declared.format.TheConstants.{BEFORE_ROWS};
 ghost use Rattle.store_layout.specs.Layout.{IsGeometry, image_sectors};
 ghost use Rattle.store_layout.specs.Geometry.{geometry_view};
 ghost use Rattle.store_open.specs.Sealed.{LooksAtHalf};
@@ -12,10 +13,9 @@ use crate::old_area::open_half;
 use crate::old_journal::{JournalRead, scan_on};
 use crate::old_rows::{PlannedRows, RowsRead, rows_on};
 use byte_lists::SECTOR;
-use ckpt_pair::BEFORE_ROWS;
 use sector_dev::Device;
 use std::alloc::Global;
-use store_layout::{Geometry, Half};
+use store_layout::{BEFORE_ROWS, Geometry, Half};
 use store_open::SealedError;
 
 /// How far a sealed half is read.
@@ -75,7 +75,7 @@ impl HalfRead {
 
 /// Whether rows of this number of bytes are within an area.
 fn fits(size: u32, geometry: Geometry) -> bool
-    ensures { IsTrue result ↔ 32 + size ≤ SECTOR * geometry.checkpoint }
+    ensures { IsTrue result ↔ BEFORE_ROWS + size ≤ SECTOR * geometry.checkpoint }
 {
     BEFORE_ROWS as u64 + u64::from(size) <= SECTOR as u64 * u64::from(geometry.checkpoint)
 }

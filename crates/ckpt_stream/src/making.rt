@@ -5,7 +5,8 @@ ghost use Rattle.byte_lists.specs.Content.{part};
 ghost use Rattle.byte_lists.specs.Sectors.{padded};
 ghost use Rattle.byte_lists.specs.declared.format.TheConstants.{SECTOR};
 ghost use Rattle.row_edits.specs.Pouring.{untaken, untaken_len, edits_end};
-ghost use Rattle.row_edits.specs.declared.pour.TheConstants.{PIECE};
+ghost use Rattle.path_records.specs.declared.format.TheConstants.{PIECE};
+ghost use Rattle.store_layout.specs.declared.format.TheConstants.{BEFORE_ROWS};
 ghost use Rattle.ckpt_stream.specs.Merge.{IsReady, LooksForPiece, MakesOn};
 ghost use Rattle.ckpt_stream.specs.Sums.{row_offset, rows_in_window, sums_in, AreSummed};
 ghost use Rattle.ckpt_stream.specs.declared.error.PieceError.TheVariants.{Damaged as IsDamaged};
@@ -18,9 +19,10 @@ use crate::merge::PIECE_SECTORS;
 use crate::sectors::read_sectors;
 use crate::sums::have_sums;
 use byte_lists::SECTOR;
-use ckpt_pair::BEFORE_ROWS;
-use row_edits::{PIECE, Pour};
+use path_records::PIECE;
+use row_edits::Pour;
 use sector_dev::Device;
+use store_layout::BEFORE_ROWS;
 
 /// Makes the next piece of a checkpoint from the rows of an area, which have `size` bytes: it reads
 /// at most 256 sectors of the area at a time, until a whole piece is made or nothing is left to be
@@ -35,16 +37,16 @@ pub(crate) fn make_piece<D: Device>(
     window: &mut [u8],
 ) -> Result<(), PieceError>
     requires window { length window.old ≡ PIECE }
-    requires room { SECTOR * area + 32 + size ≤ SECTOR * (D.disk device.old).sectors }
+    requires room { SECTOR * area + BEFORE_ROWS + size ≤ SECTOR * (D.disk device.old).sectors }
     requires end { edits_end pour.old ≡ size }
-    requires sums { length sums.now ≡ sectors_of (32 + size) }
+    requires sums { length sums.now ≡ sectors_of (BEFORE_ROWS + size) }
     ensures looks { LooksForPiece result (D.disk device.old) (D.disk device.new) }
     ensures window { length window.new ≡ PIECE }
     ensures end { edits_end pour.new ≡ size }
     ensures made { MakesOn (D.disk device.old) area size pour.old pour.new }
     ensures ready { OnOk result (IsReady pour.new) }
     ensures damaged { IfErr result (λ e. e ≡ IsDamaged → IsHonest (D.disk device.old)
-        → ¬ AreSummed sums.now (part (SECTOR * area + 32) size (reads_of (D.disk device.old)))) }
+        → ¬ AreSummed sums.now (part (SECTOR * area + BEFORE_ROWS) size (reads_of (D.disk device.old)))) }
 {
     pour.pour(0, &window[..0]);
     'pieces: loop {
@@ -62,12 +64,12 @@ pub(crate) fn make_piece<D: Device>(
 /// the piece, at most 256, and none past the rows.
 fn count_wanted(at: u64, size: u32, first: u64, made: usize) -> u64
     requires wanted { at < size }
-    requires first { SECTOR * first ≤ at + 32 }
-    requires last { at + 32 < SECTOR * first + SECTOR }
+    requires first { SECTOR * first ≤ at + BEFORE_ROWS }
+    requires last { at + BEFORE_ROWS < SECTOR * first + SECTOR }
     requires made { made < PIECE }
     ensures some { 1 ≤ result }
     ensures most { result ≤ 256 }
-    ensures inside { SECTOR * (first + result) < 32 + size + SECTOR }
+    ensures inside { SECTOR * (first + result) < BEFORE_ROWS + size + SECTOR }
 {
     let sector = SECTOR as u64;
     let before = at + BEFORE_ROWS as u64 - sector * first;
@@ -88,19 +90,19 @@ fn pour_sectors(
 ) -> Result<(), PieceError>
     requires some { 1 ≤ count }
     requires window { SECTOR * count ≤ length window.now }
-    requires inside { SECTOR * first ≤ 32 + size }
-    requires sums { length sums.now ≡ sectors_of (32 + size) }
+    requires inside { SECTOR * first ≤ BEFORE_ROWS + size }
+    requires sums { length sums.now ≡ sectors_of (BEFORE_ROWS + size) }
     requires summed { first + count ≤ length sums.now }
     ensures compared { OnOk result (part first count sums.now ≡ sums_in count first (rows_in_window size first count window.now)) }
     ensures damaged { OnErr result ((area : ℕ) (reads : List ℕ) → take (SECTOR * count) window.now ≡ part (SECTOR * (area + first)) (SECTOR * count) reads
-        → length (part (SECTOR * area + 32) size reads) ≡ size → ¬ AreSummed sums.now (part (SECTOR * area + 32) size reads)) }
+        → length (part (SECTOR * area + BEFORE_ROWS) size reads) ≡ size → ¬ AreSummed sums.now (part (SECTOR * area + BEFORE_ROWS) size reads)) }
     ensures refused { IfErr result (λ e. e ≡ IsDamaged) }
     ensures same { (area : ℕ) (reads : List ℕ) → take (SECTOR * count) window.now ≡ part (SECTOR * (area + first)) (SECTOR * count) reads
-        → untaken pour.new (part (SECTOR * area + 32) size reads) ≡ untaken pour.old (part (SECTOR * area + 32) size reads) }
+        → untaken pour.new (part (SECTOR * area + BEFORE_ROWS) size reads) ≡ untaken pour.old (part (SECTOR * area + BEFORE_ROWS) size reads) }
     ensures len { untaken_len pour.new ≡ untaken_len pour.old }
     ensures end { edits_end pour.new ≡ edits_end pour.old }
     ensures forward { pour.old.position ≤ pour.new.position }
-    ensures stops { OnOk result (WhyPoured (SECTOR * first) (min (SECTOR * (first + count)) (32 + size)) pour.new) }
+    ensures stops { OnOk result (WhyPoured (SECTOR * first) (min (SECTOR * (first + count)) (BEFORE_ROWS + size)) pour.new) }
 {
     let rows = row_part(window, size, first, count);
     if !have_sums(sums, first, count, rows) {
@@ -115,11 +117,11 @@ fn pour_sectors(
 pub(crate) fn row_part(window: &[u8], size: u32, first: u64, count: u64) -> &[u8]
     requires some { 1 ≤ count }
     requires window { SECTOR * count ≤ length window.now }
-    requires inside { SECTOR * first ≤ 32 + size }
+    requires inside { SECTOR * first ≤ BEFORE_ROWS + size }
     ensures is { result.now ≡ rows_in_window size first count window.now }
     ensures len { length result.now ≡ min (row_offset (first + count)) size - row_offset first }
     ensures shown { (area : ℕ) (reads : List ℕ) → take (SECTOR * count) window.now ≡ part (SECTOR * (area + first)) (SECTOR * count) reads
-        → take (length result.now) (drop (row_offset first) (part (SECTOR * area + 32) size reads)) ≡ result.now }
+        → take (length result.now) (drop (row_offset first) (part (SECTOR * area + BEFORE_ROWS) size reads)) ≡ result.now }
 {
     let head = BEFORE_ROWS as u64;
     let offset = SECTOR as u64 * first;

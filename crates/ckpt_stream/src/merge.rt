@@ -1,9 +1,10 @@
 //! A checkpoint that is made while it is written.
 
 ghost use Rattle.std.specs.Prelude.{◌≡◌, ◌+◌, ◌*◌, ◌≤◌, length, IfErr, OnOk};
-ghost use Rattle.row_edits.specs.declared.pour.TheConstants.{PIECE};
+ghost use Rattle.path_records.specs.declared.format.TheConstants.{PIECE};
 ghost use Rattle.byte_lists.specs.declared.format.TheConstants.{SECTOR};
 ghost use Rattle.sector_dev.specs.Calls.{WriteCall};
+ghost use Rattle.store_layout.specs.declared.format.TheConstants.{BEFORE_ROWS};
 ghost use Rattle.ckpt_stream.specs.Merge.{encoding_made, next_piece, after_piece, as_write, IsReady, MakesOn};
 ghost use Rattle.ckpt_stream.specs.Sums.{AreSummed};
 ghost use Rattle.ckpt_stream.specs.declared.error.PieceError.TheVariants.{Damaged as IsDamaged};
@@ -13,7 +14,8 @@ ghost use Rattle.byte_lists.specs.Content.{part};
 use crate::error::PieceError;
 use crate::making::{make_piece, put_piece};
 use byte_lists::SECTOR;
-use row_edits::{PIECE, Pour, RowsNote};
+use path_records::PIECE;
+use row_edits::{Pour, RowsNote};
 use sector_dev::Device;
 use std::marker::Model;
 
@@ -78,14 +80,14 @@ impl Merge {
         area: u64,
         at: u64,
     ) -> Result<(), PieceError>
-        requires old { SECTOR * area + 32 + self.old.size ≤ SECTOR * (D.disk device.old).sectors }
+        requires old { SECTOR * area + BEFORE_ROWS + self.old.size ≤ SECTOR * (D.disk device.old).sectors }
         requires new { SECTOR * at + length (next_piece self.old.pour) ≤ SECTOR * (D.disk device.old).sectors }
         ensures call { WriteCall at (next_piece self.old.pour) (as_write result) (D.disk device.old) (D.disk device.new) }
         ensures kept { self.new ≡ record self.old { pour = self.new.pour } }
         ensures ready { OnOk result (IsReady self.new.pour) }
         ensures made { OnOk result (MakesOn (D.disk device.new) area self.old.size (after_piece self.old.pour) self.new.pour) }
         ensures damaged { IfErr result (λ e. e ≡ IsDamaged → IsHonest (D.disk device.new)
-            → ¬ AreSummed self.old.sums (part (SECTOR * area + 32) self.old.size (reads_of (D.disk device.new)))) }
+            → ¬ AreSummed self.old.sums (part (SECTOR * area + BEFORE_ROWS) self.old.size (reads_of (D.disk device.new)))) }
     {
         let count = put_piece(&mut self.window, self.pour.made());
         device.write(at, &self.window[..count])?;

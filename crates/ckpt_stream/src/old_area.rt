@@ -3,6 +3,7 @@
 ghost use Rattle.std.specs.Prelude.{◌≡◌, ◌+◌, ◌-◌, ◌*◌, ◌≤◌, IfOk};
 ghost use Rattle.byte_lists.specs.declared.format.TheConstants.{SECTOR};
 ghost use Rattle.sector_dev.specs.Disk.{IsHonest, reads_of};
+ghost use Rattle.store_layout.specs.declared.format.TheConstants.{BEFORE_ROWS};
 ghost use Rattle.store_layout.specs.Layout.{IsGeometry, image_sectors};
 ghost use Rattle.store_layout.specs.Geometry.{geometry_view};
 ghost use Rattle.store_open.specs.Refusals.{LooksFor};
@@ -56,7 +57,7 @@ fn read_old_front<D: Device>(
     requires allowed { IsGeometry (geometry_view geometry) }
     requires room { image_sectors (geometry_view geometry) ≤ (D.disk device.old).sectors }
     ensures looks { LooksFor result (D.disk device.old) (D.disk device.new) }
-    ensures fits { IfOk result (λ front. 32 + front.size ≤ SECTOR * geometry.checkpoint) }
+    ensures fits { IfOk result (λ front. BEFORE_ROWS + front.size ≤ SECTOR * geometry.checkpoint) }
     ensures front { IsHonest (D.disk device.old) → FrontSo result (geometry_view geometry) half (reads_of (D.disk device.old)) }
 {
     checkpoints_are_read_by_their_fronts();

@@ -4,14 +4,15 @@ ghost use Rattle.std.specs.Prelude.{◌≡◌, ◌+◌, ◌-◌, ◌*◌, ◌<�
 ghost use Rattle.byte_lists.specs.Sectors.{sectors_of};
 ghost use Rattle.byte_lists.specs.declared.format.TheConstants.{SECTOR};
 ghost use Rattle.sector_dev.specs.Disk.{IsHonest, reads_of};
-ghost use Rattle.path_rows.specs.declared.command.Command.{Command};
-ghost use Rattle.path_db.specs.RowRecord.{rows_decoding};
+ghost use Rattle.path_db.specs.declared.command.Command.{Command};
+ghost use Rattle.path_records.specs.RowRecord.{rows_decoding};
+ghost use Rattle.store_layout.specs.declared.format.TheConstants.{BEFORE_ROWS};
 ghost use Rattle.store_layout.specs.Layout.{IsGeometry, image_sectors};
 ghost use Rattle.store_layout.specs.Geometry.{geometry_view};
 ghost use Rattle.ckpt_pair.specs.Rows.{as_counted};
 ghost use Rattle.ckpt_pair.specs.Stream.{HasStreamed};
 ghost use Rattle.row_edits.specs.Planner.{HasSeen};
-ghost use Rattle.row_edits.specs.declared.pour.TheConstants.{PIECE};
+ghost use Rattle.path_records.specs.declared.format.TheConstants.{PIECE};
 ghost use Rattle.store_open.specs.Refusals.{LooksFor};
 ghost use Rattle.store_open.specs.Sealed.{LooksAtHalf};
 ghost use Rattle.ckpt_stream.specs.declared.half_read.HalfRead.TheVariants.{Rows};
@@ -24,13 +25,13 @@ use crate::merge::{PIECE_SECTORS, WINDOW};
 use crate::sectors::read_sectors;
 use crate::sums::push_sums;
 use byte_lists::SECTOR;
-use ckpt_pair::{BEFORE_ROWS, Front, RowStream};
+use ckpt_pair::{Front, RowStream};
 use gate_journal::Scan;
-use path_db::written_rows_are_counted;
+use path_records::written_rows_are_counted;
 use row_edits::{Plan, Planner, RowsNote};
 use sector_dev::Device;
 use std::alloc::{AllocError, Global};
-use store_layout::{Geometry, Half};
+use store_layout::{BEFORE_ROWS, Geometry, Half};
 use store_open::{OpenError, SealedError};
 
 /// The rows of a sealed half, read and planned up to a sector of its area.
@@ -118,7 +119,7 @@ pub(crate) fn rows_on<D: Device>(
 
 /// The number of sectors from the start of an area to the end of its rows, which have `size` bytes.
 fn sectors_before_end(size: u32) -> u64
-    ensures { result ≡ sectors_of (32 + size) }
+    ensures { result ≡ sectors_of (BEFORE_ROWS + size) }
 {
     (BEFORE_ROWS as u64 + u64::from(size) + (SECTOR as u64 - 1)) / SECTOR as u64
 }
@@ -130,9 +131,9 @@ fn read_rows<D: Device>(
     area: u64,
     rows: &mut RowsRead,
 ) -> Result<(), OpenError>
-    requires room { SECTOR * area + 32 + rows.old.front.size ≤ SECTOR * (D.disk device.old).sectors }
+    requires room { SECTOR * area + BEFORE_ROWS + rows.old.front.size ≤ SECTOR * (D.disk device.old).sectors }
     requires read { AreRowsRead rows.old }
-    requires more { rows.old.first < sectors_of (32 + rows.old.front.size) }
+    requires more { rows.old.first < sectors_of (BEFORE_ROWS + rows.old.front.size) }
     ensures looks { LooksFor result (D.disk device.old) (D.disk device.new) }
     ensures front { rows.new.front ≡ rows.old.front }
     ensures journal { rows.new.journal ≡ rows.old.journal }
@@ -181,7 +182,7 @@ fn see_rows(
 /// Finishes the plan, once all sectors of the rows are read.
 fn finish_rows(alloc: Global, rows: RowsRead) -> Result<PlannedRows, OpenError>
     requires read { AreRowsRead rows }
-    requires all { rows.first ≡ sectors_of (32 + rows.front.size) }
+    requires all { rows.first ≡ sectors_of (BEFORE_ROWS + rows.front.size) }
     ensures front { IfOk result (λ planned. planned.front ≡ rows.front) }
     ensures journal { IfOk result (λ planned. planned.journal ≡ rows.journal) }
     ensures sums { IfOk result (λ planned. planned.sums.items ≡ rows.sums.items) }

@@ -6,8 +6,8 @@ ghost use Rattle.byte_lists.specs.Content.{part};
 ghost use Rattle.ckpt_stream.specs.Sums.{sum_of as sum_in_specs, sums_in, row_bytes_in};
 
 use byte_lists::SECTOR;
-use ckpt_pair::BEFORE_ROWS;
 use std::alloc::AllocError;
+use store_layout::BEFORE_ROWS;
 
 /// The factor of a sum.
 const FACTOR: u64 = 6_364_136_223_846_793_005;

@@ -9,10 +9,11 @@ use Rattle.seg_slots.specs.Steps.{◌>>=◌}
 use Rattle.seg_core.specs.Steps.{result_map}
 use Rattle.seg_core.specs.declared.seg_type.SegType.{SegType}
 use Rattle.seg_core.specs.Registration.{registration_outline, registration_decoding, map_decoding, entry_rows, type_of}
-use Rattle.path_rows.specs.declared.command.Command.{Command}
-use Rattle.path_rows.specs.declared.command.Command.TheVariants as command
-use Rattle.path_rows.specs.Command.{database_after}
-use Rattle.path_rows.specs.Database.{RowView, rows_len}
+use Rattle.seg_check.specs.Checking.{first_refusal}
+use Rattle.path_db.specs.declared.command.Command.{Command}
+use Rattle.path_db.specs.declared.command.Command.TheVariants as command
+use Rattle.path_db.specs.Command.{database_after}
+use Rattle.path_db.specs.Database.{RowView, rows_len}
 use Rattle.session_core.specs.declared.message.Message.TheVariants.{Register, Purge, Remove}
 use Rattle.session_core.specs.declared.service.Ack.{Ack}
 use Rattle.session_core.specs.Frames.{MessageView}
@@ -22,7 +23,6 @@ use Rattle.group_core.specs.declared.submit_error.SubmitError.TheVariants as sub
 use Rattle.reply_codes.specs.declared.refusal.Refusal.{Refusal}
 use Rattle.reply_codes.specs.declared.refusal.Refusal.TheVariants.{NoMemory, Message, Check, Lookup, Submit, NoReader, Stopped, NotAwaited, Future}
 use Rattle.reply_codes.specs.Codes.{submit_code}
-use Rattle.reply_codes.specs.Checking.{first_refusal}
 use Rattle.reply_codes.specs.Replies.{reply_to_command}
 use Rattle.cli_once.specs.Memory.{Served, Step, refused_step, fits_store, command_step, ack_of, after_command, checked_step, registration_step, removal_step, message_step, MayRunOut, Answers}
 use Rattle.cli_once.specs.Taking.{ServesCommand, MayAcknowledge}

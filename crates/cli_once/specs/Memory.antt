@@ -6,12 +6,13 @@ use Rattle.seg_core.specs.Request.{request_decoding}
 use Rattle.seg_core.specs.Registration.{registration_outline, registration_decoding, type_of}
 use Rattle.seg_check.specs.declared.error.CheckError.{CheckError}
 use Rattle.seg_check.specs.Signatures.{Verdicts}
+use Rattle.seg_check.specs.Checking.{first_refusal}
 use Rattle.group_core.specs.declared.submit_error.SubmitError.TheVariants.{Full, Exhausted}
-use Rattle.path_rows.specs.declared.command.Command.{Command}
-use Rattle.path_rows.specs.declared.command.Command.TheVariants as command
-use Rattle.path_rows.specs.Database.{RowView, rows_len}
-use Rattle.path_rows.specs.Command.{database_after, outcome_of}
-use Rattle.path_rows.specs.Answer.{segments_of}
+use Rattle.path_db.specs.declared.command.Command.{Command}
+use Rattle.path_db.specs.declared.command.Command.TheVariants as command
+use Rattle.path_db.specs.Database.{RowView, rows_len}
+use Rattle.path_db.specs.Command.{database_after, outcome_of}
+use Rattle.path_db.specs.Answer.{segments_of}
 use Rattle.seg_lookup.specs.declared.error.LookupError.{LookupError}
 use Rattle.seg_lookup.specs.Roster.{RosterView}
 use Rattle.seg_lookup.specs.Query.{QueryView}
@@ -22,7 +23,7 @@ use Rattle.session_core.specs.declared.service.Ack.{Ack}
 use Rattle.session_core.specs.Frames.{MessageView}
 use Rattle.session_core.specs.Reply.{ReplyView, Registered, Found, Purged, Removed, Refused}
 use Rattle.reply_codes.specs.Codes.{memory_code, seg_code, check_code, lookup_code, submit_code}
-use Rattle.reply_codes.specs.Checking.{first_refusal}
+use Rattle.store_layout.specs.declared.format.TheConstants.{BEFORE_ROWS}
 
 -- A service over a store in memory.
 pub record Served : Type 0 where
@@ -61,7 +62,7 @@ ack_of served c = record { place = served.place; outcome = outcome_of served.row
 
 -- Whether rows have room in a checkpoint area of 4,096 sectors.
 abbrev pub fits_store : List RowView → Bool
-fits_store rows = nat_le (32 + rows_len rows) (512 * 4096)
+fits_store rows = nat_le (BEFORE_ROWS + rows_len rows) (512 * 4096)
 
 -- The step of a command, which takes the next place. The last number of 64 bits is not a place, and
 -- the rows after the command have to fit.

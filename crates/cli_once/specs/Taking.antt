@@ -1,7 +1,7 @@
 -- What taking a command returns.
 use Rattle.std.specs.Prelude.{◌≡◌, ◌≢◌, ◌⊎◌, ◌-◌, ◌^◌, Result, Ok, Err}
-use Rattle.path_rows.specs.declared.command.Command.{Command}
-use Rattle.path_rows.specs.Command.{database_after}
+use Rattle.path_db.specs.declared.command.Command.{Command}
+use Rattle.path_db.specs.Command.{database_after}
 use Rattle.session_core.specs.declared.service.Ack.{Ack}
 use Rattle.group_core.specs.declared.submit_error.SubmitError.TheVariants as submit
 use Rattle.once_store.specs.declared.error.TakeError.{TakeError}

@@ -3,7 +3,7 @@
 ghost use Rattle.std.specs.Prelude.{◌≡◌, ◌≤◌, length, IfOk};
 ghost use Rattle.std.specs.List.{AllByRecursion};
 ghost use Rattle.seg_core.specs.Encoding.{IsSegment};
-ghost use Rattle.path_db.specs.CommandRecord.{IsWithinLimits};
+ghost use Rattle.path_records.specs.CommandRecord.{IsWithinLimits};
 ghost use Rattle.session_core.specs.declared.message.Message.TheVariants.{Register, Lookup, Purge, Remove};
 ghost use Rattle.session_core.specs.declared.service.TheConstants.{MOST_SEGMENTS};
 ghost use Rattle.session_core.specs.Reply.{Registered, Purged, Removed};
@@ -14,9 +14,9 @@ ghost use Rattle.cli_once.specs.Taking.{take_refusal, MayAcknowledge};
 
 use group_core::SubmitError;
 use once_store::{OnceStore, TakeError, Taken};
-use path_rows::{Command, Registration};
-use reply_codes::{Refusal, check_all};
-use seg_check::Verifier;
+use path_db::{Command, Registration};
+use reply_codes::Refusal;
+use seg_check::{Verifier, check_all};
 use seg_core::{SegType, Segment, read_registration, read_registrations_are_whole, read_request};
 use seg_lookup::{Roster, classify};
 use session_core::{Ack, Code, Message, Service};

@@ -8,7 +8,7 @@ use crate::rule::{
     Appends, Checks, Chosen, CommitMoment, Commits, Confirms, Copies, Gathers, Issues, LogPass,
     LogTable, Takes,
 };
-use path_rows::Command;
+use path_db::Command;
 use std::marker::Brand;
 use std::snapshot::Snapshot;
 

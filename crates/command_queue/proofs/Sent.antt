@@ -6,7 +6,7 @@ use denote.Struct.Declared.{shape}
 use Rattle.std.proofs.Crossing.{crosses, Deque-send}
 use Rattle.logbook.proofs.tokens.Seen.TheSendSync as seen
 use Rattle.logbook.proofs.word.Word.TheSendSync as word
-use Rattle.path_rows.specs.contracts.command.Command as Command
+use Rattle.path_db.specs.contracts.command.Command as Command
 use Rattle.command_queue.specs.declared.history.QueueName.{Ghosts}
 use Rattle.command_queue.specs.contracts.claim.Claim as Claim
 use Rattle.command_queue.specs.contracts.history.History as History

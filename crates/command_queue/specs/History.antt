@@ -2,7 +2,7 @@
 use Rattle.std.specs.Prelude.{ℕ, ◌≡◌, ◌==◌, true, List, [], ◌∷◌, ◌++◌, length}
 use Rattle.std.specs.Bool.{OnTrue}
 use Rattle.logbook.specs.Pages.{Cell, Step, View, Book, Named}
-use Rattle.path_rows.specs.declared.command.Command.{Command}
+use Rattle.path_db.specs.declared.command.Command.{Command}
 
 -- The first word is the length of the history. A book has two words, of which the second stays 0.
 abbrev pub IsKept : List Cell → List Command → Type 0

@@ -61,7 +61,7 @@ impl Plain<Command, Command, u64> for Add {
 pub trait QueueName {
     ghost use Rattle.std.specs.Prelude.{Bool};
     ghost use Rattle.logbook.specs.Pages.{Book};
-    ghost use Rattle.path_rows.specs.declared.command.Command.{Command};
+    ghost use Rattle.path_db.specs.declared.command.Command.{Command};
 
     /// The book that the history is in.
     ghost history: { Book };

@@ -15,7 +15,7 @@ pub(crate) struct Leave<J: QueueName> {
 
 impl<J: QueueName> Model for Leave<J> {
     ghost use Rattle.std.specs.Prelude.{◌≡◌, true};
-    ghost use Rattle.path_rows.specs.declared.command.Command.{Command};
+    ghost use Rattle.path_db.specs.declared.command.Command.{Command};
 
     ghost Value = { Unit {0} };
 
@@ -25,7 +25,7 @@ impl<J: QueueName> Model for Leave<J> {
 }
 
 impl<J: QueueName> Leave<J> {
-    ghost use Rattle.path_rows.specs.declared.command.Command.{Command};
+    ghost use Rattle.path_db.specs.declared.command.Command.{Command};
 
     /// The leave of the queue whose name is picked so.
     pub(crate) fn new() -> Leave<J>

@@ -1,6 +1,7 @@
 //! The queue: commands that were handed in and not taken yet.
 
-ghost use Rattle.std.specs.Prelude.{◌≡◌, ◌==◌, ◌+◌, ◌-◌, ◌^◌, ◌<◌, ◌≤◌, ◌++◌, ◌∷◌, [], length, map, true, false, Some, None, unwrap_or, IfOk, IfErr, IfSome, OnOk, OnErr, MatchOption, IfNone};
+ghost use Rattle.std.specs.Prelude.{◌≡◌, ◌==◌, ◌+◌, ◌-◌, ◌^◌, ◌<◌, ◌≤◌, ◌++◌, ◌∷◌, [], length, map, min, true, false, Some, None, unwrap_or, IfOk, IfErr, IfSome, OnOk, OnErr, MatchOption, IfNone};
+ghost use Rattle.std.specs.VecDeque.{deque_len, deque_capacity};
 ghost use Rattle.command_queue.specs.Numbers.{last_numbers};
 ghost use Rattle.command_queue.specs.Refusals.{queue_refusal};
 ghost use Rattle.command_queue.specs.declared.not_queued.NotQueued.TheVariants.{NoMemory};
@@ -41,7 +42,7 @@ pub struct CommandQueue<J: QueueName, T> {
 }
 
 impl<J: QueueName, T: Drop> CommandQueue<J, T> {
-    ghost use Rattle.path_rows.specs.declared.command.Command.{Command};
+    ghost use Rattle.path_db.specs.declared.command.Command.{Command};
 
     /// A queue in which no command waits.
     pub fn new(alloc: Global, history: NewHistory) -> CommandQueue<J, T>
@@ -116,6 +117,26 @@ impl<J: QueueName, T: Drop> CommandQueue<J, T> {
         ensures same { (self.new.numbers.next ≡ self.old.numbers.next) × (self.new.is_closed ≡ self.old.is_closed) }
     {
         self.waiting.pop_front()
+    }
+
+    /// Moves commands to the end of a batch that has room for them, the longest waiting one first:
+    /// this number of them, or all where fewer wait.
+    pub fn take_into(&mut self, batch: &mut VecDeque<HandedIn<J, T>>, most: usize)
+        requires room { deque_len batch.old + most ≤ deque_capacity batch.old }
+        ensures order { batch.new.items ++ self.new.waiting.items ≡ batch.old.items ++ self.old.waiting.items }
+        ensures count { deque_len batch.new ≡ deque_len batch.old + min most (length self.old.waiting.items) }
+
+        // The numbers of the commands that are taken follow each other.
+        ensures numbers { map (λ w. w.claim.number) self.old.waiting.items ≡ last_numbers self.old.numbers.next (length self.old.waiting.items) }
+        ensures capacity { deque_capacity batch.new ≡ deque_capacity batch.old }
+        ensures same { (self.new.numbers.next ≡ self.old.numbers.next) × (self.new.is_closed ≡ self.old.is_closed) }
+    {
+        for _ in 0..most {
+            let Some(handed) = self.take() else {
+                break;
+            };
+            batch.push_back_reserved(handed);
+        }
     }
 
     /// Closes the queue: no command is handed in from then on. What waits may still be taken.

@@ -4,10 +4,10 @@ use Rattle.byte_lists.specs.Content.{part}
 use Rattle.std.proofs.lemmas.Bool.{lt-leb}
 use Rattle.std.proofs.lemmas.List.{append-nil}
 use Rattle.std.specs.Result.{result_ok}
-use Rattle.path_rows.specs.declared.command.Command.{Command}
-use Rattle.path_db.specs.declared.error.DbError.{DbError}
-use Rattle.path_db.specs.declared.error.DbError.TheVariants.{NoMemory as RecordWantsMemory, BadRecord as RecordIsBad, Order}
-use Rattle.path_db.specs.CommandRecord.{command_decoding}
+use Rattle.path_db.specs.declared.command.Command.{Command}
+use Rattle.path_records.specs.declared.error.DbError.{DbError}
+use Rattle.path_records.specs.declared.error.DbError.TheVariants.{NoMemory as RecordWantsMemory, BadRecord as RecordIsBad, Order}
+use Rattle.path_records.specs.CommandRecord.{command_decoding}
 use Rattle.store_layout.specs.Limits.{Limits, limits_of}
 use Rattle.store_layout.specs.GroupReading.{JournalRefusal, record_size, first_command, with_first, commands_in}
 use Rattle.store_layout.specs.GroupReading.{BadRecord as IsBadRecord}
@@ -29,11 +29,12 @@ module _ (version : ℕ) (bytes : List ℕ) (size : ℕ) (sized : size ≡ recor
   told RecordIsBad reading so = ap (λ (r : Result Command DbError). found_in_records (result_ok r)) (so (λ is. cc))
   told Order reading so = ap (λ (r : Result Command DbError). found_in_records (result_ok r)) (so (λ is. cc))
 
-  pub first_refused : (taken : List ℕ) (e : DbError) → taken ≡ part 4 size bytes → (e ≢ RecordWantsMemory → command_decoding (limits_of version).removals taken ≡ Err e)
+  pub first_refused : (removals : Bool) (taken : List ℕ) (e : DbError) → removals ≡ (limits_of version).removals → taken ≡ part 4 size bytes → (e ≢ RecordWantsMemory → command_decoding removals taken ≡ Err e)
       → Refuses (error_of_record e) (found_in_records (first_command command_format (limits_of version) bytes))
-  first_refused taken e same so =
-      subst (λ (first : Option Command). Refuses (error_of_record e) (found_in_records first)) (sym (first_is ∙ ap (λ (t : List ℕ). result_ok (command_decoding (limits_of version).removals t)) (sym same)))
-      (told e (command_decoding (limits_of version).removals taken) so)
+  first_refused removals taken e allowed same so =
+      subst (λ (first : Option Command). Refuses (error_of_record e) (found_in_records first))
+      (sym (first_is ∙ ap (λ (b : Bool). result_ok (command_decoding b (part 4 size bytes))) (sym allowed) ∙ ap (λ (t : List ℕ). result_ok (command_decoding removals t)) (sym same)))
+      (told e (command_decoding removals taken) so)
 
   pub first_read : (taken : List ℕ) (command : Command) → taken ≡ part 4 size bytes → command_decoding (limits_of version).removals taken ≡ Ok command
       → found_in_records (first_command command_format (limits_of version) bytes) ≡ Ok command

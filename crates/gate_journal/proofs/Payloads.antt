@@ -4,7 +4,7 @@ use Rattle.std.proofs.lemmas.List.{drop-take, get_or-take}
 use Rattle.std.specs.Int.{w32, w64, from_be_bytes}
 use Rattle.byte_lists.specs.Content.{part}
 use Rattle.byte_lists.specs.Sectors.{whole_sectors, sector_at}
-use Rattle.path_rows.specs.declared.command.Command.{Command}
+use Rattle.path_db.specs.declared.command.Command.{Command}
 use Rattle.store_layout.specs.Limits.{Limits}
 use Rattle.store_layout.specs.Group.{payload_sectors, most_record_bytes, last_place, JournalHasRoom}
 use Rattle.store_layout.specs.GroupReading.{JournalRefusal, BadHeader, BadRecord, Gap, PastEnd, refuse_unless, count_in, size_in, place_in, is_header, IsGroupHeader, is_group_header, is_seal_header, record_size, first_command, with_first, none_left, commands_in, are_zeros, Payload, OfGroup, OfSeal, OfNone, header_kind, group_of, group_in, by_kind, payload_at}

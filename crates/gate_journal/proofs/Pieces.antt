@@ -2,7 +2,7 @@
 use Rattle.std.proofs.Common.{◌≡◌, ◌≢◌, ℕ, ◌+◌, ◌*◌, ◌≤◌, true, List, [], ◌∷◌, ◌++◌, length, drop, Ok, Err, Result, refl, sym, ◌∙◌, ap, subst, arith, length-append}
 use Rattle.byte_lists.specs.Content.{AreBytes, part}
 use Rattle.byte_lists.specs.Sectors.{whole_sectors, sector_at, IsOpenGate}
-use Rattle.path_rows.specs.declared.command.Command.{Command}
+use Rattle.path_db.specs.declared.command.Command.{Command}
 use Rattle.store_layout.specs.Limits.{Limits, limits_of}
 use Rattle.store_layout.specs.Group.{payload_sectors, group_sectors}
 use Rattle.store_layout.specs.GroupReading.{JournalRefusal, Payload, payload_at}

@@ -1,8 +1,8 @@
 -- Which commands a journal allows.
-use Rattle.path_rows.specs.declared.command.Command.{Command}
-use Rattle.path_rows.specs.Command.{HasWholeSegments}
-use Rattle.path_db.specs.CommandRecord.{IsWithinLimits}
-use Rattle.path_db.specs.RecordLaws.{HasWidths, IsAllowedBy}
+use Rattle.path_db.specs.declared.command.Command.{Command}
+use Rattle.path_db.specs.Command.{HasWholeSegments}
+use Rattle.path_records.specs.CommandRecord.{IsWithinLimits}
+use Rattle.path_records.specs.RecordLaws.{HasWidths, IsAllowedBy}
 use Rattle.store_layout.specs.Limits.{Limits}
 use Rattle.store_layout.specs.CommandFormat.{IsAllowed}
 use Rattle.gate_journal.specs.Commands.{command_format}

@@ -2,9 +2,9 @@
 use Rattle.std.specs.Prelude.{◌≡◌, Result, Ok, Err, Some}
 use Rattle.std.specs.Result.{result_ok}
 use Rattle.std.proofs.Common.{ap}
-use Rattle.path_rows.specs.declared.command.Command.{Command}
-use Rattle.path_db.specs.CommandRecord.{command_encoding, command_decoding}
-use Rattle.path_db.proofs.Exports.{command_spelled, command_read_on}
+use Rattle.path_db.specs.declared.command.Command.{Command}
+use Rattle.path_records.specs.CommandRecord.{command_encoding, command_decoding}
+use Rattle.path_records.proofs.Exports.{command_spelled, command_read_on}
 use Rattle.store_layout.specs.CommandFormat.{CommandFormat}
 
 -- A reading that returns a command did not refuse it.

@@ -1,8 +1,8 @@
 -- What may be written as one group.
 use Rattle.std.specs.Prelude.{ℕ, ◌+◌, ◌≤◌, List, length}
 use Rattle.std.specs.List.{All}
-use Rattle.path_rows.specs.declared.command.Command.{Command}
-use Rattle.path_db.specs.CommandRecord.{IsWithinLimits}
+use Rattle.path_db.specs.declared.command.Command.{Command}
+use Rattle.path_records.specs.CommandRecord.{IsWithinLimits}
 use Rattle.store_layout.specs.Group.{most_record_bytes, last_place, records_of}
 use Rattle.gate_journal.specs.Commands.{command_format}
 

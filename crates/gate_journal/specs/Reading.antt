@@ -2,8 +2,8 @@
 use Rattle.std.specs.Prelude.{◌≡◌, ◌⊎◌, ℕ, ◌+◌, ◌-◌, ◌*◌, ◌≤◌, true, List, ◌++◌, length, Option, Some, None, IsSome, Result, Ok, Err, nat_le, ◌==◌, if◌then◌else◌}
 use Rattle.byte_lists.specs.Content.{part}
 use Rattle.byte_lists.specs.declared.format.TheConstants.{SECTOR}
-use Rattle.path_rows.specs.declared.command.Command.{Command}
-use Rattle.path_db.specs.CommandRecord.{CommandWantsMemory}
+use Rattle.path_db.specs.declared.command.Command.{Command}
+use Rattle.path_records.specs.CommandRecord.{CommandWantsMemory}
 use Rattle.store_layout.specs.Limits.{Limits}
 use Rattle.store_layout.specs.Group.{payload_sectors}
 use Rattle.store_layout.specs.GroupReading.{JournalRefusal, refuse_unless, count_in, size_in, place_in, is_group_header, is_seal_header, are_zeros, record_size, first_command, commands_in}

@@ -1,6 +1,6 @@
 -- The error of a journal for a record that is refused.
-use Rattle.path_db.specs.declared.error.DbError.{DbError}
-use Rattle.path_db.specs.declared.error.DbError.TheVariants.{NoMemory as RecordWantsMemory, BadRecord as RecordIsBad, Order}
+use Rattle.path_records.specs.declared.error.DbError.{DbError}
+use Rattle.path_records.specs.declared.error.DbError.TheVariants.{NoMemory as RecordWantsMemory, BadRecord as RecordIsBad, Order}
 use Rattle.gate_journal.specs.declared.error.JournalError.{JournalError}
 use Rattle.gate_journal.specs.declared.error.JournalError.TheVariants.{NoMemory, BadRecord}
 

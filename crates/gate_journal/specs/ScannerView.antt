@@ -1,6 +1,6 @@
 -- Scanners as contracts see them.
 use Rattle.std.specs.Prelude.{ℕ, ◌+◌, ◌≤◌, List}
-use Rattle.path_rows.specs.declared.command.Command.{Command}
+use Rattle.path_db.specs.declared.command.Command.{Command}
 use Rattle.store_layout.specs.Group.{last_place, payload_sectors, JournalHasRoom}
 use Rattle.gate_journal.specs.declared.scanner.Stage.{Stage}
 use Rattle.gate_journal.specs.declared.scanner.Stage.TheVariants.{AtGate, AtHeader, AtPayload}

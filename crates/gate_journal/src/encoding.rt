@@ -2,15 +2,16 @@
 
 ghost use Rattle.std.specs.Prelude.{◌≡◌, ◌↔◌, ◌≤◌, ◌++◌, [], length, IfOk, IsTrue, OnOk};
 ghost use Rattle.std.specs.List.{All};
-ghost use Rattle.path_db.specs.CommandRecord.{IsWithinLimits};
+ghost use Rattle.path_records.specs.CommandRecord.{IsWithinLimits};
 ghost use Rattle.store_layout.specs.Group.{record_encoding, records_of, with_header, group_encoding, seal_encoding};
 ghost use Rattle.gate_journal.specs.Commands.{command_format};
 ghost use Rattle.gate_journal.specs.Payload.{IsWithinGroupLimits};
 
-use crate::format::{GROUP, HEADER, MOST_RECORD_BYTES, PLACE_AT, PREFIX, SEAL};
-use crate::sizes::{is_within_limits, record_len};
+use crate::format::{GROUP, HEADER, MOST_RECORD_BYTES, PLACE_AT, SEAL};
+use crate::sizes::record_len;
 use byte_lists::{SECTOR, pad};
-use path_db::{Command, write_command};
+use path_db::Command;
+use path_records::{command_len, is_within_limits, write_command};
 use std::alloc::{AllocError, Global};
 use store_layout::MOST_COMMANDS;
 
@@ -92,7 +93,7 @@ fn put_record(command: &Command, out: &mut Vec<u8>) -> Result<(), AllocError>
     requires { IsWithinLimits command.now }
     ensures { OnOk result (out.new.items ≡ out.old.items ++ record_encoding command_format command.now) }
 {
-    let size = (record_len(command) - PREFIX) as u32;
+    let size = command_len(command) as u32;
     out.extend_from_slice(&size.to_be_bytes())?;
     write_command(command, out)
 }

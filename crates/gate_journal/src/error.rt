@@ -3,7 +3,7 @@
 ghost use Rattle.std.specs.Prelude.{◌≡◌};
 ghost use Rattle.gate_journal.specs.declared.error.JournalError.TheVariants.{NoMemory};
 
-use path_db::DbError;
+use path_records::DbError;
 use std::alloc::{AllocError, AllocFailed};
 use thiserror::Error;
 

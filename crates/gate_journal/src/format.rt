@@ -15,9 +15,5 @@ pub const SIZE_AT: usize = 4;
 pub const PLACE_AT: usize = 8;
 /// The bytes of the length before each command's own record.
 pub(crate) const PREFIX: usize = 4;
-/// The bytes before the rows of a registration's own record, and before the id of a removal's.
-pub(crate) const COMMAND_HEAD: usize = 2;
-/// The bytes of a purge's own record.
-pub(crate) const PURGE_RECORD: usize = 9;
 /// The most bytes that the records of a group have together.
 pub const MOST_RECORD_BYTES: usize = 262_144;

@@ -2,7 +2,7 @@
 //!
 //! To the layers above: what is written is the one payload of a group or a seal, and what is read
 //! of a journal is exactly what the scan of `store_layout` gives for the bytes, with the commands
-//! of `path_db`.
+//! of `path_records`.
 #![tactic(auto)]
 
 mod command_laws;
@@ -20,5 +20,5 @@ pub use encoding::{can_be_group, encode_group, encode_seal};
 pub use error::JournalError;
 pub use format::{COUNT_AT, GROUP, HEADER, MOST_RECORD_BYTES, PLACE_AT, SEAL, SIZE_AT};
 pub use scanner::{Piece, Progress, Scan, Scanner, Stage};
-pub use sizes::{fits, is_within_limits, payload_sectors, record_len};
+pub use sizes::{fits, payload_sectors, record_len};
 pub use whole::scan;

@@ -1,8 +1,8 @@
 -- A state made of a store.
 use Rattle.std.proofs.Common.{◌≡◌, ◌≢◌, ◌↔◌, ◌⊎◌, inl, inr, ℕ, zero, suc, ◌+◌, ◌*◌, ◌≤◌, Bool, true, false, not, List, [], take, Option, Some, None, refl, sym, ◌∙◌, ap, subst, arith}
-use Rattle.path_rows.specs.Database.{RowView}
-use Rattle.path_rows.specs.declared.command.Command.{Command}
-use Rattle.path_db.specs.RecordLaws.{WrittenRowsAreCounted}
+use Rattle.path_db.specs.Database.{RowView}
+use Rattle.path_db.specs.declared.command.Command.{Command}
+use Rattle.path_records.specs.RecordLaws.{WrittenRowsAreCounted}
 use Rattle.sector_dev.specs.Disk.{Disk, IsHonest, IsWhole, reads_of}
 use Rattle.sector_dev.specs.Image.{EveryImage}
 use Rattle.sector_dev.proofs.Images.{image_of_reads}

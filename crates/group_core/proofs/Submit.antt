@@ -5,10 +5,10 @@ use Rattle.std.specs.Ordering.{nat_cmp}
 use Rattle.std.specs.BTreeMap.{insert_entry}
 use Rattle.std.proofs.lemmas.List.{take-append-le, take_all}
 use Rattle.std.proofs.Math.Nat.{eq-or-lt_of_le}
-use Rattle.path_rows.specs.Database.{RowView, rows_len}
-use Rattle.path_rows.specs.declared.command.Command.{Command}
-use Rattle.path_rows.specs.Command.{database_after, outcome_of}
-use Rattle.path_db.specs.RecordLaws.{WrittenRowsAreCounted}
+use Rattle.path_db.specs.Database.{RowView, rows_len}
+use Rattle.path_db.specs.declared.command.Command.{Command}
+use Rattle.path_db.specs.Command.{database_after, outcome_of}
+use Rattle.path_records.specs.RecordLaws.{WrittenRowsAreCounted}
 use Rattle.store_layout.specs.Limits.{Limits, limits_of}
 use Rattle.store_layout.specs.Journal.{gate_behind}
 use Rattle.store_layout.specs.Layout.{Geometry}

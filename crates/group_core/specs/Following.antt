@@ -6,7 +6,7 @@ use Rattle.store_layout.specs.Journal.{gate_behind}
 use Rattle.store_layout.specs.StoreValues.{value_after}
 use Rattle.gate_journal.specs.Commands.{command_format}
 use Rattle.store_open.specs.PathStores.{store_format}
-use Rattle.path_rows.specs.declared.command.Command.{Command}
+use Rattle.path_db.specs.declared.command.Command.{Command}
 use Rattle.group_phases.specs.declared.phases.Flush.TheVariants.{Stable, Opened, Following, DurableFollowed}
 use Rattle.group_core.specs.declared.phases.AtOpened.{AtOpened}
 use Rattle.group_core.specs.declared.phases.AtFollowing.{AtFollowing}

@@ -2,11 +2,12 @@
 use Rattle.std.specs.Prelude.{◌≡◌, ◌≢◌, ℕ, ◌+◌, ◌*◌, ◌^◌, ◌<◌, ◌≤◌, ◌⊎◌, true, false, List, length, take, drop, Option}
 use Rattle.std.specs.List.{AllByRecursion}
 use Rattle.byte_lists.specs.declared.format.TheConstants.{SECTOR}
-use Rattle.path_rows.specs.Database.{RowView}
-use Rattle.path_rows.specs.declared.command.Command.{Command}
-use Rattle.path_db.specs.CommandRecord.{IsWithinLimits}
+use Rattle.path_db.specs.Database.{RowView}
+use Rattle.path_db.specs.declared.command.Command.{Command}
+use Rattle.path_records.specs.CommandRecord.{IsWithinLimits}
 use Rattle.sector_dev.specs.Disk.{IsHonest}
 use Rattle.sector_dev.specs.Image.{EveryImage}
+use Rattle.store_layout.specs.declared.format.TheConstants.{BEFORE_ROWS}
 use Rattle.store_layout.specs.Limits.{Limits, limits_of}
 use Rattle.store_layout.specs.CommandFormat.{IsAllowed}
 use Rattle.store_layout.specs.Group.{last_place, group_sectors, JournalHasRoom, CanBeGroup}
@@ -85,7 +86,7 @@ pub record MayBePending (version : ℕ) (command : Command) : Type 0 where
 
 -- The rows have room in a checkpoint area.
 abbrev pub FitArea : StateView → List RowView → Type 0
-FitArea view rows = 32 + length (rows_format.encoding rows) ≤ SECTOR * view.geometry.checkpoint
+FitArea view rows = BEFORE_ROWS + length (rows_format.encoding rows) ≤ SECTOR * view.geometry.checkpoint
 
 -- Whatever front of the accepted commands is committed next, its rows have room.
 abbrev pub EveryFrontFits : StateView → Type 0

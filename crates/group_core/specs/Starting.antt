@@ -1,7 +1,8 @@
 -- The state that is made of a store.
 use Rattle.std.specs.Prelude.{◌≡◌, ◌↔◌, ℕ, ◌+◌, ◌*◌, ◌≤◌, Bool, true, false, List, []}
 use Rattle.byte_lists.specs.declared.format.TheConstants.{SECTOR}
-use Rattle.path_rows.specs.Database.{RowView, rows_len}
+use Rattle.path_db.specs.Database.{RowView, rows_len}
+use Rattle.store_layout.specs.declared.format.TheConstants.{BEFORE_ROWS}
 use Rattle.store_layout.specs.Opening.{StoreValue}
 use Rattle.store_open.specs.Store.{StoreView, half_of_tail}
 use Rattle.group_phases.specs.declared.phases.Flush.TheVariants.{Resting}
@@ -20,9 +21,9 @@ pub record CanContinue (store : StoreView) : Type 0 where
   -- No checkpoint of the store has failed.
   pub whole : store.broken ≡ false
   -- The rows have room in an area.
-  pub rows : 32 + rows_len store.rows ≤ SECTOR * store.geometry.checkpoint
+  pub rows : BEFORE_ROWS + rows_len store.rows ≤ SECTOR * store.geometry.checkpoint
   -- The rows up to the seal have room in an area.
-  pub sealed : store.sealed ≡ true → 32 + store.sealed_len ≤ SECTOR * store.geometry.checkpoint
+  pub sealed : store.sealed ≡ true → BEFORE_ROWS + store.sealed_len ≤ SECTOR * store.geometry.checkpoint
 
 -- The checkpointer's phase at the start: a sealed journal awaits its checkpoint.
 abbrev pub check_in : Bool → Check

@@ -1,8 +1,8 @@
 -- What contracts see of a state.
 use Rattle.std.specs.Prelude.{ℕ, Bool, List}
-use Rattle.path_rows.specs.Database.{RowView}
-use Rattle.path_rows.specs.declared.command.Command.{Command}
-use Rattle.path_rows.specs.declared.outcome.Outcome.{Outcome}
+use Rattle.path_db.specs.Database.{RowView}
+use Rattle.path_db.specs.declared.command.Command.{Command}
+use Rattle.path_db.specs.declared.outcome.Outcome.{Outcome}
 use Rattle.sector_dev.specs.Disk.{Disk}
 use Rattle.store_layout.specs.declared.half.Half.{Half}
 use Rattle.store_layout.specs.Layout.{Geometry}

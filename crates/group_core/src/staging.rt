@@ -2,7 +2,7 @@
 
 ghost use Rattle.std.specs.Prelude.{◌≡◌, ◌≢◌, ◌≤◌, length, take, IfOk, MatchResult};
 ghost use Rattle.std.specs.List.{All};
-ghost use Rattle.path_db.specs.CommandRecord.{IsWithinLimits};
+ghost use Rattle.path_records.specs.CommandRecord.{IsWithinLimits};
 ghost use Rattle.store_layout.specs.Limits.{limits_of};
 ghost use Rattle.store_layout.specs.Group.{records_of};
 ghost use Rattle.gate_journal.specs.Commands.{command_format};

@@ -12,7 +12,7 @@ use crate::state::State;
 use ckpt_pair::area_room;
 use ckpt_stream::Preparation;
 use group_phases::{Check, Flush};
-use path_db::written_rows_are_counted;
+use path_records::written_rows_are_counted;
 use rising_map::RisingMap;
 use sector_dev::Device;
 use std::alloc::Global;

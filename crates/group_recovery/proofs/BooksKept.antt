@@ -1,7 +1,7 @@
 -- Each event of a run keeps the books; and what a stop leaves is a machine that is reopened.
 use Rattle.std.proofs.Common.{◌≡◌, ◌⊎◌, inl, inr, ℕ, ◌≤◌, true, refl, sym, ◌∙◌, ap}
-use Rattle.path_rows.specs.Command.{outcome_of}
-use Rattle.path_rows.specs.declared.command.Command.{Command}
+use Rattle.path_db.specs.Command.{outcome_of}
+use Rattle.path_db.specs.declared.command.Command.{Command}
 use Rattle.seg_lookup.specs.declared.query.Query.{Query}
 use Rattle.group_phases.specs.declared.phases.Flush.{Flush}
 use Rattle.group_phases.specs.declared.phases.Check.{Check}

@@ -1,7 +1,7 @@
 -- Between its events a run holds the values of its state.
 use Rattle.std.proofs.Common.{◌≡◌, ◌≢◌, inl, inr, ℕ, ◌+◌, ◌*◌, ◌==◌, Bool, true, false, List, [], length, Option, IsSome, refl, sym, ◌∙◌, ap, subst, arith}
 use Rattle.std.proofs.lemmas.List.{append-nil}
-use Rattle.path_rows.specs.declared.outcome.Outcome.{Outcome}
+use Rattle.path_db.specs.declared.outcome.Outcome.{Outcome}
 use Rattle.seg_lookup.specs.declared.query.Query.{Query}
 use Rattle.group_phases.specs.declared.phases.Flush.{Flush}
 use Rattle.group_phases.specs.declared.phases.Check.{Check}

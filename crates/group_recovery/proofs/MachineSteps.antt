@@ -1,6 +1,6 @@
 -- Each event of a run makes the machine's step.
 use Rattle.std.proofs.Common.{◌≡◌, ◌⊎◌, inl, inr, ℕ, ◌+◌, ◌≤◌, sym, ◌∙◌, ap, arith}
-use Rattle.path_rows.specs.declared.command.Command.{Command}
+use Rattle.path_db.specs.declared.command.Command.{Command}
 use Rattle.group_recovery.specs.declared.events.Event.{Event}
 use Rattle.group_recovery.specs.declared.events.Event.TheVariants as event
 use Rattle.group_recovery.specs.declared.events.Reply.{Reply}

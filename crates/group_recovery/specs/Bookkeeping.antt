@@ -3,9 +3,9 @@
 use Rattle.std.specs.Prelude.{◌≡◌, ℕ, ◌+◌, ◌<◌, ◌≤◌, ◌⊎◌, Bool, true, List, length, drop, Some}
 use Rattle.std.specs.Ordering.{nat_cmp}
 use Rattle.std.specs.BTreeMap.{insert_entry}
-use Rattle.path_rows.specs.Database.{RowView}
-use Rattle.path_rows.specs.Command.{outcome_of}
-use Rattle.path_rows.specs.declared.outcome.Outcome.{Outcome}
+use Rattle.path_db.specs.Database.{RowView}
+use Rattle.path_db.specs.Command.{outcome_of}
+use Rattle.path_db.specs.declared.outcome.Outcome.{Outcome}
 use Rattle.store_layout.specs.Limits.{limits_of}
 use Rattle.store_layout.specs.StoreFormat.{db_after}
 use Rattle.ckpt_pair.specs.Versions.{latest}

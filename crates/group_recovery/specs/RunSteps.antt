@@ -1,8 +1,8 @@
 -- The effect of an event of a run, by its reply: the call of the state that the event names, with a
 -- value that the run holds.
 use Rattle.std.specs.Prelude.{◌≡◌, ℕ, ◌<◌, ◌≤◌, Bool, true, false, List, [], ◌∷◌, ◌++◌, length, Option, Some, None, Ok, Err, slice_index_or, slice_set}
-use Rattle.path_rows.specs.declared.command.Command.{Command}
-use Rattle.path_rows.specs.Answer.{segments_of}
+use Rattle.path_db.specs.declared.command.Command.{Command}
+use Rattle.path_db.specs.Answer.{segments_of}
 use Rattle.sector_dev.specs.Disk.{IsHonest}
 use Rattle.sector_dev.specs.Calls.{one_more}
 use Rattle.seg_lookup.specs.declared.query.Query.{Query}

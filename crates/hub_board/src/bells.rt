@@ -1,4 +1,4 @@
-//! The bells by which threads wait for the outcomes of their commands.
+//! The bells by which threads wait for the answers to their commands.
 
 use std::array;
 use std::sync::Condvar;
@@ -6,7 +6,7 @@ use std::sync::Condvar;
 /// The number of bells: twice the most commands of a group.
 pub(crate) const BELLS: usize = 64;
 
-/// The bells, by the places or the numbers of commands: the next place has the next bell.
+/// The bells, by the numbers of commands: the next number has the next bell.
 #[derive(Drop)]
 pub(crate) struct Bells {
     bells: [Condvar; BELLS],
@@ -20,15 +20,8 @@ impl Bells {
         }
     }
 
-    /// The bell of the command of a place or number. It is that of each 64th one after it, too.
-    pub fn of(&self, place: u64) -> &Condvar {
-        &self.bells[(place % BELLS as u64) as usize]
-    }
-
-    /// Rings them all.
-    pub fn ring_all(&self) {
-        for bell in &self.bells {
-            bell.notify_all();
-        }
+    /// The bell of the command of a number. It is that of each 64th one after it, too.
+    pub fn of(&self, number: u64) -> &Condvar {
+        &self.bells[(number % BELLS as u64) as usize]
     }
 }

@@ -1,9 +1,7 @@
 //! The changes of a state that threads wait for.
 
-use crate::bells::Bells;
 use crate::pause::Pause;
 use crate::ringer::Ringer;
-use std::sync::atomic::{AtomicU64, Ordering};
 use std::sync::{Condvar, Wait};
 use std::time::Duration;
 use store_loops::Awaited;
@@ -11,21 +9,17 @@ use store_loops::Awaited;
 /// The longest rest, in milliseconds.
 pub const LONGEST_REST: u64 = 10;
 
-/// Counts the changes of each kind, and wakes the threads that wait for one. A change is counted
+/// Counts the changes of each kind, and wakes the actors that wait for one. A change is counted
 /// after it was made, outside the state's lock. A thread that read the count before a call was
 /// refused therefore sees each change that the call did not see.
 #[derive(Drop)]
 pub struct Changes {
     work: Condvar,
     seal: Condvar,
-    outcomes: Bells,
     /// Wakes the threads whose commands are answered.
     pub ringer: Ringer,
     /// How long the flusher waits for commands, and for how many.
     pub pause: Pause,
-    /// The place below which the outcome of each command is known, or 2^64 - 1 once the state has
-    /// stopped.
-    reached: AtomicU64,
 }
 
 impl Changes {
@@ -34,10 +28,8 @@ impl Changes {
         Changes {
             work: Condvar::new(),
             seal: Condvar::new(),
-            outcomes: Bells::new(),
             ringer: Ringer::new(),
             pause: Pause::new(),
-            reached: AtomicU64::new(0),
         }
     }
 
@@ -51,27 +43,11 @@ impl Changes {
         self.bell(awaited).notify_all();
     }
 
-    /// Wakes the threads whose commands have these places: from the first up to the second, which
-    /// is left out.
-    pub fn announce_outcomes(&self, from: u64, to: u64) {
-        self.reached.fetch_max(to, Ordering::SeqCst);
-        for place in from..to {
-            self.announce(Awaited::Outcome(place));
-        }
-    }
-
-    /// Wakes all: the state has stopped.
+    /// Wakes both actors, and ends the ringer: the state has stopped.
     pub fn announce_stop(&self) {
-        self.reached.store(u64::MAX, Ordering::SeqCst);
         self.work.notify_all();
         self.seal.notify_all();
-        self.outcomes.ring_all();
         self.ringer.end();
-    }
-
-    /// Whether the outcome of the command of a place was announced, or a stop.
-    pub fn has_reached(&self, place: u64) -> bool {
-        place < self.reached.load(Ordering::SeqCst)
     }
 
     /// Waits until there are more changes of a kind than `seen`, at most 10 milliseconds.
@@ -88,7 +64,6 @@ impl Changes {
         match awaited {
             Awaited::Work => &self.work,
             Awaited::Seal => &self.seal,
-            Awaited::Outcome(place) => self.outcomes.of(place),
         }
     }
 }

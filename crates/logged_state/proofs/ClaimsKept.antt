@@ -1,7 +1,7 @@
 -- Each committed command that is claimed is kept since its moment.
 use Rattle.std.proofs.Common.{List, [], ◌∷◌}
 use Rattle.std.specs.List.{AllByRecursion}
-use Rattle.path_rows.specs.Database.{RowView}
+use Rattle.path_db.specs.Database.{RowView}
 use Rattle.sector_dev.specs.Disk.{History}
 use Rattle.store_layout.specs.Opening.{StoreValue}
 use Rattle.command_log.specs.declared.rule.Claim.{Claim}

@@ -1,7 +1,7 @@
 -- What a stop at any moment leaves, by the log.
 use Rattle.std.specs.Prelude.{◌≡◌, ℕ, ◌+◌, ◌<◌, ◌≤◌, List, length}
 use Rattle.std.specs.List.{AllByRecursion}
-use Rattle.path_rows.specs.Database.{RowView}
+use Rattle.path_db.specs.Database.{RowView}
 use Rattle.sector_dev.specs.Disk.{History, Disk, IsHonest}
 use Rattle.sector_dev.specs.Image.{EveryImageSince}
 use Rattle.sector_dev.specs.Stretch.{Stretch}

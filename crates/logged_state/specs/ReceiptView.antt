@@ -1,6 +1,6 @@
 -- What contracts see of a receipt of a state with a log.
 use Rattle.std.specs.Prelude.{ℕ, Option}
-use Rattle.path_rows.specs.declared.outcome.Outcome.{Outcome}
+use Rattle.path_db.specs.declared.outcome.Outcome.{Outcome}
 use Rattle.command_log.specs.declared.rule.Claim.{Claim}
 
 -- A receipt as contracts see it.

@@ -3,11 +3,10 @@
 ghost use Rattle.std.specs.Prelude.{◌≡◌};
 ghost use Rattle.group_core.specs.Stops.{StepLeaves};
 ghost use Rattle.group_core.specs.Redeeming.{halted};
-ghost use Rattle.group_core.specs.Ending.{Abandons};
 
 use crate::name::StateName;
 use crate::state::LoggedState;
-use group_core::{Commit, Durable, Showcase, Ticket};
+use group_core::{Commit, Showcase, Ticket};
 use sector_dev::Device;
 
 impl<D: Device, S: Showcase, B: StateName> LoggedState<D, S, B> {
@@ -36,14 +35,5 @@ impl<D: Device, S: Showcase, B: StateName> LoggedState<D, S, B> {
         ensures log { self.new.log ≡ self.old.log }
     {
         self.state.give_up_ticket(ticket);
-    }
-
-    /// `State::abandon`.
-    pub fn abandon(&mut self, value: Durable) -> Result<(), Durable>
-        ensures abandons { Abandons value result self.old.state self.new.state }
-        ensures any_moment { StepLeaves self.old.state self.new.state }
-        ensures log { self.new.log ≡ self.old.log }
-    {
-        self.state.abandon(value)
     }
 }

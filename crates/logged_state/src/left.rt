@@ -2,7 +2,7 @@
 
 ghost use Rattle.std.specs.Prelude.{◌≡◌, ◌+◌, ℕ, List};
 ghost use Rattle.std.specs.List.{AllByRecursion};
-ghost use Rattle.path_rows.specs.Database.{RowView};
+ghost use Rattle.path_db.specs.Database.{RowView};
 ghost use Rattle.store_layout.specs.Opening.{StoreValue};
 ghost use Rattle.command_log.specs.Log.{IsCommitted};
 ghost use Rattle.sector_dev.specs.Disk.{History};

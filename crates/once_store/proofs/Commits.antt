@@ -1,9 +1,9 @@
 -- The steps that commit the one pending command. For commit_pending, commit_after_seal and
 -- commit_durable.
 use Rattle.std.proofs.Common.{◌≡◌, ℕ, ◌+◌, ◌<◌, ◌≤◌, List, [], ◌∷◌, length, take, drop, Some, None, IsSome, refl, sym, ap, subst, ◌∙◌, arith}
-use Rattle.path_rows.specs.Database.{RowView}
-use Rattle.path_rows.specs.declared.command.Command.{Command}
-use Rattle.path_rows.specs.declared.outcome.Outcome.{Outcome}
+use Rattle.path_db.specs.Database.{RowView}
+use Rattle.path_db.specs.declared.command.Command.{Command}
+use Rattle.path_db.specs.declared.outcome.Outcome.{Outcome}
 use Rattle.store_layout.specs.Group.{last_place}
 use Rattle.store_layout.specs.Opening.{StoreValue}
 use Rattle.store_layout.specs.StoreFormat.{db_after}

@@ -1,6 +1,6 @@
 -- Committing the one pending command.
 use Rattle.std.specs.Prelude.{◌≡◌, ◌≤◌, [], Option, Some, None, Result, Ok, Err}
-use Rattle.path_rows.specs.declared.outcome.Outcome.{Outcome}
+use Rattle.path_db.specs.declared.outcome.Outcome.{Outcome}
 use Rattle.group_phases.specs.declared.phases.Flush.TheVariants.{Resting, Durable}
 use Rattle.group_phases.specs.declared.phases.Check.TheVariants.{Ready}
 use Rattle.group_core.specs.declared.phases.AtDurable.{AtDurable}

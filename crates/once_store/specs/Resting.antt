@@ -1,6 +1,6 @@
 -- The states of a store in memory between two calls.
 use Rattle.std.specs.Prelude.{◌≡◌, ◌+◌, ◌<◌, ◌≤◌, false, [], ◌∷◌, IsSome}
-use Rattle.path_rows.specs.declared.command.Command.{Command}
+use Rattle.path_db.specs.declared.command.Command.{Command}
 use Rattle.store_layout.specs.Layout.{Geometry}
 use Rattle.store_layout.specs.Group.{last_place}
 use Rattle.ckpt_pair.specs.Versions.{latest}

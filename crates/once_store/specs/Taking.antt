@@ -1,9 +1,10 @@
 -- What taking a command returns, and what it leaves.
 use Rattle.std.specs.Prelude.{◌≡◌, ◌≢◌, ◌⊎◌, ◌+◌, ◌*◌, ◌≤◌, List, Result, Ok, Err}
 use Rattle.byte_lists.specs.declared.format.TheConstants.{SECTOR}
-use Rattle.path_rows.specs.Database.{RowView, rows_len}
-use Rattle.path_rows.specs.Command.{database_after, outcome_of}
-use Rattle.path_rows.specs.declared.command.Command.{Command}
+use Rattle.path_db.specs.Database.{RowView, rows_len}
+use Rattle.path_db.specs.Command.{database_after, outcome_of}
+use Rattle.path_db.specs.declared.command.Command.{Command}
+use Rattle.store_layout.specs.declared.format.TheConstants.{BEFORE_ROWS}
 use Rattle.store_layout.specs.Group.{last_place}
 use Rattle.once_store.specs.declared.error.Taken.{Taken}
 use Rattle.once_store.specs.declared.error.TakeError.{TakeError}
@@ -12,7 +13,7 @@ use Rattle.once_store.specs.OnceView.{OnceView}
 
 -- The rows have room in a checkpoint area of 4,096 sectors.
 abbrev pub FitStore : List RowView → Type 0
-FitStore rows = 32 + rows_len rows ≤ SECTOR * 4096
+FitStore rows = BEFORE_ROWS + rows_len rows ≤ SECTOR * 4096
 
 -- The view after a command is taken.
 abbrev pub once_view_with_command : OnceView → Command → OnceView

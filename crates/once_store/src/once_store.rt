@@ -3,8 +3,8 @@
 ghost use Rattle.std.specs.Prelude.{◌≡◌, ◌≤◌, length, IfOk};
 ghost use Rattle.std.specs.List.{AllByRecursion};
 ghost use Rattle.seg_core.specs.Encoding.{IsSegment};
-ghost use Rattle.path_rows.specs.Answer.{segments_of};
-ghost use Rattle.path_db.specs.CommandRecord.{IsWithinLimits};
+ghost use Rattle.path_db.specs.Answer.{segments_of};
+ghost use Rattle.path_records.specs.CommandRecord.{IsWithinLimits};
 ghost use Rattle.seg_lookup.specs.Answer.{answer_to};
 ghost use Rattle.seg_lookup.specs.Query.{query_view};
 ghost use Rattle.seg_lookup.specs.declared.answers.TheConstants.{ANSWER_LIMIT};

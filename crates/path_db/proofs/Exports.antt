@@ -1,10 +1,7 @@
 -- The lemmas that other crates cite, which is all that they take from these proofs.
 
--- the bytes that are read as a command are its record, and are read as the same command where
--- removals are allowed
-pub use Rattle.path_db.proofs.Spelled.{command_spelled, command_read_on}
--- the record of a command within its limits is read as that command; the length of the records of
--- rows
-pub use Rattle.path_db.proofs.ReadBack.{command_read_back, encoding_len}
--- the rows that bytes are read as, given the rows that a walk returned
-pub use Rattle.path_db.proofs.WalkEnds.{given_all, given_cut, BeginsWith, given_begin}
+-- a row above all rows of a list; what is above a row is above the rows before it
+pub use Rattle.path_db.proofs.Order.{AllAbove, above_less}
+-- the view of the last row
+pub use Rattle.path_db.proofs.Ends.{last_seen}
+pub use Rattle.path_db.proofs.Lists.{take_all}

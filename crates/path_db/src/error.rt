@@ -1,38 +1,26 @@
-//! Why bytes are not a record.
+//! Why a command is not applied.
 
 ghost use Rattle.std.specs.Prelude.{◌≡◌};
-ghost use Rattle.path_db.specs.declared.error.DbError.TheVariants.{NoMemory};
+ghost use Rattle.path_db.specs.declared.error.ApplyError.TheVariants.{NoMemory};
 
-use std::alloc::{AllocError, AllocFailed};
+use std::alloc::AllocError;
 use thiserror::Error;
 
-/// Why bytes are not a record, or not records. The variants are numbered from 0 in this order.
+/// Why a command is not applied. The variants are numbered from 0 in this order.
 #[derive(Clone, Copy, Debug, PartialEq, Eq, Error)]
-pub enum DbError {
-    /// Memory was refused. The bytes may be valid or not.
+pub enum ApplyError {
+    /// Memory was refused. The command may be applied later.
     #[error("out of memory")]
     NoMemory,
-    /// Bytes are missing or left over, a number is out of its range, or a segment's bytes cannot be
-    /// read or are not its one encoding.
-    #[error("a record is not well-formed")]
-    BadRecord,
-    /// The key of a row is not strictly above the key of the row before.
-    #[error("rows are not in the order of their keys")]
-    Order,
+    /// The rows would take more bytes than the limit.
+    #[error("the rows would take too many bytes")]
+    Full,
 }
 
-impl From<AllocError> for DbError {
+impl From<AllocError> for ApplyError {
     ghost from_gives = { λ _ e. e ≡ NoMemory };
 
-    fn from(_refused: AllocError) -> DbError {
-        DbError::NoMemory
-    }
-}
-
-impl<T: Drop> From<AllocFailed<T>> for DbError {
-    ghost from_gives = { λ _ e. e ≡ NoMemory };
-
-    fn from(_refused: AllocFailed<T>) -> DbError {
-        DbError::NoMemory
+    fn from(_refused: AllocError) -> ApplyError {
+        ApplyError::NoMemory
     }
 }

@@ -1,39 +1,44 @@
-//! The database of a path segment server and its records: rows and commands as bytes.
+//! The database of a path segment server: a finite map from keys, a type and an id, to segments,
+//! and the commands that change it.
 //!
-//! To the layer above: the rows of `path_rows`, and the calls that write rows and commands as
-//! records and read these. What was written is read back unchanged, bytes that are read are the
-//! record of the result, and each refusal is exactly that of the definitions.
+//! To the layer above, `PathDb::apply` leaves the database that the definition gives after a
+//! command and returns what the command did; where memory is refused, nothing changes.
+//! `apply_within` also refuses a command after which the rows would take too many bytes. `rows` is
+//! the map in the order of its keys, and `matching` returns what a lookup shows. Laws say what
+//! commands leave, and that servers with the same registrations have the same rows.
 #![tactic(auto)]
 
-mod command_records;
+mod agreement;
+mod answers;
+mod change;
+mod command;
+mod command_laws;
+mod database;
+mod end;
+mod end_keys;
 mod error;
 mod format;
-mod in_threads;
-mod key;
-mod one_key;
-mod record_laws;
-mod row_reading;
-mod row_records;
-mod row_walk;
-mod rows_reader;
+mod key_order;
+mod outcome;
+mod outcome_laws;
+mod purge_walk;
+mod row;
+mod row_key;
+mod row_list;
+mod row_map;
+mod row_puts;
+mod row_range;
 
-pub use command_records::{read_command, write_command};
-pub use error::DbError;
-pub use in_threads::read_in_threads;
-pub use key::Key;
-pub use one_key::row_after;
-pub use path_rows::{
-    ApplyError, Command, MOST_ROW_BYTES, Outcome, PathDb, ROW_HEAD, Registration, Row, Rows,
-    commands_append, commands_keep_database, database_is_canonical, each_put_is_counted,
-    keys_are_separate, purge_leaves_valid, register_leaves_newest, remove_leaves_others,
-    rows_are_counted, type_byte,
+pub use agreement::{registrations_commute, registrations_repeat};
+pub use command::{Command, Registration};
+pub use command_laws::{
+    commands_append, commands_keep_database, database_is_canonical, keys_are_separate,
+    purge_leaves_valid, register_leaves_newest, remove_leaves_others,
 };
-pub use record_laws::{
-    command_refusals_are_exact, commands_are_read_on, read_commands_are_spelled,
-    read_commands_can_be_written, read_rows_are_spelled, row_refusals_are_exact,
-    written_commands_are_read, written_rows_are_counted, written_rows_are_read,
-};
-pub use row_reading::{ByCall, OneThread, RowReading};
-pub use row_records::{read_rows, row_head, write_rows};
-pub use row_walk::RowWalk;
-pub use rows_reader::RowsReader;
+pub use database::PathDb;
+pub use error::ApplyError;
+pub use format::{MOST_ROW_BYTES, ROW_HEAD, type_byte};
+pub use outcome::Outcome;
+pub use outcome_laws::{each_put_is_counted, rows_are_counted};
+pub use row::Row;
+pub use row_list::Rows;

@@ -1,13 +1,13 @@
 -- What a session of a hub has read, answered and sent when it ends.
 use Rattle.std.specs.Prelude.{ℕ, Bool, List, Option, Result}
-use Rattle.path_rows.specs.declared.command.Command.{Command}
-use Rattle.path_rows.specs.Database.{RowView}
+use Rattle.path_db.specs.declared.command.Command.{Command}
+use Rattle.path_db.specs.Database.{RowView}
 use Rattle.store_layout.specs.Opening.{StoreValue}
 use Rattle.command_log.specs.declared.rule.Claim.{Claim}
 use Rattle.seg_check.specs.Signatures.{Verdicts}
 use Rattle.seg_lookup.specs.Roster.{RosterView}
 use Rattle.session_core.specs.declared.error.FrameError.{FrameError}
-use Rattle.path_hub.specs.Sight.{Sight}
+use Rattle.hub_readers.specs.Sight.{Sight}
 use Rattle.path_session.specs.Serving.{Serving, beginning}
 use Rattle.path_session.specs.Answered.{HubAnswers}
 use Rattle.path_session.specs.Acknowledged.{AreClaimed}

@@ -97,7 +97,7 @@ pub(crate) fn next_peer<
 }
 
 /// Accepts one connection, which lies above the standard descriptors.
-fn accept_one<L: OpenListener<Stream = TcpStream>>(
+pub(crate) fn accept_one<L: OpenListener<Stream = TcpStream>>(
     listener: &L,
 ) -> io::Result<(TcpStream, SocketAddr)> {
     let (stream, address) = listener.accept()?;

@@ -6,6 +6,6 @@
 pub(crate) enum Guest {
     /// The session of the peer in the seat of this number.
     Session(usize),
-    /// The peers that ask for the numbers, one after the other.
+    /// The peers that ask for the numbers.
     Status,
 }

@@ -28,6 +28,7 @@ mod server;
 mod status_listener;
 mod stopwatch;
 mod turning_away;
+mod visitors;
 mod watching;
 
 pub use accepting::{Failure, after_failure};

@@ -2,58 +2,38 @@
 
 ghost use Rattle.std.specs.Prelude.{◌≡◌};
 
-use crate::accepting::next_peer;
 use crate::ends::Cause;
 use crate::reports::Reports;
 use crate::seats::MOST_SESSIONS;
 use crate::server::Server;
-use paced_stream::Deadline;
+use crate::visitors::{Visitor, next_visitor};
 use path_hub::{Completed, Hub, HubName};
 use sector_dev::Device;
 use seg_check::Verifier;
 use status_page::{Asked, CallTime, Counts, EndCounts, RefusedCounts};
-use status_server::{ReplyKind, answer, part, read_request, send};
+use status_server::{ReplyKind, Visits, answer};
 use std::alloc::AllocError;
 use std::net::{OpenListener, TcpStream};
 use std::sync::Wait;
-use std::time::{Clock, Duration};
-
-/// The longest time of a connection, in milliseconds.
-const LONGEST: u64 = 1_000;
+use std::time::Clock;
 
 impl<L: OpenListener<Stream = TcpStream> + Drop, V: Verifier, O: Reports> Server<'_, L, V, O> {
-    /// Answers the peers of a listener, one after the other, until the server is at its end or the
-    /// listener is broken.
+    /// Answers the peers of a listener, until the server is at its end or the listener is broken,
+    /// and the visits that are under way then are over.
     pub(crate) fn watch<D: Device, N: HubName, R: Wait + Clock>(
         &self,
         hub: &Hub<D, N, R>,
         listener: &L,
     ) {
         let rt = hub.handle();
+        let mut visits = Visits::new(self.alloc);
         for _ in rt.forever() {
-            let Some(stream) = next_peer(rt, listener, || self.is_open()) else {
-                return;
-            };
-            self.answer_peer(hub, &stream);
-        }
-    }
-
-    /// Answers what a peer asks for, if it does so in time, and ends its connection.
-    fn answer_peer<D: Device, N: HubName, R: Wait + Clock>(
-        &self,
-        hub: &Hub<D, N, R>,
-        stream: &TcpStream,
-    ) {
-        let rt = hub.handle();
-        let Ok(deadline) = Deadline::after(rt, Duration::from_millis(LONGEST)) else {
-            return;
-        };
-        let Some(asked) = read_request(rt, self.alloc, stream, &deadline) else {
-            return;
-        };
-        if let Ok(text) = self.text_for(hub, asked) {
-            send(rt, stream, &deadline, text.as_str());
-            part(rt, stream, &deadline);
+            match next_visitor(rt, listener, !visits.is_empty(), || self.is_open()) {
+                Visitor::Peer(stream) => visits.begin(rt, stream),
+                Visitor::Over if visits.is_empty() => return,
+                Visitor::Nobody | Visitor::Over => visits.wait(),
+            }
+            visits.go_on(rt, |asked| self.text_for(hub, asked));
         }
     }
 

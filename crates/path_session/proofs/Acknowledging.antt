@@ -6,9 +6,10 @@ use Rattle.seg_core.specs.declared.seg_type.SegType.{SegType}
 use Rattle.seg_core.specs.Registration.{registration_decoding, type_of}
 use Rattle.seg_core.specs.Request.{request_decoding}
 use Rattle.seg_check.specs.declared.error.CheckError.{CheckError}
-use Rattle.path_rows.specs.declared.command.Command.{Command}
-use Rattle.path_rows.specs.declared.command.Command.TheVariants as command
-use Rattle.path_rows.specs.Database.{RowView}
+use Rattle.seg_check.specs.Checking.{first_refusal}
+use Rattle.path_db.specs.declared.command.Command.{Command}
+use Rattle.path_db.specs.declared.command.Command.TheVariants as command
+use Rattle.path_db.specs.Database.{RowView}
 use Rattle.seg_lookup.specs.declared.error.LookupError.{LookupError}
 use Rattle.seg_lookup.specs.Query.{QueryView}
 use Rattle.seg_lookup.specs.Classification.{query_of}
@@ -20,7 +21,6 @@ use Rattle.session_core.specs.Frames.{MessageView}
 use Rattle.session_core.specs.Reply.{ReplyView, Registered, Purged, Removed, Refused}
 use Rattle.session_core.specs.Service.{Exchange, AreAnswered}
 use Rattle.reply_codes.specs.Codes.{memory_code, stopped_code, not_awaited_code, seg_code, check_code, lookup_code, submit_code}
-use Rattle.reply_codes.specs.Checking.{first_refusal}
 use Rattle.path_session.specs.Serving.{Serving, at_moment, with_left}
 use Rattle.path_session.specs.Answered.{IsRefusedWithCode, AnswersCommand, AnswersChecked, AnswersRegistration, AnswersRemoval, LooksUp, AnswersQuery, AnswersLookup, RegistrationLacksMemory, IsAnswered, HubAnswers}
 use Rattle.path_session.specs.Acknowledged.{ack_in, IsReadAs, Acknowledges, FirstIsClaimed, AreClaimed}

@@ -6,9 +6,10 @@ use Rattle.seg_slots.specs.declared.error.SegError.TheVariants as seg
 use Rattle.seg_core.specs.declared.seg_type.SegType.{SegType}
 use Rattle.seg_core.specs.Registration.{registration_decoding, type_of}
 use Rattle.seg_check.specs.declared.error.CheckError.{CheckError}
-use Rattle.path_rows.specs.declared.command.Command.{Command}
-use Rattle.path_rows.specs.declared.command.Command.TheVariants as command
-use Rattle.path_rows.specs.Database.{RowView}
+use Rattle.seg_check.specs.Checking.{first_refusal}
+use Rattle.path_db.specs.declared.command.Command.{Command}
+use Rattle.path_db.specs.declared.command.Command.TheVariants as command
+use Rattle.path_db.specs.Database.{RowView}
 use Rattle.store_layout.specs.Opening.{StoreValue}
 use Rattle.session_core.specs.declared.command_kind.CommandKind.{CommandKind}
 use Rattle.session_core.specs.declared.command_kind.CommandKind.TheVariants as kind
@@ -21,7 +22,6 @@ use Rattle.session_core.specs.Reply.{ReplyView, Registered, Purged, Removed, Ref
 use Rattle.reply_codes.specs.declared.refusal.Refusal.{Refusal}
 use Rattle.reply_codes.specs.declared.refusal.Refusal.TheVariants as refusal
 use Rattle.reply_codes.specs.Codes.{seg_code}
-use Rattle.reply_codes.specs.Checking.{first_refusal}
 use Rattle.reply_codes.specs.Replies.{reply_to_command}
 use Rattle.path_hub.specs.declared.error.HubError.{HubError}
 use Rattle.path_hub.specs.declared.error.HubError.TheVariants as hub

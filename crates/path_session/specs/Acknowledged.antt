@@ -2,9 +2,9 @@
 use Rattle.std.specs.Prelude.{◌≡◌, ℕ, ◌+◌, List, [], ◌∷◌, Option, Some, None, Ok}
 use Rattle.seg_core.specs.declared.seg_type.SegType.{SegType}
 use Rattle.seg_core.specs.Registration.{registration_decoding, type_of}
-use Rattle.path_rows.specs.declared.command.Command.{Command}
-use Rattle.path_rows.specs.declared.command.Command.TheVariants as command
-use Rattle.path_rows.specs.Database.{RowView}
+use Rattle.path_db.specs.declared.command.Command.{Command}
+use Rattle.path_db.specs.declared.command.Command.TheVariants as command
+use Rattle.path_db.specs.Database.{RowView}
 use Rattle.store_layout.specs.Opening.{StoreValue}
 use Rattle.command_log.specs.declared.rule.Claim.{Claim}
 use Rattle.session_core.specs.declared.message.Message.TheVariants.{Register, Lookup, Purge, Remove}

@@ -6,10 +6,11 @@ use Rattle.seg_core.specs.declared.seg_type.SegType.{SegType}
 use Rattle.seg_core.specs.Request.{request_decoding}
 use Rattle.seg_core.specs.Registration.{registration_outline, registration_decoding, type_of}
 use Rattle.seg_check.specs.declared.error.CheckError.{CheckError}
-use Rattle.path_rows.specs.declared.command.Command.{Command}
-use Rattle.path_rows.specs.declared.command.Command.TheVariants as command
-use Rattle.path_rows.specs.Database.{RowView}
-use Rattle.path_rows.specs.Answer.{segments_of}
+use Rattle.seg_check.specs.Checking.{first_refusal}
+use Rattle.path_db.specs.declared.command.Command.{Command}
+use Rattle.path_db.specs.declared.command.Command.TheVariants as command
+use Rattle.path_db.specs.Database.{RowView}
+use Rattle.path_db.specs.Answer.{segments_of}
 use Rattle.seg_lookup.specs.declared.error.LookupError.{LookupError}
 use Rattle.seg_lookup.specs.Query.{QueryView}
 use Rattle.seg_lookup.specs.Classification.{query_of}
@@ -17,14 +18,13 @@ use Rattle.seg_lookup.specs.Answer.{answer_to}
 use Rattle.store_layout.specs.Opening.{StoreValue}
 use Rattle.group_core.specs.declared.submit_error.SubmitError.{SubmitError}
 use Rattle.logged_state.specs.ReceiptView.{ReceiptView}
-use Rattle.path_hub.specs.Shown.{shown_after}
-use Rattle.path_hub.specs.Sight.{place_after}
+use Rattle.hub_readers.specs.Shown.{shown_after}
+use Rattle.hub_readers.specs.Sight.{place_after}
 use Rattle.session_core.specs.declared.message.Message.TheVariants.{Register, Lookup, Purge, Remove}
 use Rattle.session_core.specs.declared.service.Ack.{Ack}
 use Rattle.session_core.specs.Frames.{MessageView}
 use Rattle.session_core.specs.Reply.{ReplyView, Registered, Found, Purged, Removed, Refused}
 use Rattle.reply_codes.specs.Codes.{memory_code, reader_code, stopped_code, not_awaited_code, seg_code, check_code, lookup_code, submit_code}
-use Rattle.reply_codes.specs.Checking.{first_refusal}
 use Rattle.path_session.specs.Serving.{Serving, at_moment, with_left}
 
 -- The reply is a refusal, and nothing changed.

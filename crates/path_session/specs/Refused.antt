@@ -1,4 +1,6 @@
--- The refusal of a message that a hub refused.
+-- The refusals of messages that a hub or its reader refused.
+use Rattle.hub_readers.specs.declared.error.ReaderError.{ReaderError}
+use Rattle.hub_readers.specs.declared.error.ReaderError.TheVariants as reader
 use Rattle.path_hub.specs.declared.error.HubError.{HubError}
 use Rattle.path_hub.specs.declared.error.HubError.TheVariants as hub
 use Rattle.reply_codes.specs.declared.refusal.Refusal.{Refusal}
@@ -11,3 +13,8 @@ hub_refusal hub.NoReader = NoReader
 hub_refusal (hub.Stopped place) = Stopped
 hub_refusal (hub.Submit e) = Submit e
 hub_refusal hub.NotAwaited = NotAwaited
+
+-- The refusal of a lookup that a reader refused.
+abbrev pub reader_refusal : ReaderError → Refusal
+reader_refusal reader.NoMemory = NoMemory
+reader_refusal reader.NoReader = NoReader

@@ -1,11 +1,11 @@
 -- What contracts see of a service over a hub.
 use Rattle.std.specs.Prelude.{ℕ, Bool, List, [], Option, None}
 use Rattle.seg_check.specs.Signatures.{Verdicts}
-use Rattle.path_rows.specs.declared.command.Command.{Command}
+use Rattle.path_db.specs.declared.command.Command.{Command}
 use Rattle.seg_lookup.specs.Roster.{RosterView}
 use Rattle.command_log.specs.declared.rule.Claim.{Claim}
 use Rattle.logged_state.specs.ReceiptView.{ReceiptView}
-use Rattle.path_hub.specs.Sight.{Sight}
+use Rattle.hub_readers.specs.Sight.{Sight}
 
 -- A service over a hub as contracts see it.
 pub record Serving : Type 0 where

@@ -1,7 +1,7 @@
 -- What handing a command to the hub returns.
 use Rattle.std.specs.Prelude.{◌≡◌, Bool, true, List, Result, Ok, Err}
-use Rattle.path_rows.specs.Database.{RowView}
-use Rattle.path_rows.specs.declared.command.Command.{Command}
+use Rattle.path_db.specs.Database.{RowView}
+use Rattle.path_db.specs.declared.command.Command.{Command}
 use Rattle.store_layout.specs.Opening.{StoreValue}
 use Rattle.session_core.specs.declared.service.Ack.{Ack}
 use Rattle.reply_codes.specs.declared.refusal.Refusal.{Refusal}

@@ -4,9 +4,10 @@ use Rattle.seg_slots.specs.declared.error.SegError.TheVariants as seg
 use Rattle.seg_core.specs.declared.seg_type.SegType.{SegType}
 use Rattle.seg_core.specs.Registration.{registration_outline, registration_decoding, type_of}
 use Rattle.seg_check.specs.Signatures.{Verdicts}
-use Rattle.path_rows.specs.declared.command.Command.{Command}
-use Rattle.path_rows.specs.declared.command.Command.TheVariants as command
-use Rattle.path_rows.specs.Database.{RowView}
+use Rattle.seg_check.specs.Checking.{first_refusal}
+use Rattle.path_db.specs.declared.command.Command.{Command}
+use Rattle.path_db.specs.declared.command.Command.TheVariants as command
+use Rattle.path_db.specs.Database.{RowView}
 use Rattle.store_layout.specs.Opening.{StoreValue}
 use Rattle.session_core.specs.declared.command_kind.CommandKind.{CommandKind}
 use Rattle.session_core.specs.declared.command_kind.CommandKind.TheVariants as kind
@@ -17,7 +18,6 @@ use Rattle.session_core.specs.Reply as reply
 use Rattle.session_core.specs.Reply.{ReplyView}
 use Rattle.reply_codes.specs.declared.refusal.Refusal.{Refusal}
 use Rattle.reply_codes.specs.declared.refusal.Refusal.TheVariants.{NoMemory, Message, Check, Lookup as NoLookup, Submit, NoReader, Stopped, NotAwaited, Future}
-use Rattle.reply_codes.specs.Checking.{first_refusal}
 use Rattle.path_session.specs.declared.under_way.HubUnderWay.{HubUnderWay}
 use Rattle.path_session.specs.Serving.{Serving, at_moment}
 use Rattle.path_session.specs.Taking.{IsCommandAnswered}

@@ -4,9 +4,10 @@ ghost use Rattle.std.specs.Prelude.{◌≡◌};
 ghost use Rattle.reply_codes.specs.Replies.{reply_to_command};
 ghost use Rattle.session_core.specs.Commands.{reply_to_kind};
 ghost use Rattle.session_core.specs.declared.command_kind.CommandKind.{CommandKind};
-ghost use Rattle.path_session.specs.Refused.{hub_refusal};
+ghost use Rattle.path_session.specs.Refused.{hub_refusal, reader_refusal};
 ghost use Rattle.path_session.specs.UnderWay.{reply_with};
 
+use hub_readers::ReaderError;
 use path_hub::HubError;
 use reply_codes::Refusal;
 use session_core::{Ack, Code};
@@ -21,6 +22,16 @@ pub(crate) fn refusal_of(error: HubError) -> Refusal
         HubError::Stopped(_) => Refusal::Stopped,
         HubError::Submit(error) => Refusal::Submit(error),
         HubError::NotAwaited => Refusal::NotAwaited,
+    }
+}
+
+/// The refusal of a lookup whose call of the reader was refused.
+pub(crate) fn reader_refusal_of(error: ReaderError) -> Refusal
+    ensures { result ≡ reader_refusal error }
+{
+    match error {
+        ReaderError::NoMemory => Refusal::NoMemory,
+        ReaderError::NoReader => Refusal::NoReader,
     }
 }
 

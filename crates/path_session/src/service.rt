@@ -14,13 +14,14 @@ ghost use Rattle.path_session.specs.Taking.{IsCommandAnswered, RefusesTaking};
 ghost use Rattle.path_session.specs.UnderWay.{IsForRegistration, IsForRows, IsForPurge, IsForRemoval, IsFor, after_check, AnswersTaken};
 ghost use Rattle.path_session.specs.Kept.{serving};
 
-use crate::refused::{coded, refusal_of};
+use crate::refused::{coded, reader_refusal_of, refusal_of};
 use crate::under_way::HubUnderWay;
+use hub_readers::{HubReader, HubReceipt};
 use path_db::{Command, Registration};
-use path_hub::{Hub, HubClaim, HubName, HubReader, HubReceipt, LoggedList, Waiter};
-use reply_codes::{Refusal, check_all};
+use path_hub::{Hub, HubClaim, HubName, LoggedList, Waiter};
+use reply_codes::Refusal;
 use sector_dev::Device;
-use seg_check::Verifier;
+use seg_check::{Verifier, check_all};
 use seg_core::{SegType, Segment, read_registration, read_request};
 use seg_lookup::{Roster, classify};
 use session_clock::Now;
@@ -250,7 +251,7 @@ impl<'a, D: Device, N: HubName, R: Wait + Clock, V: Verifier, C: Now, P: Waiter>
         let query = classify(self.roster, source, destination)?;
         let now = self.clock.now();
         self.moment = now;
-        let found = self.reader.lookup(&query, now).map_err(refusal_of)?;
+        let found = self.reader.lookup(&query, now).map_err(reader_refusal_of)?;
         Ok((query.kind, found))
     }
 }

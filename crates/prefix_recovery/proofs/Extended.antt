@@ -2,7 +2,7 @@
 use Rattle.std.proofs.Common.{◌≡◌, List, [], ◌∷◌, ◌++◌, drop, refl, sym, ◌∙◌, ap, subst, arith, length-append}
 use Rattle.std.proofs.lemmas.List.{take-append-le, drop-append-le}
 use Rattle.std.proofs.lemmas.List.Elements.{All-nil, All-cons, All-append, All-weaker}
-use Rattle.path_rows.specs.declared.command.Command.{Command}
+use Rattle.path_db.specs.declared.command.Command.{Command}
 use Rattle.sector_dev.specs.Disk.{Disk}
 use Rattle.sector_dev.specs.Image.{IsFromImage}
 use Rattle.sector_dev.specs.Stretch.{Stretch}

@@ -1,7 +1,7 @@
 -- Runs one after the other, and what their replies say.
 use Rattle.std.proofs.Common.{◌≡◌, ◌<◌, List, [], ◌∷◌, ◌++◌, length, refl, sym, ◌∙◌, ap, subst, arith, append_assoc}
-use Rattle.path_rows.specs.declared.command.Command.{Command}
-use Rattle.path_rows.specs.Answer.{segments_of}
+use Rattle.path_db.specs.declared.command.Command.{Command}
+use Rattle.path_db.specs.Answer.{segments_of}
 use Rattle.seg_lookup.specs.Answer.{answer_to}
 use Rattle.seg_lookup.specs.Query.{query_view}
 use Rattle.group_core.specs.StateView.{StateView}

@@ -1,6 +1,6 @@
 -- What lookups of a run are answered from.
 use Rattle.std.specs.Prelude.{◌≡◌, List, [], ◌∷◌}
-use Rattle.path_rows.specs.Answer.{segments_of}
+use Rattle.path_db.specs.Answer.{segments_of}
 use Rattle.seg_lookup.specs.Answer.{answer_to}
 use Rattle.seg_lookup.specs.Query.{query_view}
 use Rattle.group_recovery.specs.declared.events.Event.{Event}

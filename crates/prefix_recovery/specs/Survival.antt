@@ -1,9 +1,9 @@
 -- What survives a stop of a run: the definitions of the recovery theorem, to be read from top to
 -- bottom. A run is a list of events, and a trace of the run has what a stop depends on.
 use Rattle.std.specs.Prelude.{◌≡◌, ℕ, ◌+◌, ◌-◌, ◌<◌, ◌≤◌, ◌⊎◌, List, [], ◌∷◌, length, take, drop, Contains, Some, slice_get}
-use Rattle.path_rows.specs.Database.{RowView}
-use Rattle.path_rows.specs.declared.command.Command.{Command}
-use Rattle.path_rows.specs.Command.{database_after_all}
+use Rattle.path_db.specs.Database.{RowView}
+use Rattle.path_db.specs.declared.command.Command.{Command}
+use Rattle.path_db.specs.Command.{database_after_all}
 use Rattle.sector_dev.specs.Disk.{Moment, Disk, IsHonest, moments}
 use Rattle.sector_dev.specs.Image.{IsImage, EveryImage}
 use Rattle.store_layout.specs.Opening.{StoreValue}

@@ -1,4 +1,3 @@
 pub mod Codes
 pub mod Refusal
 pub mod Replies
-pub mod Checking

@@ -5,13 +5,13 @@ use Rattle.std.specs.List.{AllByRecursion}
 use Rattle.std.specs.Ordering.{is_eq}
 use Rattle.std.proofs.lemmas.List.{length-append, length-drop, length-take-le, length-map}
 use Rattle.std.proofs.lemmas.List.Sums.{sum_by-cons}
-use Rattle.path_rows.specs.declared.command.Command.{Command}
-use Rattle.path_rows.specs.declared.command.Command.TheVariants.{Register}
-use Rattle.path_rows.specs.Database.{RowView, row_under, row_len, rows_len, IsDatabase}
-use Rattle.path_rows.specs.Command.{database_after, database_after_all, HasWholeSegments}
-use Rattle.path_rows.specs.CommandLaws.{left_by_puts, left_under_all, KeysAreSeparate, CommandsKeepDatabase}
-use Rattle.path_db.specs.Key.{key_bytes}
-use Rattle.path_db.specs.RowRecord.{rows_encoding}
+use Rattle.path_db.specs.declared.command.Command.{Command}
+use Rattle.path_db.specs.declared.command.Command.TheVariants.{Register}
+use Rattle.path_db.specs.Database.{RowView, row_under, row_len, rows_len, IsDatabase}
+use Rattle.path_db.specs.Command.{database_after, database_after_all, HasWholeSegments}
+use Rattle.path_db.specs.CommandLaws.{left_by_puts, left_under_all, KeysAreSeparate, CommandsKeepDatabase}
+use Rattle.path_records.specs.Key.{key_bytes}
+use Rattle.path_records.specs.RowRecord.{rows_encoding}
 use Rattle.row_edits.specs.declared.edit.Edit.{Edit}
 use Rattle.row_edits.specs.declared.edit.Edit.TheVariants.{Keep, Pass, Put}
 use Rattle.row_edits.specs.declared.plan.Plan.{Plan}

@@ -8,14 +8,14 @@ use Rattle.seg_core.specs.declared.seg_type.SegType.{SegType}
 use Rattle.seg_core.specs.declared.seg_type.SegType.TheVariants.{Up, Down, Core}
 use Rattle.seg_core.specs.SegmentView.{SegmentView}
 use Rattle.seg_core.specs.Registration.{type_number}
-use Rattle.path_rows.specs.declared.command.Command.{Command}
-use Rattle.path_rows.specs.declared.command.Command.TheVariants.{Register}
-use Rattle.path_rows.specs.declared.row.Row.{Row}
-use Rattle.path_rows.specs.Database.{RowView, key, key_of, row_under}
-use Rattle.path_rows.specs.Command.{database_after, database_after_all}
-use Rattle.path_rows.specs.Row.{row_view}
-use Rattle.path_db.specs.declared.key.Key.{Key}
-use Rattle.path_db.specs.Key.{key_bytes}
+use Rattle.path_db.specs.declared.command.Command.{Command}
+use Rattle.path_db.specs.declared.command.Command.TheVariants.{Register}
+use Rattle.path_db.specs.declared.row.Row.{Row}
+use Rattle.path_db.specs.Database.{RowView, key, key_of, row_under}
+use Rattle.path_db.specs.Command.{database_after, database_after_all}
+use Rattle.path_db.specs.Row.{row_view}
+use Rattle.path_records.specs.declared.key.Key.{Key}
+use Rattle.path_records.specs.Key.{key_bytes}
 use Rattle.row_edits.specs.Edits.{views_if_any}
 use Rattle.row_edits.proofs.Keys.{IsOf, its_key, found_of}
 use Rattle.row_edits.proofs.Ends.{none_left_of}

@@ -11,10 +11,10 @@ use Rattle.std.proofs.Math.Seq.{drop-cons, take-append_seam}
 use Rattle.std.proofs.lemmas.Grind.{flat_map-append}
 use Rattle.std.proofs.lemmas.List.Concat.{flat_map-cons}
 use Rattle.std.proofs.lemmas.List.Sums.{sum_by-cons}
-use Rattle.path_rows.specs.Database.{RowView, key_of, row_len, rows_len}
-use Rattle.path_db.specs.declared.key.Key.{Key}
-use Rattle.path_db.specs.Key.{key_bytes}
-use Rattle.path_db.specs.RowRecord.{row_record, rows_encoding}
+use Rattle.path_db.specs.Database.{RowView, key_of, row_len, rows_len}
+use Rattle.path_records.specs.declared.key.Key.{Key}
+use Rattle.path_records.specs.Key.{key_bytes}
+use Rattle.path_records.specs.RowRecord.{row_record, rows_encoding}
 use Rattle.row_edits.specs.declared.edit.Edit.{Edit}
 use Rattle.row_edits.specs.declared.edit.Edit.TheVariants.{Keep, Pass, Put}
 use Rattle.row_edits.specs.Merging.{order_of, one_if, by_order, rows_left, merged}

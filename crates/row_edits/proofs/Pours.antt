@@ -6,8 +6,8 @@ use Rattle.std.specs.Int.{w32, to_be_bytes}
 use Rattle.std.specs.List.{copy_within}
 use Rattle.std.proofs.lemmas.List.Edits.{take-paste}
 use Rattle.seg_core.specs.Encoding.{segment_encoding}
-use Rattle.path_rows.specs.Database.{RowView, row_len}
-use Rattle.path_db.specs.RowRecord.{row_record}
+use Rattle.path_db.specs.Database.{RowView, row_len}
+use Rattle.path_records.specs.RowRecord.{row_record}
 use Rattle.row_edits.specs.declared.edit.Edit.{Edit}
 use Rattle.row_edits.specs.declared.edit.Edit.TheVariants.{Keep, Pass, Put}
 use Rattle.row_edits.specs.Edits.{record_if_any, len_if_any, edited, bytes_in, bytes_out}

@@ -2,10 +2,10 @@
 use Rattle.std.proofs.Common.{◌≡◌, ℕ, ◌<◌, max, Bool, true, false, List, ◌∷◌, if◌then◌else◌, refl, sym, ap, ◌∙◌, arith}
 use Rattle.std.specs.Prelude.{Option, nat_lt}
 use Rattle.std.proofs.lemmas.Bool.{ltb-true, lt-ltb, false≢true}
-use Rattle.path_rows.specs.declared.command.Command.{Command}
-use Rattle.path_rows.specs.declared.command.Command.TheVariants.{Register, Purge, Remove}
-use Rattle.path_rows.specs.Database.{RowView}
-use Rattle.path_rows.specs.Command.{is_valid_beyond}
+use Rattle.path_db.specs.declared.command.Command.{Command}
+use Rattle.path_db.specs.declared.command.Command.TheVariants.{Register, Purge, Remove}
+use Rattle.path_db.specs.Database.{RowView}
+use Rattle.path_db.specs.Command.{is_valid_beyond}
 use Rattle.seg_check.specs.Expiry.{expiry_of}
 use Rattle.row_edits.specs.Merging.{outlives, outlives_one}
 use Rattle.row_edits.specs.Planning.{is_beyond}

@@ -1,10 +1,10 @@
 -- What a planner has seen after one row more: for `planner`.
 use Rattle.std.proofs.Common.{◌≡◌, ℕ, ◌+◌, List, [], ◌∷◌, ◌++◌, length, Bool, refl, sym, ap, ◌∙◌, subst, arith}
 use Rattle.std.specs.Prelude.{Option, map}
-use Rattle.path_rows.specs.declared.command.Command.{Command}
-use Rattle.path_rows.specs.Database.{RowView}
-use Rattle.path_db.specs.declared.key.Key.{Key}
-use Rattle.path_db.specs.Key.{key_bytes}
+use Rattle.path_db.specs.declared.command.Command.{Command}
+use Rattle.path_db.specs.Database.{RowView}
+use Rattle.path_records.specs.declared.key.Key.{Key}
+use Rattle.path_records.specs.Key.{key_bytes}
 use Rattle.row_edits.specs.declared.planner.Planner.{Planner}
 use Rattle.row_edits.specs.Merging.{keys_named_by, KeysRise, Includes, outlives, merged}
 use Rattle.row_edits.specs.declared.edit.Edit.{Edit}

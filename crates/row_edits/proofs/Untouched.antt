@@ -3,12 +3,12 @@ use Rattle.std.proofs.Common.{◌≡◌, ℕ, Bool, true, false, not, List, [], 
 use Rattle.std.specs.Prelude.{Option, map}
 use Rattle.std.specs.Ordering.{is_eq}
 use Rattle.std.proofs.lemmas.Bool.{false≢true}
-use Rattle.path_rows.specs.declared.command.Command.{Command}
-use Rattle.path_rows.specs.declared.command.Command.TheVariants.{Register, Purge, Remove}
-use Rattle.path_rows.specs.Database.{RowView, key, key_of, is_under}
-use Rattle.path_rows.specs.Put.{is_newer}
-use Rattle.path_rows.specs.Command.{is_valid_beyond}
-use Rattle.path_rows.specs.CommandLaws.{winner, left_by_put, left_by_puts, kept_if, left_under_all}
+use Rattle.path_db.specs.declared.command.Command.{Command}
+use Rattle.path_db.specs.declared.command.Command.TheVariants.{Register, Purge, Remove}
+use Rattle.path_db.specs.Database.{RowView, key, key_of, is_under}
+use Rattle.path_db.specs.Put.{is_newer}
+use Rattle.path_db.specs.Command.{is_valid_beyond}
+use Rattle.path_db.specs.CommandLaws.{winner, left_by_put, left_by_puts, kept_if, left_under_all}
 use Rattle.row_edits.specs.Merging.{order_of, keys_named_by, has_key, outlives}
 use Rattle.row_edits.proofs.Keys.{itself, IsOf, its_key}
 

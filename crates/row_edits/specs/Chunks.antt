@@ -2,7 +2,7 @@
 -- made and not written, `rest` are those that are not made yet, and `written` counts the sectors
 -- that are written.
 use Rattle.std.specs.Prelude.{◌≡◌, ℕ, ◌+◌, ◌*◌, ◌≤◌, List, ◌++◌, length, take, drop}
-use Rattle.row_edits.specs.declared.pour.TheConstants.{PIECE}
+use Rattle.path_records.specs.declared.format.TheConstants.{PIECE}
 use Rattle.byte_lists.specs.Content.{part}
 use Rattle.byte_lists.specs.Sectors.{padded}
 use Rattle.byte_lists.specs.declared.format.TheConstants.{SECTOR}

@@ -2,10 +2,10 @@
 -- under a key.
 use Rattle.std.specs.Prelude.{ℕ, ◌+◌, List, [], ◌∷◌, ◌++◌, length, take, drop, map, Option, Some, None}
 use Rattle.std.specs.Option.{option_map, option_to_list}
-use Rattle.path_rows.specs.declared.row.Row.{Row}
-use Rattle.path_rows.specs.Database.{RowView, row_len}
-use Rattle.path_rows.specs.Row.{row_view}
-use Rattle.path_db.specs.RowRecord.{row_record}
+use Rattle.path_db.specs.declared.row.Row.{Row}
+use Rattle.path_db.specs.Database.{RowView, row_len}
+use Rattle.path_db.specs.Row.{row_view}
+use Rattle.path_records.specs.RowRecord.{row_record}
 use Rattle.row_edits.specs.declared.edit.Edit.{Edit}
 use Rattle.row_edits.specs.declared.edit.Edit.TheVariants.{Keep, Pass, Put}
 

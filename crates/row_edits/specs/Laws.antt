@@ -1,13 +1,13 @@
 -- The laws of merging.
 use Rattle.std.specs.Prelude.{◌≡◌, ℕ, List, map, true, Option, Some}
 use Rattle.std.specs.List.{AllByRecursion}
-use Rattle.path_rows.specs.declared.command.Command.{Command}
-use Rattle.path_rows.specs.Database.{RowView, row_under, IsDatabase}
-use Rattle.path_rows.specs.Command.{database_after_all, HasWholeSegments}
-use Rattle.path_rows.specs.CommandLaws.{left_under_all}
-use Rattle.path_db.specs.declared.key.Key.{Key}
-use Rattle.path_db.specs.Key.{key_bytes}
-use Rattle.path_db.specs.RowRecord.{rows_encoding}
+use Rattle.path_db.specs.declared.command.Command.{Command}
+use Rattle.path_db.specs.Database.{RowView, row_under, IsDatabase}
+use Rattle.path_db.specs.Command.{database_after_all, HasWholeSegments}
+use Rattle.path_db.specs.CommandLaws.{left_under_all}
+use Rattle.path_records.specs.declared.key.Key.{Key}
+use Rattle.path_records.specs.Key.{key_bytes}
+use Rattle.path_records.specs.RowRecord.{rows_encoding}
 use Rattle.row_edits.specs.declared.edit.Edit.{Edit}
 use Rattle.row_edits.specs.Edits.{edited}
 use Rattle.row_edits.specs.Planning.{is_beyond, MakesAll}

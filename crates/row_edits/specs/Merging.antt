@@ -7,10 +7,10 @@ use Rattle.std.specs.Ordering.{nat_cmp, is_eq}
 use Rattle.std.specs.Cmp.Lexicographic.{slice_cmp}
 use Rattle.std.specs.declared.cmp.Ordering.{Ordering}
 use Rattle.std.specs.declared.cmp.Ordering.TheVariants.{Less, Equal, Greater}
-use Rattle.path_rows.specs.declared.command.Command.{Command}
-use Rattle.path_rows.specs.declared.command.Command.TheVariants.{Register, Purge, Remove}
-use Rattle.path_rows.specs.Database.{RowView, key, key_of}
-use Rattle.path_rows.specs.Command.{is_valid_beyond}
+use Rattle.path_db.specs.declared.command.Command.{Command}
+use Rattle.path_db.specs.declared.command.Command.TheVariants.{Register, Purge, Remove}
+use Rattle.path_db.specs.Database.{RowView, key, key_of}
+use Rattle.path_db.specs.Command.{is_valid_beyond}
 
 -- The order of two keys, which is that of their bytes.
 abbrev pub order_of : List ℕ → List ℕ → Ordering

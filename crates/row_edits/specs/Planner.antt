@@ -1,10 +1,10 @@
 -- The planner: the rows that it has seen, and the plan that it returns.
 use Rattle.std.specs.Prelude.{◌≡◌, ℕ, ◌-◌, ◌^◌, ◌≤◌, List, [], ◌∷◌, ◌++◌, length, map, min, Bool}
-use Rattle.path_rows.specs.declared.command.Command.{Command}
-use Rattle.path_rows.specs.Database.{RowView, rows_len, IsDatabase}
-use Rattle.path_rows.specs.Command.{database_after_all}
-use Rattle.path_db.specs.Key.{key_bytes}
-use Rattle.path_db.specs.RowRecord.{rows_encoding}
+use Rattle.path_db.specs.declared.command.Command.{Command}
+use Rattle.path_db.specs.Database.{RowView, rows_len, IsDatabase}
+use Rattle.path_db.specs.Command.{database_after_all}
+use Rattle.path_records.specs.Key.{key_bytes}
+use Rattle.path_records.specs.RowRecord.{rows_encoding}
 use Rattle.row_edits.specs.declared.plan.Plan.{Plan}
 use Rattle.row_edits.specs.declared.planner.Planner.{Planner}
 use Rattle.row_edits.specs.Merging.{keys_named_by, KeysRise, Includes, outlives}

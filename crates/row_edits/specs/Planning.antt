@@ -1,10 +1,10 @@
 -- Planning: the edits that are made for the rows that were seen.
 use Rattle.std.specs.Prelude.{◌≡◌, ℕ, ◌+◌, ◌≤◌, List, [], ◌∷◌, ◌++◌, length, take, drop, map, Bool, true, false, Option, Some, None}
-use Rattle.path_rows.specs.Database.{RowView, rows_len}
-use Rattle.path_rows.specs.Command.{is_valid_beyond}
-use Rattle.path_db.specs.declared.key.Key.{Key}
-use Rattle.path_db.specs.Key.{key_bytes}
-use Rattle.path_db.specs.RowRecord.{rows_encoding}
+use Rattle.path_db.specs.Database.{RowView, rows_len}
+use Rattle.path_db.specs.Command.{is_valid_beyond}
+use Rattle.path_records.specs.declared.key.Key.{Key}
+use Rattle.path_records.specs.Key.{key_bytes}
+use Rattle.path_records.specs.RowRecord.{rows_encoding}
 use Rattle.row_edits.specs.declared.edit.Edit.{Edit}
 use Rattle.row_edits.specs.Merging.{one_if, rows_left, merged}
 use Rattle.row_edits.specs.Found.{rows_found}

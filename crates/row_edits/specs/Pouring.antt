@@ -1,11 +1,12 @@
 -- A pour: the bytes that are made and not taken yet, and those that are still to be made.
 use Rattle.std.specs.Prelude.{◌≡◌, ℕ, ◌+◌, ◌-◌, ◌<◌, ◌≤◌, ◌^◌, ◌⊎◌, List, [], ◌∷◌, ◌++◌, length, take, drop, Option}
-use Rattle.path_rows.specs.Database.{RowView}
+use Rattle.path_db.specs.Database.{RowView}
 use Rattle.row_edits.specs.declared.edit.Edit.{Edit}
 use Rattle.row_edits.specs.declared.edit.Edit.TheVariants.{Keep, Pass, Put}
 use Rattle.row_edits.specs.declared.pour.Pour.TheInside.{Inside}
 use Rattle.row_edits.specs.Edits.{record_if_any, views_if_any, edited, bytes_in, bytes_out}
-use Rattle.row_edits.specs.declared.pour.TheConstants.{BUFFER, PIECE}
+use Rattle.path_records.specs.declared.format.TheConstants.{PIECE}
+use Rattle.row_edits.specs.declared.pour.TheConstants.{BUFFER}
 
 -- A pour as contracts see it.
 pub record PourView : Type 0 where

@@ -2,14 +2,15 @@
 
 ghost use Rattle.std.specs.Prelude.{◌≡◌, ◌∷◌, [], map, IfOk, OnOk};
 ghost use Rattle.std.specs.Option.{option_map};
-ghost use Rattle.path_rows.specs.declared.command.Command.TheVariants.{Register};
-ghost use Rattle.path_rows.specs.Database.{row_under};
-ghost use Rattle.path_rows.specs.Command.{database_after_all};
-ghost use Rattle.path_rows.specs.Row.{row_view};
-ghost use Rattle.path_db.specs.Key.{key_bytes};
+ghost use Rattle.path_db.specs.declared.command.Command.TheVariants.{Register};
+ghost use Rattle.path_db.specs.Database.{row_under};
+ghost use Rattle.path_db.specs.Command.{database_after_all};
+ghost use Rattle.path_db.specs.Row.{row_view};
+ghost use Rattle.path_records.specs.Key.{key_bytes};
 ghost use Rattle.row_edits.specs.Edits.{views_if_any};
 
-use path_db::{Command, Key, PathDb, Registration, Row};
+use path_db::{Command, PathDb, Registration, Row};
+use path_records::Key;
 use seg_core::{SegType, Segment};
 use std::alloc::{AllocError, Global};
 

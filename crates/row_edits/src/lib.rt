@@ -25,5 +25,5 @@ pub use left_rows::settle;
 pub use note::RowsNote;
 pub use plan::Plan;
 pub use planner::Planner;
-pub use pour::{PIECE, Pour};
+pub use pour::Pour;
 pub use touched::{greatest_purge, touched_keys};

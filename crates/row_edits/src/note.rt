@@ -2,9 +2,9 @@
 
 ghost use Rattle.std.specs.Prelude.{◌≡◌, List, [], ◌∷◌, ◌++◌};
 ghost use Rattle.std.specs.Borrow.{ftrue};
-ghost use Rattle.path_rows.specs.Database.{RowView};
-ghost use Rattle.path_rows.specs.Row.{row_view};
-ghost use Rattle.path_rows.specs.Command.{database_after_all};
+ghost use Rattle.path_db.specs.Database.{RowView};
+ghost use Rattle.path_db.specs.Row.{row_view};
+ghost use Rattle.path_db.specs.Command.{database_after_all};
 
 use path_db::{Command, Row};
 use std::marker::Model;
@@ -12,7 +12,7 @@ use std::marker::Model;
 /// The source of a note's rows.
 trait NoteSource {
     ghost use Rattle.std.specs.Prelude.{List};
-    ghost use Rattle.path_rows.specs.Database.{RowView};
+    ghost use Rattle.path_db.specs.Database.{RowView};
 
     ghost rows: { Self → List RowView };
 }

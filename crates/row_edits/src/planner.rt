@@ -1,9 +1,9 @@
 //! Planning in one pass over the rows before.
 
 ghost use Rattle.std.specs.Prelude.{◌≡◌, ◌∷◌, ◌++◌, [], List, true, false, IfOk, OnOk};
-ghost use Rattle.path_rows.specs.declared.command.Command.{Command};
-ghost use Rattle.path_rows.specs.Database.{RowView, IsDatabase, row_len};
-ghost use Rattle.path_rows.specs.Row.{row_view};
+ghost use Rattle.path_db.specs.declared.command.Command.{Command};
+ghost use Rattle.path_db.specs.Database.{RowView, IsDatabase, row_len};
+ghost use Rattle.path_db.specs.Row.{row_view};
 ghost use Rattle.row_edits.specs.Planning.{is_beyond};
 ghost use Rattle.row_edits.specs.Planner.{HasSeen, IsPlanOf, PlansOn};
 
@@ -15,7 +15,8 @@ use crate::putting::{push_edit, put_rest, put_up_to};
 use crate::totals::{kept_bytes, put_bytes, put_rows};
 use crate::touched::{greatest_purge, touched_keys};
 use crate::whole::commands_are_whole;
-use path_db::{Command, Key, ROW_HEAD, Row, commands_keep_database, keys_are_separate};
+use path_db::{Command, ROW_HEAD, Row, commands_keep_database, keys_are_separate};
+use path_records::Key;
 use seg_check::expiry;
 use seg_core::{SegType, Segment, encoded_len};
 use std::alloc::{AllocError, Global};

@@ -2,17 +2,16 @@
 
 ghost use Rattle.std.specs.Prelude.{◌≡◌, ◌<◌, ◌≤◌, ◌∷◌, [], true, false, length, drop};
 ghost use Rattle.row_edits.specs.declared.edit.Edit.TheVariants.{Keep};
-ghost use Rattle.row_edits.specs.declared.pour.TheConstants.{BUFFER, PIECE};
+ghost use Rattle.path_records.specs.declared.format.TheConstants.{PIECE};
+ghost use Rattle.row_edits.specs.declared.pour.TheConstants.{BUFFER};
 
 use crate::edit::Edit;
 use crate::pour_buffer::{cut_front, put_if_any, put_part};
-use byte_lists::{SECTOR, put};
+use byte_lists::put;
 use path_db::{MOST_ROW_BYTES, Row};
+use path_records::PIECE;
 use std::alloc::{AllocError, Global};
 use std::marker::Model;
-
-/// The bytes of a piece: 256 sectors of 512 bytes.
-pub const PIECE: usize = 256 * SECTOR;
 
 /// The bytes of the buffer: a piece, and the greatest record of a row.
 const BUFFER: usize = PIECE + MOST_ROW_BYTES;

@@ -2,11 +2,12 @@
 
 ghost use Rattle.std.specs.Prelude.{◌≡◌, ◌+◌, ◌-◌, ◌≤◌, ◌++◌, length, take, drop};
 ghost use Rattle.std.specs.Option.{option_map};
-ghost use Rattle.path_rows.specs.Row.{row_view};
+ghost use Rattle.path_db.specs.Row.{row_view};
 ghost use Rattle.row_edits.specs.Edits.{record_if_any};
 
 use byte_lists::put;
-use path_db::{ROW_HEAD, Row, row_head};
+use path_db::{ROW_HEAD, Row};
+use path_records::row_head;
 
 /// Appends the record of a row, where there is one, and returns the number of bytes that are in use
 /// then.

@@ -2,7 +2,7 @@
 
 ghost use Rattle.std.specs.Prelude.{◌≡◌, ◌^◌, ◌-◌, length, min};
 ghost use Rattle.std.specs.Option.{option_map, option_to_list};
-ghost use Rattle.path_rows.specs.Row.{row_view};
+ghost use Rattle.path_db.specs.Row.{row_view};
 ghost use Rattle.row_edits.specs.Edits.{bytes_kept, bytes_put, count_rows, kept_by, len_if_any, views_if_any};
 
 use crate::edit::Edit;

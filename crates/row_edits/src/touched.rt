@@ -2,14 +2,15 @@
 
 ghost use Rattle.std.specs.Prelude.{◌≡◌, ◌++◌, List, ℕ, None, IfOk, OnOk, map, false, if◌then◌else◌};
 ghost use Rattle.std.specs.Option.{option_map};
-ghost use Rattle.path_rows.specs.Command.{is_valid_beyond};
-ghost use Rattle.path_rows.specs.Database.{RowView, key_of};
-ghost use Rattle.path_db.specs.Key.{key_bytes};
+ghost use Rattle.path_db.specs.Command.{is_valid_beyond};
+ghost use Rattle.path_db.specs.Database.{RowView, key_of};
+ghost use Rattle.path_records.specs.Key.{key_bytes};
 ghost use Rattle.row_edits.specs.Merging.{keys_named, keys_named_by, outlives, outlives_one, has_key, KeysRise, Includes};
 ghost use Rattle.row_edits.specs.Planning.{is_beyond};
 ghost use Rattle.row_edits.specs.Touched.{IsKeyOrder, is_key_above, risen};
 
-use path_db::{Command, Key};
+use path_db::Command;
+use path_records::Key;
 use seg_core::{SegType, Segment};
 use std::alloc::{AllocError, Global};
 

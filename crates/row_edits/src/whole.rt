@@ -1,8 +1,8 @@
 //! Laws of commands, by the types of the segments in them. The functions change nothing.
 
 ghost use Rattle.std.specs.List.{AllByRecursion};
-ghost use Rattle.path_rows.specs.Database.{AreWhole};
-ghost use Rattle.path_rows.specs.Command.{HasWholeSegments};
+ghost use Rattle.path_db.specs.Database.{AreWhole};
+ghost use Rattle.path_db.specs.Command.{HasWholeSegments};
 
 use path_db::Command;
 use seg_core::{SegType, Segment, encoded_len};

@@ -1,4 +1,5 @@
 pub mod Digests
 pub mod Expiries
 pub mod Checks
+mod ManyChecks
 pub mod Exports

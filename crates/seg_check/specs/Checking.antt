@@ -1,5 +1,7 @@
 -- When a segment is accepted, and the first refusal of a segment that is not.
 use Rattle.std.specs.Prelude.{◌≡◌, ℕ, ◌<◌, ◌≤◌, List, [], ◌∷◌, ◌++◌, length, Bool, IsTrue, nat_le, if◌then◌else◌, Option, Some, None}
+use Rattle.std.specs.Option.{option_or}
+use Rattle.seg_core.specs.declared.seg_type.SegType.{SegType}
 use Rattle.seg_core.specs.SegmentView.{EntryView, SegmentView}
 use Rattle.seg_core.specs.Encoding.{IsSegment}
 use Rattle.seg_check.specs.declared.error.CheckError.{CheckError}
@@ -51,3 +53,8 @@ check_error_of None expired = if expired then Some Expired else None
 -- The first refusal of a segment: the signatures of its entries in order, then its expiry.
 unfoldable pub check_refusal : Verdicts → ℕ → SegmentView → Option CheckError
 check_refusal verifies now s = check_error_of (first_bad verifies s.info s.entries) (nat_le (expiry_of s) now)
+
+-- The refusal of the first segment that is not accepted, of the segments of a registration.
+abbrev pub first_refusal : Verdicts → ℕ → List (SegType × SegmentView) → Option CheckError
+first_refusal verifies now [] = None
+first_refusal verifies now (row ∷ rows) = option_or (check_refusal verifies now row.1) (first_refusal verifies now rows)

@@ -1,14 +1,14 @@
-//! Whether a segment is accepted.
+//! Whether a segment is accepted, and whether the segments of a registration are.
 
 ghost use Rattle.std.specs.Prelude.{◌≡◌, ◌↔◌, [], IsOk};
 ghost use Rattle.std.specs.Result.{result_err};
 ghost use Rattle.seg_core.specs.Encoding.{IsSegment};
-ghost use Rattle.seg_check.specs.Checking.{IsAccepted, first_bad, check_refusal};
+ghost use Rattle.seg_check.specs.Checking.{IsAccepted, first_bad, check_refusal, first_refusal};
 
 use crate::error::CheckError;
 use crate::expiring::expiry;
 use crate::verifier::Verifier;
-use seg_core::Segment;
+use seg_core::{SegType, Segment};
 
 /// The most pieces that a signature covers: the segment's information, and two for each of 63
 /// earlier entries.
@@ -27,6 +27,21 @@ pub fn check<V: Verifier>(segment: &Segment, verifier: &V, now: u64) -> Result<(
     }
     if expiry(segment) <= now {
         return Err(CheckError::Expired);
+    }
+    Ok(())
+}
+
+/// Checks segments in their order, at a moment in half seconds since 1970. The error is the refusal
+/// of the first segment that is not accepted.
+pub fn check_all<V: Verifier>(
+    segments: &[(SegType, Segment)],
+    verifier: &V,
+    now: u64,
+) -> Result<(), CheckError>
+    ensures { result_err result ≡ first_refusal (V.verifies verifier.now) now segments.now }
+{
+    for row in segments {
+        check(&row.1, verifier, now)?;
     }
     Ok(())
 }

@@ -1,7 +1,7 @@
 //! The id and the expiry of a path segment, and the check that it is accepted.
 //!
 //! To the layer above, the id and the expiry are functions of the segment alone, and a check
-//! returns exactly the first refusal. The caller supplies a `Verifier`, which decides whether a
+//! returns exactly the first refusal, also that of several segments (`check_all`). The caller supplies a `Verifier`, which decides whether a
 //! signature is good.
 #![tactic(auto)]
 
@@ -13,7 +13,7 @@ mod keyed;
 mod laws;
 mod verifier;
 
-pub use checking::check;
+pub use checking::{check, check_all};
 pub use digest::seg_id;
 pub use error::CheckError;
 pub use expiring::expiry;

@@ -3,12 +3,12 @@
 ghost use Rattle.std.specs.Prelude.{◌≡◌, ◌<◌, ◌≤◌, length, IfOk, OnErr};
 ghost use Rattle.std.specs.List.{AllByRecursion};
 ghost use Rattle.seg_core.specs.Encoding.{IsSegment};
-ghost use Rattle.path_rows.specs.Answer.{segments_of};
+ghost use Rattle.path_db.specs.Answer.{segments_of};
 ghost use Rattle.seg_lookup.specs.Query.{query_view};
 ghost use Rattle.seg_lookup.specs.Answer.{answer_to};
 
 use crate::query::Query;
-use path_rows::PathDb;
+use path_db::PathDb;
 use seg_core::Segment;
 use std::alloc::AllocError;
 

@@ -32,7 +32,7 @@ pub use format::{LENGTH_SIZE, MOST_LENGTH, MOST_REPLY};
 pub use framer::{Fed, Framer};
 pub use lines::serve_in_lines;
 pub use message::Message;
-pub use path_rows::Outcome;
+pub use path_db::Outcome;
 pub use reading::read_all;
 pub use reply::{Form, Reply, refusal_frame};
 pub use service::{Ack, Code, MOST_SEGMENTS, Service};

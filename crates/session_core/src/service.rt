@@ -13,7 +13,7 @@ ghost use Rattle.session_core.specs.declared.command_kind.CommandKind.{CommandKi
 ghost use Rattle.session_core.specs.declared.message.Message.TheVariants.{Register, Lookup, Purge, Remove};
 
 use crate::message::Message;
-use path_rows::Outcome;
+use path_db::Outcome;
 use seg_core::{SegType, Segment};
 use std::alloc::Global;
 

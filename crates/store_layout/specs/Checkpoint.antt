@@ -3,6 +3,7 @@
 use Rattle.std.specs.Prelude.{◌≡◌, ℕ, ◌+◌, ◌^◌, ◌<◌, ◌≤◌, List, ◌++◌, length, take}
 use Rattle.std.specs.Int.{w32, w64, to_be_bytes}
 use Rattle.byte_lists.specs.Sectors.{padded}
+use Rattle.store_layout.specs.declared.format.TheConstants.{BEFORE_ROWS}
 use Rattle.store_layout.specs.Group.{last_place}
 use Rattle.store_layout.specs.StoreFormat.{RowsFormat, IsStorable, StoreFormat}
 
@@ -66,7 +67,7 @@ pub record IsHead (area : List ℕ) (head : Head) : Type 0 where
 
 -- The length of a checkpoint in bytes.
 abbrev pub checkpoint_size : {Db : Type 0} → RowsFormat Db → Checkpoint Db → ℕ
-checkpoint_size rows checkpoint = 32 + length (rows.encoding checkpoint.db)
+checkpoint_size rows checkpoint = BEFORE_ROWS + length (rows.encoding checkpoint.db)
 
 -- An area begins with all bytes of this checkpoint.
 pub record IsCheckpoint {Db : Type 0} (rows : RowsFormat Db) (area : List ℕ) (checkpoint : Checkpoint Db) : Type 0 where

@@ -3,6 +3,7 @@
 use Rattle.std.specs.Prelude.{◌≡◌, ◌≢◌, ℕ, ◌+◌, ◌<◌, List, length, Result, Ok, Err, Option, Some, None, if◌then◌else◌, ◌==◌, nat_le}
 use Rattle.byte_lists.specs.Content.{part}
 use Rattle.byte_lists.specs.Numbers.{four_at, eight_at}
+use Rattle.store_layout.specs.declared.format.TheConstants.{BEFORE_ROWS}
 use Rattle.store_layout.specs.GroupReading.{refuse_unless}
 use Rattle.store_layout.specs.StoreFormat.{RowsFormat}
 use Rattle.store_layout.specs.Checkpoint.{Head, Checkpoint, checkpoint_magic}
@@ -41,7 +42,7 @@ rows_count area = four_at 28 area
 -- The database of the rows. `None` where the rows do not end within the area.
 abbrev pub db_in : {Db : Type 0} → RowsFormat Db → List ℕ → Option Db
 db_in rows area =
-    if nat_le (32 + rows_size area) (length area) then rows.decoding (rows_count area) (part 32 (rows_size area) area) else None
+    if nat_le (BEFORE_ROWS + rows_size area) (length area) then rows.decoding (rows_count area) (part BEFORE_ROWS (rows_size area) area) else None
 
 -- The checkpoint of a head and of a database, or the first refusal.
 abbrev pub with_rows : {Db : Type 0} → Result Head PairRefusal → Option Db → Result (Checkpoint Db) PairRefusal

@@ -20,7 +20,7 @@ pub use checkpoint_laws::{
     checkpoints_are_read, checkpoints_are_written, first_checkpoints_can_be,
     first_sectors_are_read, heads_are_read,
 };
-pub use format::{LEAST_CHECKPOINT, LEAST_JOURNAL, MOST_SECTORS};
+pub use format::{BEFORE_ROWS, LEAST_CHECKPOINT, LEAST_JOURNAL, MOST_SECTORS};
 pub use geometry::Geometry;
 pub use growth_laws::{
     closed_areas_may_change, halves_switch_by_their_gate, halves_take_over_the_same,

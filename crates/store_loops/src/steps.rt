@@ -20,8 +20,6 @@ pub enum Awaited {
     Work,
     /// A sealed journal: the checkpointer waits for it.
     Seal,
-    /// That the command of this place is committed: whoever has submitted it waits for that.
-    Outcome(u64),
 }
 
 /// A state that several threads work on. Each call but `changes` and `rest` makes one call of the
@@ -31,7 +29,7 @@ pub enum Awaited {
 /// call to the next. A value that is returned is the one that was passed.
 pub trait Steps {
     ghost use Rattle.std.specs.Prelude.{List};
-    ghost use Rattle.path_rows.specs.Database.{RowView};
+    ghost use Rattle.path_db.specs.Database.{RowView};
     ghost use Rattle.store_layout.specs.Opening.{StoreValue};
 
     /// What a receipt says of the rows that were shown when it was given.

@@ -5,6 +5,7 @@
 mod answers;
 mod changed_bytes;
 mod checkpoints;
+mod copies;
 mod formatting;
 mod hostile;
 mod pieces;

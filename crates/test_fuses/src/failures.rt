@@ -3,9 +3,10 @@
 
 use crate::left::{Ending, Left};
 use crate::scripts::{Script, fronted, seen};
-use sector_dev::{Device, FuseDevice, MemDevice, SECTOR, Tear};
+use sector_dev::{Device, MemDevice, SECTOR};
 use std::alloc::Global;
 use store_open::{OpenError, open};
+use test_fault_devices::{FuseDevice, Tear};
 use test_group_scripts::acts::{Act, Line};
 use test_group_scripts::noted::{Calls, Noted};
 use test_group_scripts::runs::{begun, done, ended};

@@ -3,10 +3,11 @@
 use crate::failures::{Failure, failing_runs};
 use crate::host::Host;
 use crate::scripts::{Script, long_script, short_script};
-use sector_dev::{DevError, Device, FaultDevice, MemDevice};
+use sector_dev::{DevError, Device, MemDevice};
 use std::alloc::Global;
 use std::process::Abort;
 use std::test::Fail;
+use test_fault_devices::FaultDevice;
 
 /// A device, with how many calls were made of it after its first fault.
 #[derive(Drop)]

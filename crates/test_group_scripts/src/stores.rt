@@ -1,10 +1,11 @@
 //! Stores on devices in memory, and commands.
 
 use path_db::{Command, PathDb, Registration};
-use sector_dev::{Device, MemDevice, SECTOR, Tear};
+use sector_dev::{Device, MemDevice, SECTOR};
 use seg_core::{SegType, Segment, read_segment};
 use std::alloc::{AllocError, Global};
 use store_open::{Geometry, OpenError, Store, format, open};
+use test_fault_devices::Tear;
 use test_support::{TestHost, assert_same, assert_true, leaving_by};
 
 /// The least sizes that are allowed: sector 0, and then for each half two sectors of checkpoint

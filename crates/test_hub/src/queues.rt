@@ -8,6 +8,7 @@ mod busy;
 mod crews;
 mod crowds;
 mod faults;
+mod full;
 mod host;
 mod refused;
 mod said;

@@ -121,17 +121,16 @@ pub fn receipt_of<S: Steps>(
     steps: &S,
     ticket: Ticket,
 ) -> Option<Receipt<S::Note>> {
-    let awaited = Awaited::Outcome(ticket.place());
     let mut ticket = ticket;
     for _ in 0..MOST_RESTS {
-        let seen = steps.changes(awaited);
+        let seen = steps.changes(Awaited::Work);
         match steps.redeem(ticket) {
             Redeemed::Committed(receipt) => return Some(receipt),
             Redeemed::Unknown(_place) => return None,
             Redeemed::Waiting(back) => ticket = back,
             Redeemed::Stranger(back) => ticket = back,
         }
-        steps.rest(awaited, seen);
+        steps.rest(Awaited::Work, seen);
     }
     rt.fail("a command is not committed")
 }

@@ -1,5 +1,5 @@
-//! Tests of `path_db`. They check what no contract states: values from outside, that calls succeed
-//! where memory suffices, and the database where memory is refused.
+//! Tests of `path_db` and `path_records`. They check what no contract states: values from outside,
+//! that calls succeed where memory suffices, and the database where memory is refused.
 
 mod commands;
 mod drops;

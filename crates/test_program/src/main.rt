@@ -4,8 +4,10 @@
 //! sessions as may be open at one time. The files are made in the folder that the program runs in.
 #![tactic(auto)]
 
+mod copies;
 mod given;
 mod images;
+mod input;
 mod once;
 mod output;
 mod parts;
@@ -17,8 +19,9 @@ mod words;
 
 use crate::given::{ADDRESS, Bound, Given};
 use crate::images::Change;
+use crate::input::Input;
 use crate::output::Output;
-use crate::parts::{Before, Line, PARTS};
+use crate::parts::{Before, Line};
 use crate::peers::meet;
 use byte_lists::SECTOR;
 use cli_program::carry_out;
@@ -42,16 +45,24 @@ type Handles = (Option<File>, Option<TcpListener>, Option<TcpStream>);
 
 fn main(rt: HostRuntime) -> io::Result<()> {
     let bound = Arc::new(rt.alloc(), Bound::new(&rt, rt.alloc())?)?;
-    for part in PARTS.iter().copied().flatten() {
+    // Each module hands its table out: the prover writes a constant out where it is named.
+    let all = [
+        words::parts(),
+        once::parts(),
+        stores::parts(),
+        served::parts(),
+        copies::parts(),
+    ];
+    for part in all.into_iter().flatten() {
         println!(rt; "# {}", part.what)?;
         let _lock = prepared(&rt, &part.before)?;
-        for (line, texts) in part.lines {
-            println!(rt; "$ {line}")?;
+        for line in part.lines {
+            println!(rt; "$ {}", line.0)?;
             let GivenLine {
                 given,
                 input,
                 output,
-            } = asked(rt, rt.stdout(), &bound, &part.before, (*line, *texts))?;
+            } = asked(rt, rt.stdout(), &bound, &part.before, *line)?;
             let (status, met) = thread::join(
                 &rt,
                 || {
@@ -72,7 +83,7 @@ fn main(rt: HostRuntime) -> io::Result<()> {
 /// A command line that is carried out: its system, its input and its output.
 struct GivenLine<R> {
     given: Given<R>,
-    input: VecDeque<u8>,
+    input: Input,
     output: Output,
 }
 
@@ -85,7 +96,7 @@ fn asked<R: AllocGlobal + Files<File = File> + Wait + Clock + Drop>(
     (line, texts): Line,
 ) -> io::Result<GivenLine<R>> {
     let words = words_of(&rt, line, bound)?;
-    let input = joined(&rt, texts)?;
+    let input = Input::new(joined(&rt, texts)?, before);
     let output = Output::new(&rt, standard, before)?;
     let given = Given::new(rt, words, bound, matches!(before, Before::NoLog))?;
     Ok(GivenLine {
@@ -142,7 +153,7 @@ fn prepared<R: AllocGlobal + Files<File = File>>(
             file.lock_shared()?;
             Ok(Some(file))
         }
-        Before::Changes(changes) => {
+        Before::Changes(changes) | Before::Terminal(changes) => {
             change(rt, changes)?;
             Ok(None)
         }

@@ -85,9 +85,14 @@ const WILDCARDS: Line = ("pathd once --hex --cores 1-ff00:0:110,2-64512", &[
     "000000110208858080808080401086808080808040", // 1-5 to 1-6
 ]);
 
+/// The parts that this module is about.
+pub(crate) fn parts() -> &'static [Part] {
+    PARTS
+}
+
 /// The parts of sessions.
 #[rattlefmt::skip]
-pub(crate) const PARTS: &[Part] = &[
+const PARTS: &[Part] = &[
     Part {
         what: "replies to messages",
         before: Before::Nothing,

@@ -2,7 +2,6 @@
 //! met meanwhile.
 
 use crate::images::Change;
-use crate::{once, served, stores, words};
 
 /// A command line, and what it reads from standard input: these texts, one after the other.
 pub(crate) type Line = (&'static str, &'static [&'static str]);
@@ -19,6 +18,15 @@ pub(crate) enum Before {
     Locked,
     /// The file `damaged` is the file `store`, with these changes.
     Changes(&'static [Change]),
+    /// The same, and standard input and output are taken for a terminal.
+    Terminal(&'static [Change]),
+}
+
+impl Before {
+    /// Whether standard input and output are taken for a terminal.
+    pub(crate) fn is_terminal(&self) -> bool {
+        matches!(self, Before::Terminal(_))
+    }
 }
 
 /// The peers that are met while a command line is carried out.
@@ -48,6 +56,3 @@ pub(crate) struct Part {
     pub(crate) peers: Peers,
     pub(crate) lines: &'static [Line],
 }
-
-/// The parts, by what they are about.
-pub(crate) const PARTS: [&[Part]; 4] = [words::PARTS, once::PARTS, stores::PARTS, served::PARTS];

@@ -18,8 +18,13 @@ const PURGE: &str = "00000009030000000000000000";
 /// An empty registration, and a removal of another length than 34.
 const FAULTY: &str = "0000000101000000020400";
 
+/// The parts that this module is about.
+pub(crate) fn parts() -> &'static [Part] {
+    PARTS
+}
+
 /// The parts of served stores.
-pub(crate) const PARTS: &[Part] = &[
+const PARTS: &[Part] = &[
     Part {
         what: "rows that no checkpoint has room for",
         before: Before::Nothing,

@@ -8,8 +8,13 @@ use crate::images::{
 use crate::parts::{Before, NO_PEERS, Part};
 use test_support::ENTRIES;
 
+/// The parts that this module is about.
+pub(crate) fn parts() -> &'static [Part] {
+    PARTS
+}
+
 /// The parts of stores at rest.
-pub(crate) const PARTS: &[Part] = &[
+const PARTS: &[Part] = &[
     Part {
         what: "the file of a store",
         before: Before::Nothing,
@@ -68,6 +73,99 @@ pub(crate) const PARTS: &[Part] = &[
             ("pathd run store --listen 127.0.0.1:0", &[]),
             ("pathd status store", &[]),
         ],
+    },
+    Part {
+        what: "a store is there, and nobody is asked",
+        before: Before::Changes(&[]),
+        peers: NO_PEERS,
+        lines: &[
+            (
+                "pathd format damaged --checkpoint 3 --journal 517 --new",
+                &["yes\n"],
+            ),
+            ("pathd status damaged", &[]),
+            (
+                "pathd format damaged --checkpoint 3 --journal 517",
+                &["no\n"],
+            ),
+            (
+                "pathd format damaged --checkpoint 2 --journal 516 --force",
+                &[],
+            ),
+            (
+                "pathd format another --checkpoint 2 --journal 516 --new",
+                &[],
+            ),
+            (
+                "pathd format another --checkpoint 2 --journal 516 --new",
+                &[],
+            ),
+        ],
+    },
+    Part {
+        what: "a store is there, and a terminal",
+        before: Before::Terminal(&[(FIRST_JOURNAL, OPEN), (FIRST_JOURNAL + 1, PURGE)]),
+        peers: NO_PEERS,
+        lines: &[
+            ("pathd format damaged --checkpoint 3 --journal 517", &[]),
+            (
+                "pathd format damaged --checkpoint 3 --journal 517",
+                &["y\n"],
+            ),
+            (
+                "pathd format damaged --checkpoint 3 --journal 517",
+                &["Yes\n"],
+            ),
+            (
+                "pathd format damaged --checkpoint 3 --journal 517",
+                &["yes"],
+            ),
+            (
+                "pathd format damaged --checkpoint 3 --journal 517",
+                &["yes please\n"],
+            ),
+            (
+                "pathd format damaged --checkpoint 3 --journal 517 --new",
+                &["yes\n"],
+            ),
+            ("pathd status damaged", &[]),
+            (
+                "pathd format damaged --checkpoint 3 --journal 517",
+                &["yes\n"],
+            ),
+            ("pathd status damaged", &[]),
+            (
+                "pathd format damaged --checkpoint 2 --journal 516 --force",
+                &[],
+            ),
+            (
+                "pathd format other --checkpoint 2 --journal 516 --force",
+                &[],
+            ),
+        ],
+    },
+    Part {
+        what: "a store that does not open is there, and a terminal",
+        before: Before::Terminal(&[(FIRST_GATE, CLOSED)]),
+        peers: NO_PEERS,
+        lines: &[
+            (
+                "pathd format damaged --checkpoint 2 --journal 516",
+                &["no\n"],
+            ),
+            ("pathd show damaged", &[]),
+            (
+                "pathd format damaged --checkpoint 2 --journal 516",
+                &["yes\n"],
+            ),
+            ("pathd show damaged", &[]),
+        ],
+    },
+    Part {
+        what: "no store is there, and a terminal",
+        before: Before::Terminal(&[(TITLE, b"X")]),
+        peers: NO_PEERS,
+        lines: &[("pathd format damaged --checkpoint 2 --journal 516", &[])],
     },
     Part {
         what: "another magic",

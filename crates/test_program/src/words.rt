@@ -15,8 +15,13 @@ macro_rules! long_key {
     };
 }
 
+/// The parts that this module is about.
+pub(crate) fn parts() -> &'static [Part] {
+    PARTS
+}
+
 /// The parts of words alone.
-pub(crate) const PARTS: &[Part] = &[
+const PARTS: &[Part] = &[
     Part {
         what: "words that are not read",
         before: Before::Nothing,
@@ -39,6 +44,10 @@ pub(crate) const PARTS: &[Part] = &[
             ("pathd format d --checkpoint 2 --journal 1048577", &[]),
             ("pathd format d --checkpoint +2 --journal 516", &[]),
             ("pathd format d --checkpoint 2 --journal +516", &[]),
+            (
+                "pathd format d --checkpoint 2 --journal 516 --new --force",
+                &[],
+            ),
             ("pathd once --now=", &[]),
             ("pathd once --now=+5", &[]),
             ("pathd once --now=+0", &[]),
@@ -63,6 +72,7 @@ pub(crate) const PARTS: &[Part] = &[
             ("pathd once --help", &[]),
             ("pathd format --help", &[]),
             ("pathd help format", &[]),
+            ("pathd copy --help", &[]),
             ("pathd show -h", &[]),
             ("pathd status --help", &[]),
             ("pathd upgrade --help", &[]),

@@ -1,7 +1,5 @@
-//! Tests of `path_server` over the loopback, and of the command line.
+//! Tests of `path_server` over the loopback.
 #![tactic(auto)]
 
-#[cfg(test)]
-mod cli;
 #[cfg(test)]
 mod server;

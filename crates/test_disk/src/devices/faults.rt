@@ -1,8 +1,9 @@
 //! A device of which one call fails.
 use crate::devices::calls::{CALLS, assert_call, assert_sectors};
-use sector_dev::{DevError, FaultDevice, MemDevice};
+use sector_dev::{DevError, MemDevice};
 use std::process::Abort;
 use std::test::Fail;
+use test_fault_devices::FaultDevice;
 
 // The number of the failing call, and the contents of the sectors 1, 2 and 3 then.
 const FAULTS: [(u64, [u8; 3]); 7] = [

@@ -1,10 +1,11 @@
 //! A device over a file in memory.
 use crate::devices::calls::{CALLS, assert_answer, assert_call, assert_calls, assert_sectors};
 use crate::devices::same::assert_same;
-use sector_dev::{CachedFile, CountedFile, Device, FileDevice, MemDevice, MemFile, SECTOR};
+use sector_dev::{CountedFile, Device, FileDevice, MemDevice, SECTOR};
 use std::alloc::Global;
 use std::process::Abort;
 use std::test::Fail;
+use test_fault_devices::{CachedFile, MemFile};
 
 // A device over these bytes, of which one transfer moves at most `at_most`.
 fn device_of(

@@ -1,8 +1,9 @@
 //! A fuse that stops at each call in turn.
 use crate::devices::calls::{CALLS, assert_answer, assert_sectors};
-use sector_dev::{Device, FuseDevice, MemDevice, Tear};
+use sector_dev::{Device, MemDevice};
 use std::process::Abort;
 use std::test::Fail;
+use test_fault_devices::{FuseDevice, Tear};
 
 // The byte that fills the torn part of a write.
 const FILL: u8 = 0xFF;

@@ -1,10 +1,11 @@
 //! A device with a gate before each sync.
 use crate::devices::calls::{assert_answer, assert_sectors};
 use crate::devices::same::assert_same;
-use sector_dev::{DevError, Device, FaultDevice, Gate, HeldDevice, MemDevice};
+use sector_dev::{DevError, Device, MemDevice};
 use std::cell::Cell;
 use std::process::Abort;
 use std::test::Fail;
+use test_fault_devices::{FaultDevice, Gate, HeldDevice};
 
 #[derive(Drop)]
 struct PassCounter {

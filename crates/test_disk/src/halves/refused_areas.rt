@@ -6,7 +6,8 @@ use crate::halves::area::{area, changed, rows_of};
 use ckpt_pair::{
     Checkpoint, Head, PairError, RowsReader, encode_checkpoint, feed_rows, finish_rows, read_half,
 };
-use path_db::{PathDb, write_rows};
+use path_db::PathDb;
+use path_records::write_rows;
 use std::alloc::Global;
 use std::process::Abort;
 use std::test::Fail;

@@ -4,12 +4,13 @@ use crate::openings::answers::{Held, State, assert_store, held_by, state_of, usa
 use crate::openings::stores::{
     PLAIN, SECTORS, Worked, new_store, opened, read_sector, worked_store,
 };
-use sector_dev::{FaultDevice, FuseDevice, MemDevice, SECTOR, Tear};
+use sector_dev::{MemDevice, SECTOR};
 use std::alloc::Global;
 use std::process::Abort;
 use std::test::Fail;
 use store_layout::Half;
 use store_open::{Store, StoreError, open};
+use test_fault_devices::{FaultDevice, FuseDevice, Tear};
 
 /// How many calls of the device a checkpoint makes: three writes, and a sync after each.
 const CALLS: u64 = 6;

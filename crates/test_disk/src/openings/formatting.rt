@@ -1,9 +1,10 @@
 //! New stores, to the byte.
 use crate::openings::stores::LEAST;
-use sector_dev::{Device, FaultDevice, MemDevice, SECTOR};
+use sector_dev::{Device, MemDevice, SECTOR};
 use std::test::Fail;
 use store_open::FormatError::{self, BadGeometry, TooSmall};
 use store_open::{Geometry, format, read_geometry};
+use test_fault_devices::FaultDevice;
 
 // How many calls of the device it takes to make a store.
 const CALLS: u64 = 7;

@@ -2,7 +2,8 @@
 
 use crate::openings::answers::{Held, assert_store, usable};
 use crate::openings::stores::{opened, put, read_sector};
-use path_db::{PathDb, read_command, write_rows};
+use path_db::PathDb;
+use path_records::{read_command, write_rows};
 use sector_dev::{Device, MemDevice};
 use std::alloc::Global;
 use std::process::Abort;
@@ -45,7 +46,7 @@ fn register(alloc: Global, db: &mut PathDb, first: u8, egress: u8) -> Result<(),
     let mut bytes = Vec::with_capacity(alloc, 96)?;
     bytes.extend_from_slice(&[1, 1, 2, 0, 0, 0, 88])?;
     bytes.extend_from_slice(&segment)?;
-    db.apply(&read_command(alloc, &bytes, 2)?)?;
+    db.apply(&read_command(alloc, &bytes, true)?)?;
     Ok(())
 }
 

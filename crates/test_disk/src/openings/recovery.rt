@@ -3,12 +3,13 @@
 use crate::openings::answers::{State, held_by, state_of};
 use crate::openings::stopped::{HELD, stopped_store};
 use crate::openings::stores::{opened, put, read_sector};
-use sector_dev::{Device, FaultDevice, FuseDevice, MemDevice, Tear};
+use sector_dev::{Device, MemDevice};
 use std::alloc::Global;
 use std::process::Abort;
 use std::test::Fail;
 use store_layout::Half;
 use store_open::{OpenError, open};
+use test_fault_devices::{FaultDevice, FuseDevice, Tear};
 
 /// More calls than it takes to open a store.
 const MANY: u64 = 200;

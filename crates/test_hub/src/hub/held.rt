@@ -3,12 +3,13 @@
 use crate::hub::crews::{Errand, Guests, crewed};
 use crate::hub::host::Host;
 use path_hub::{Hub, HubName, Steps};
-use sector_dev::{Device, HeldDevice};
+use sector_dev::Device;
 use std::alloc::Global;
 use std::process::Abort;
 use std::sync::{Mutex, Wait};
 use std::test::Fail;
 use std::time::Clock;
+use test_fault_devices::HeldDevice;
 use test_hub_scripts::doors::{Door, Holds, Latch};
 use test_hub_scripts::stores::{
     Contents, LEAST, assert_opens_to, formatted, opened, query, receipt_of, register,

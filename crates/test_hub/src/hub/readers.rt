@@ -1,7 +1,8 @@
 //! A hub has 64 readers.
 
 use crate::hub::host::Host;
-use path_hub::{Hub, HubError, HubJob, HubName, HubReader, with_hub};
+use hub_readers::HubReader;
+use path_hub::{Hub, HubError, HubJob, HubName, with_hub};
 use sector_dev::Device;
 use std::alloc::Global;
 use std::sync::Wait;

@@ -4,8 +4,9 @@
 use crate::hub::crews::{Errand, Guests};
 use crate::hub::host::Host;
 use group_core::{Durable, PublishError, StageError, Staged, StepError, SubmitError, Ticket};
+use hub_readers::{HubNote, HubReader, ReaderError};
 use path_db::Command;
-use path_hub::{Hub, HubError, HubJob, HubName, HubNote, HubReader, Steps, with_crew, with_hub};
+use path_hub::{Hub, HubError, HubJob, HubName, Steps, with_crew, with_hub};
 use sector_dev::{Device, MemDevice};
 use std::alloc::Global;
 use std::process::Abort;
@@ -98,7 +99,7 @@ fn published<S: Steps>(rt: &impl Abort, steps: &S, value: Durable) -> Option<Dur
 /// How many segments a reader shows. It looks once more where memory is refused.
 fn shown_again<N: HubName>(rt: &impl Abort, reader: &mut HubReader<N>) -> usize {
     let answer = match reader.lookup(&query(), 0) {
-        Err(HubError::NoMemory) => reader.lookup(&query(), 0),
+        Err(ReaderError::NoMemory) => reader.lookup(&query(), 0),
         answer => answer,
     };
     match answer {

@@ -2,7 +2,8 @@
 
 use crate::hub::crews::{Errand, Guests, crewed};
 use crate::hub::host::Host;
-use path_hub::{Hub, HubName, HubReader};
+use hub_readers::HubReader;
+use path_hub::{Hub, HubName};
 use sector_dev::Device;
 use std::alloc::Global;
 use std::process::Abort;

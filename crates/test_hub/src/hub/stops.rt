@@ -3,9 +3,10 @@
 use crate::hub::crews::{Errand, Guests, crewed};
 use crate::hub::host::Host;
 use group_core::SubmitError;
+use hub_readers::HubReader;
 use path_db::Command;
-use path_hub::{Hub, HubError, HubName, HubReader};
-use sector_dev::{Device, FaultDevice, MemDevice};
+use path_hub::{Hub, HubError, HubName};
+use sector_dev::{Device, MemDevice};
 use std::alloc::Global;
 use std::process::Abort;
 use std::sync::{Mutex, Wait};
@@ -13,6 +14,7 @@ use std::test::Fail;
 use std::thread::Threads;
 use std::time::Clock;
 use store_open::{Store, open};
+use test_fault_devices::FaultDevice;
 use test_hub_scripts::acts::{Unwatched, fill};
 use test_hub_scripts::fakes::Fake;
 use test_hub_scripts::stores::{

@@ -13,47 +13,34 @@ use test_hub_scripts::acts::{
 };
 use test_hub_scripts::stores::{ended, new_store};
 
-/// How many changes there were of each kind after each call, beyond those that there were at first:
-/// of the outcomes, of that of one place, and of that of the next place.
+/// How many changes there were of each kind after each call, beyond those that there were at first.
 #[derive(Drop)]
 struct Grown {
     work: Vec<u64>,
     seal: Vec<u64>,
-    outcome: Vec<u64>,
-    next: Vec<u64>,
 }
 
 /// Counts the changes of a state after each call.
 struct Counts<'a, S> {
     steps: &'a S,
-    place: u64,
-    first: [u64; 4],
+    first: [u64; 2],
     grown: Grown,
 }
 
-/// How many changes there were of each kind: of the outcomes, of that of this place, and of that of
-/// the next place.
-fn changes<S: Steps>(steps: &S, place: u64) -> [u64; 4] {
-    [
-        steps.changes(Awaited::Work),
-        steps.changes(Awaited::Seal),
-        steps.changes(Awaited::Outcome(place)),
-        steps.changes(Awaited::Outcome(place.wrapping_add(1))),
-    ]
+/// How many changes there were of each kind.
+fn changes<S: Steps>(steps: &S) -> [u64; 2] {
+    [steps.changes(Awaited::Work), steps.changes(Awaited::Seal)]
 }
 
 impl<'a, S: Steps> Counts<'a, S> {
     /// Counts from now on.
-    fn new(alloc: Global, steps: &'a S, place: u64) -> Counts<'a, S> {
+    fn new(alloc: Global, steps: &'a S) -> Counts<'a, S> {
         Counts {
             steps,
-            place,
-            first: changes(steps, place),
+            first: changes(steps),
             grown: Grown {
                 work: Vec::new(alloc),
                 seal: Vec::new(alloc),
-                outcome: Vec::new(alloc),
-                next: Vec::new(alloc),
             },
         }
     }
@@ -62,7 +49,6 @@ impl<'a, S: Steps> Counts<'a, S> {
     fn end(self) -> Grown {
         let Counts {
             steps: _steps,
-            place: _place,
             first: _first,
             grown,
         } = self;
@@ -72,11 +58,9 @@ impl<'a, S: Steps> Counts<'a, S> {
 
 impl<S: Steps> Watch for Counts<'_, S> {
     fn see(&mut self, _answer: Answer) {
-        let [work, seal, outcome, next] = changes(self.steps, self.place);
+        let [work, seal] = changes(self.steps);
         let _ = self.grown.work.push(work.wrapping_sub(self.first[0]));
         let _ = self.grown.seal.push(seal.wrapping_sub(self.first[1]));
-        let _ = self.grown.outcome.push(outcome.wrapping_sub(self.first[2]));
-        let _ = self.grown.next.push(next.wrapping_sub(self.first[3]));
     }
 }
 
@@ -88,33 +72,20 @@ fn assert_grown(rt: &Host<impl Abort>, kind: &str, grown: &[u64], wanted: &[u64]
 /// A purge is submitted, staged, written, synced, its gate opened and synced, published, and
 /// redeemed.
 fn assert_group<S: Steps>(rt: &Host<impl Abort>, alloc: Global, steps: &S) {
-    let mut counts = Counts::new(alloc, steps, GROUPS - 1);
+    let mut counts = Counts::new(alloc, steps);
     commit(rt, steps, &mut counts);
-    let Grown {
-        work,
-        seal,
-        outcome,
-        next,
-    } = counts.end();
+    let Grown { work, seal } = counts.end();
     assert_grown(rt, "work", &work, &[1, 1, 1, 1, 1, 1, 1, 1]);
     assert_grown(rt, "seal", &seal, &[0, 0, 0, 0, 0, 0, 0, 0]);
-    assert_grown(rt, "outcome", &outcome, &[0, 0, 0, 0, 0, 0, 1, 1]);
-    assert_grown(rt, "next", &next, &[0; 8]);
 }
 
 /// The same calls, where a seal is published: the purge waits, and is committed then.
 fn assert_seal<S: Steps>(rt: &Host<impl Abort>, alloc: Global, steps: &S) {
-    let mut counts = Counts::new(alloc, steps, GROUPS);
+    let mut counts = Counts::new(alloc, steps);
     let ticket = seal(rt, steps, &mut counts);
-    let Grown {
-        work,
-        seal,
-        outcome,
-        next: _next,
-    } = counts.end();
+    let Grown { work, seal } = counts.end();
     assert_grown(rt, "work", &work, &[1, 1, 1, 1, 1, 1, 1, 1]);
     assert_grown(rt, "seal", &seal, &[0, 0, 0, 0, 0, 0, 1, 1]);
-    assert_grown(rt, "outcome", &outcome, &[0; 8]);
     flush(rt, steps, &mut Unwatched);
     spend(rt, steps, &mut Unwatched, ticket);
 }
@@ -122,14 +93,9 @@ fn assert_seal<S: Steps>(rt: &Host<impl Abort>, alloc: Global, steps: &S) {
 /// A checkpoint is prepared, begun, written, synced, its gate opened and synced, the old half
 /// closed and synced, with a staging that is refused between two of these calls.
 fn assert_fold<S: Steps>(rt: &Host<impl Abort>, alloc: Global, steps: &S) {
-    let mut counts = Counts::new(alloc, steps, GROUPS + 1);
+    let mut counts = Counts::new(alloc, steps);
     fold(rt, steps, &mut counts);
-    let Grown {
-        work,
-        seal,
-        outcome,
-        next: _next,
-    } = counts.end();
+    let Grown { work, seal } = counts.end();
     assert_grown(
         rt,
         "work",
@@ -137,24 +103,16 @@ fn assert_fold<S: Steps>(rt: &Host<impl Abort>, alloc: Global, steps: &S) {
         &[0, 0, 0, 0, 0, 0, 0, 0, 0, 0, 0, 0, 0, 0, 1],
     );
     assert_grown(rt, "seal", &seal, &[0; 15]);
-    assert_grown(rt, "outcome", &outcome, &[0; 15]);
 }
 
 /// The state is stopped.
 fn assert_halt<S: Steps>(rt: &Host<impl Abort>, alloc: Global, steps: &S) {
-    let mut counts = Counts::new(alloc, steps, GROUPS + 1);
+    let mut counts = Counts::new(alloc, steps);
     steps.halt();
     counts.see(Answer::Done);
-    let Grown {
-        work,
-        seal,
-        outcome,
-        next,
-    } = counts.end();
+    let Grown { work, seal } = counts.end();
     assert_grown(rt, "work", &work, &[1]);
     assert_grown(rt, "seal", &seal, &[1]);
-    assert_grown(rt, "outcome", &outcome, &[1]);
-    assert_grown(rt, "next", &next, &[1]);
 }
 
 /// Counts the changes that calls make.
@@ -230,15 +188,12 @@ impl<D: Device, R: Wait + Clock + Abort> HubJob<D, R> for Rests {
         let rt = hub.handle();
         let host = Host(rt);
         commit_all(&host, hub, &mut Unwatched, GROUPS - 1);
-        let mine = Awaited::Outcome(GROUPS - 1);
-        let next = Awaited::Outcome(GROUPS);
-        let [work, _seal, outcome, _next] = changes(hub, GROUPS - 1);
+        let work = hub.changes(Awaited::Work);
         let ticket = submit(&host, hub, &mut Unwatched);
         assert_prompt(rt, hub, Awaited::Work, work);
         flush(&host, hub, &mut Unwatched);
-        assert_prompt(rt, hub, mine, outcome);
         spend(&host, hub, &mut Unwatched, ticket);
-        for awaited in [Awaited::Work, Awaited::Seal, mine, next] {
+        for awaited in [Awaited::Work, Awaited::Seal] {
             assert_slow(rt, hub, awaited);
         }
         let sealed = hub.changes(Awaited::Seal);
@@ -249,12 +204,10 @@ impl<D: Device, R: Wait + Clock + Abort> HubJob<D, R> for Rests {
         let work = hub.changes(Awaited::Work);
         fold(&host, hub, &mut Unwatched);
         assert_prompt(rt, hub, Awaited::Work, work);
-        let [work, sealed, outcome, after] = changes(hub, GROUPS - 1);
+        let [work, sealed] = changes(hub);
         hub.halt();
         assert_prompt(rt, hub, Awaited::Work, work);
         assert_prompt(rt, hub, Awaited::Seal, sealed);
-        assert_prompt(rt, hub, mine, outcome);
-        assert_prompt(rt, hub, next, after);
     }
 }
 

@@ -1,7 +1,7 @@
 //! Crews whose guests do the same, each in a thread of its own, and none of whom is waited for for
 //! ever.
 
-use path_hub::{Crew, Hub, HubName, with_crew};
+use path_hub::{Crew, Hub, HubName, Notice, with_crew};
 use sector_dev::Device;
 use std::alloc::Global;
 use std::process::Abort;
@@ -25,6 +25,9 @@ pub(crate) fn nap(rt: &impl Clock) {
 /// What a guest does with a hub.
 pub(crate) trait Errand {
     fn run<D: Device, N: HubName, R: Wait + Clock + Abort>(&self, hub: &Hub<D, N, R>, guest: u64);
+
+    /// Takes a notice of an actor, whose thread goes on once the call returns.
+    fn note<R: Wait + Clock>(&self, _rt: &R, _notice: Notice) {}
 }
 
 /// Guests who run an errand, each with its number, counted from 0. Where they do not come to an
@@ -88,6 +91,10 @@ impl<E: Errand, D: Device, R: Wait + Clock + Abort> Crew<D, R> for Guests<E> {
     fn miss<N: HubName>(&self, _hub: &Hub<D, N, R>, _guest: u64) {
         self.missed.fetch_add(1, Ordering::SeqCst);
         self.gone.fetch_add(1, Ordering::SeqCst);
+    }
+
+    fn note<N: HubName>(&self, hub: &Hub<D, N, R>, notice: Notice) {
+        self.errand.note(hub.handle(), notice);
     }
 
     fn met_stranger(&self) {

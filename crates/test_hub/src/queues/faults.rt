@@ -5,7 +5,7 @@ use crate::queues::host::Host;
 use crate::queues::said::{Handed, Said, hand_in_purges, room, settle};
 use group_core::SubmitError;
 use path_hub::{Hub, HubName};
-use sector_dev::{Device, FaultDevice, HeldDevice, MemDevice};
+use sector_dev::{Device, MemDevice};
 use std::alloc::Global;
 use std::process::Abort;
 use std::sync::atomic::{AtomicBool, AtomicU64, Ordering};
@@ -14,6 +14,7 @@ use std::test::Fail;
 use std::thread::Threads;
 use std::time::Clock;
 use store_open::{Store, open};
+use test_fault_devices::{FaultDevice, HeldDevice};
 use test_hub_scripts::doors::{Door, Holds, Latch};
 use test_hub_scripts::stores::{Contents, LEAST, assert_opens_to, formatted, opened};
 

@@ -8,7 +8,7 @@ use crate::queues::said::{Handed, Said, hand_in, room, settle};
 use group_core::SubmitError;
 use path_db::Command;
 use path_hub::{Hub, HubError, HubName, with_crew};
-use sector_dev::{Device, HeldDevice, MemDevice};
+use sector_dev::{Device, MemDevice};
 use std::alloc::Global;
 use std::process::Abort;
 use std::sync::Wait;
@@ -17,6 +17,7 @@ use std::test::Fail;
 use std::thread::Threads;
 use std::time::Clock;
 use store_open::Store;
+use test_fault_devices::HeldDevice;
 use test_hub_scripts::doors::{Door, Holds, Latch};
 use test_hub_scripts::stores::{
     Contents, LEAST, assert_contents, assert_opens_to, contents_of, formatted, opened,

@@ -3,7 +3,7 @@
 use crate::lookups::same::assert_same;
 use crate::lookups::worked::{CORE_SEGMENT, EXP_TIME, SEGMENT, leaving_by, register, roster};
 use isd_as::parse;
-use path_rows::PathDb;
+use path_db::PathDb;
 use seg_core::{SegType, Segment};
 use seg_lookup::{Query, Roster, answer, classify};
 use std::alloc::{AllocError, Global};

@@ -1,7 +1,7 @@
 //! Two segments that were worked through by hand, and the core ASes of their network.
 
 use isd_as::parse;
-use path_rows::{Command, PathDb, Registration};
+use path_db::{Command, PathDb, Registration};
 use seg_core::{SegType, read_segment};
 use seg_lookup::Roster;
 use std::alloc::Global;

@@ -3,9 +3,11 @@
 
 use crate::rows::records::{BAD, changed, put_row};
 use crate::rows::worked::SEGMENT;
-use path_db::{Command, DbError, read_command, write_command};
+use path_db::Command;
+use path_records::{DbError, read_command, write_command};
 use std::alloc::Global;
 use std::test::Fail;
+use store_layout::{CommandKind, allows};
 
 /// A record that registers the worked segment this number of times, as down segments.
 pub(crate) fn registration(alloc: Global, count: u8) -> Result<Vec<u8>, Fail> {
@@ -69,10 +71,12 @@ fn shape_of(command: &Command) -> Shape {
     }
 }
 
-/// What the command is that is read. Where memory is refused, the bytes are read again.
+/// What the command is that is read under a version. Where memory is refused, the bytes are read
+/// again.
 fn command_of(alloc: Global, bytes: &[u8], version: u32) -> Result<Shape, DbError> {
-    let command = match read_command(alloc, bytes, version) {
-        Err(DbError::NoMemory) => read_command(alloc, bytes, version)?,
+    let removals = allows(version, CommandKind::Removal);
+    let command = match read_command(alloc, bytes, removals) {
+        Err(DbError::NoMemory) => read_command(alloc, bytes, removals)?,
         read => read?,
     };
     let mut written = Vec::new(alloc);

@@ -1,7 +1,8 @@
 //! The row under one key after commands.
 
 use crate::rows::worked::{ID, dated, four, register};
-use path_db::{Command, Key, row_after};
+use path_db::Command;
+use path_records::{Key, row_after};
 use seg_core::SegType;
 use std::alloc::AllocError;
 use std::test::Fail;

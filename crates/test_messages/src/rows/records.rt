@@ -1,7 +1,8 @@
 //! Rows as records: the worked row and others like it, and the refusals after one byte was changed.
 
 use crate::rows::worked::{ID, count_rows, is_there, len_of};
-use path_db::{DbError, PathDb, read_rows, write_rows};
+use path_db::PathDb;
+use path_records::{DbError, read_rows, write_rows};
 use seg_core::SegType;
 use std::alloc::Global;
 use std::process::Abort;

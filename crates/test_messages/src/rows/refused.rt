@@ -4,9 +4,8 @@
 
 use crate::rows::commands::registration;
 use crate::rows::records::{assert_written_as, changed, read_again, rows_of};
-use path_db::{
-    Command, DbError, PathDb, RowsReader, read_command, read_rows, write_command, write_rows,
-};
+use path_db::{Command, PathDb};
+use path_records::{DbError, RowsReader, read_command, read_rows, write_command, write_rows};
 use std::alloc::{AllocError, Global};
 use std::process::Abort;
 use std::test::Fail;
@@ -125,7 +124,7 @@ const REMOVAL: [u8; 34] = [
 
 /// Checks that a command is written as these bytes, after the earlier bytes.
 fn assert_written(rt: &impl Abort, alloc: Global, bytes: &[u8]) -> Result<(), Fail> {
-    let command = read_command(alloc, bytes, 2)?;
+    let command = read_command(alloc, bytes, true)?;
     let mut out = Vec::from_slice(alloc, &FRONT)?;
     if write_command(&command, &mut out).is_err() {
         assert_behind_front(rt, &out, &[]);
@@ -152,10 +151,10 @@ fn assert_read(
     takes_memory: bool,
     is_command: bool,
 ) -> Result<(), Fail> {
-    let read = match read_command(alloc, bytes, 2) {
+    let read = match read_command(alloc, bytes, true) {
         Err(DbError::NoMemory) => {
             assert!(rt; takes_memory);
-            read_command(alloc, bytes, 2)
+            read_command(alloc, bytes, true)
         }
         read => read,
     };

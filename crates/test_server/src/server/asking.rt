@@ -165,6 +165,75 @@ fn silent_peers_are_closed_soon(rt: HostRuntime) -> Result<(), Fail> {
     Ok(())
 }
 
+/// Many peers are silent at the listener for requests, and another one asks for the numbers after
+/// them.
+#[derive(Drop)]
+struct Crowd {
+    at: SocketAddr,
+}
+
+/// The number of silent peers: more than twice as many as visit at one time.
+const CROWD: usize = 160;
+
+/// The most time in milliseconds until the answer. Answered one after the other, 160 peers who send
+/// nothing would take 40 seconds.
+const PROMPT: u64 = 5_000;
+
+/// Connects this number of peers, who send nothing.
+fn silent_peers<R: Outside>(
+    rt: R,
+    alloc: Global,
+    at: SocketAddr,
+    count: usize,
+) -> io::Result<Vec<TcpStream>> {
+    let mut peers = Vec::new(alloc);
+    for _ in 0..count {
+        peers.push(connect(rt, at)?)?;
+    }
+    Ok(peers)
+}
+
+impl Clients for Crowd {
+    type Seen = [bool; 3];
+
+    fn meet<R: Outside>(&self, rt: R, alloc: Global, to: SocketAddr) -> io::Result<[bool; 3]> {
+        let mut peer = Peer::connect(rt, alloc, to)?;
+        let is_served = peer.asks(EMPTY_LOOKUP, NO_DESTINATION)?;
+        let begun = Instant::now(&rt)?;
+        let before = silent_peers(rt, alloc, self.at, CROWD)?;
+        let mut asking = connect(rt, self.at)?;
+        asking.write_all(GET_NUMBERS.as_bytes())?;
+        let answer = received(alloc, &mut asking)?;
+        let is_prompt = begun.elapsed(&rt)? < Duration::from_millis(PROMPT);
+        let is_answered = answer.as_str().starts_with("HTTP/1.1 200 OK");
+        drop(before);
+        drop(peer);
+        Ok([is_served, is_answered, is_prompt])
+    }
+}
+
+#[test]
+fn silent_peers_hold_up_no_other(rt: HostRuntime) -> Result<(), Fail> {
+    let alloc = rt.alloc();
+    let device = formatted(&rt, alloc, LEAST);
+    let options = options(&rt, alloc, 1);
+    let (status, at) = listen_for_status(&rt);
+    let clients = Crowd { at };
+    let (device, served, seen) = serve_watched(
+        &rt,
+        alloc,
+        device,
+        status,
+        &options,
+        &clients,
+        &Counts::new(),
+    );
+    assert_eq!(rt; served, Ok(1));
+    assert_eq!(rt; seen?, [true, true, true]);
+    let _device = assert_opens_to(&rt, alloc, device, 0, 0);
+    Ok(())
+}
+
 /// Two sessions, one after the other.
 struct Twice;
 

@@ -1,9 +1,9 @@
 //! A door that holds a sync of a device, and is not waited at for ever.
 
-use sector_dev::Gate;
 use std::sync::{Mutex, Wait};
 use std::thread::sleep;
 use std::time::{Clock, Duration};
+use test_fault_devices::Gate;
 
 /// How long a sync is held, or waited for, in naps of five milliseconds.
 const MOST_NAPS: u64 = 6000;

@@ -6,11 +6,12 @@ use crate::server::rows::{FOUND, LOOKUP, NOTHING, PURGE, REGISTERED, REGISTRATIO
 use crate::server::stores::{LEAST, assert_opens_to, formatted};
 use crate::server::worlds::{Clients, Counts, Met, Outside, World, options, serve_clients};
 use path_server::Options;
-use sector_dev::{HeldDevice, MemDevice};
+use sector_dev::MemDevice;
 use std::alloc::Global;
 use std::io;
 use std::net::SocketAddr;
 use std::test::Fail;
+use test_fault_devices::HeldDevice;
 
 /// How many of the 64 seats are for sessions without commands under way.
 const SPARE: u64 = 8;
@@ -52,6 +53,9 @@ const ROUNDS: u64 = 20;
 /// How many peers come in a round.
 const PEERS: u64 = 6;
 
+/// The acknowledgement of the purge after a registration and the commands of all rounds: place 121.
+const PURGED_LAST: &str = "0000001983000000000000007900000000000000000000000000000000";
+
 /// The pause after a round, in naps: a fifth of a second.
 const NAPS: u64 = 40;
 
@@ -75,14 +79,14 @@ fn round<R: Outside>(rt: R, alloc: Global, to: SocketAddr) -> io::Result<bool> {
 }
 
 impl Clients for GivingUp<'_> {
-    type Seen = (bool, u64, [bool; 2]);
+    type Seen = (bool, u64, [bool; 3]);
 
     fn meet<R: Outside>(
         &self,
         rt: R,
         alloc: Global,
         to: SocketAddr,
-    ) -> io::Result<(bool, u64, [bool; 2])> {
+    ) -> io::Result<(bool, u64, [bool; 3])> {
         let (mut first, is_held) = hold(rt, alloc, to, self.door)?;
         let mut answered: u64 = 0;
         for _ in 0..ROUNDS {
@@ -92,12 +96,14 @@ impl Clients for GivingUp<'_> {
         }
         self.door.open(&rt);
         let is_acknowledged = first.receives(REGISTERED)?;
+        let is_last = first.asks(PURGE, PURGED_LAST)?;
         let is_found = first.asks(LOOKUP, FOUND)?;
-        Ok((is_held, answered, [is_acknowledged, is_found]))
+        Ok((is_held, answered, [is_acknowledged, is_last, is_found]))
     }
 }
 
-// The 120 commands of the peers that gave up go on: each purge has its place.
+// The 120 commands of the peers that gave up go on: each purge has its place, before that of a
+// purge that comes later.
 #[test]
 fn seats_are_given_back_while_the_device_hangs(rt: HostRuntime) -> Result<(), Fail> {
     let alloc = rt.alloc();
@@ -109,10 +115,10 @@ fn seats_are_given_back_while_the_device_hangs(rt: HostRuntime) -> Result<(), Fa
     let (is_held, answered, last) = seen?;
     assert!(rt; is_held);
     assert_eq!(rt; answered, ROUNDS);
-    assert_eq!(rt; last, [true; 2]);
+    assert_eq!(rt; last, [true; 3]);
     assert_eq!(rt; door.latch(&rt), Latch::Open);
     let (device, _gate) = device.into_parts();
-    let _device = assert_opens_to(&rt, alloc, device, 1, 1 + ROUNDS * PEERS);
+    let _device = assert_opens_to(&rt, alloc, device, 1, 2 + ROUNDS * PEERS);
     Ok(())
 }
 

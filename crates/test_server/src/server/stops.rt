@@ -5,11 +5,11 @@ use crate::server::peers::{EMPTY_LOOKUP, NO_DESTINATION, Peer};
 use crate::server::rows::{FOUND, LOOKUP, NOTHING, PURGE, REGISTERED, REGISTRATION};
 use crate::server::stores::{LEAST, assert_opens_to, failing, formatted};
 use crate::server::worlds::{Clients, Counts, Outside, options, serve_clients};
-use sector_dev::HeldDevice;
 use std::alloc::Global;
 use std::io;
 use std::net::SocketAddr;
 use std::test::Fail;
+use test_fault_devices::HeldDevice;
 
 /// One session registers while a sync of its group is held, and another looks up meanwhile; then
 /// the first one gets its receipt, and both see the segment.

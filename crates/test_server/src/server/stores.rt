@@ -1,10 +1,11 @@
 //! Stores on devices in memory.
 
-use sector_dev::{Device, FaultDevice, MemDevice};
+use sector_dev::{Device, MemDevice};
 use std::alloc::Global;
 use std::process::Abort;
 use store_layout::{LEAST_CHECKPOINT, LEAST_JOURNAL};
 use store_open::{Geometry, OpenError, Store, format, open};
+use test_fault_devices::FaultDevice;
 
 /// The least sizes that are allowed: there is room for ten rows of the segments here, which take 93
 /// bytes each.

@@ -7,13 +7,13 @@ use crate::server::rows::{FOUND, LOOKUP, PURGE, REGISTERED, REGISTRATION};
 use crate::server::stores::{LEAST, assert_opens_to, failing, formatted};
 use crate::server::worlds::{Clients, Counts, Outside, World, listen, options, serve_watched};
 use path_server::set_accept_timeout;
-use sector_dev::HeldDevice;
 use std::alloc::Global;
 use std::io;
 use std::io::{ErrorKind, Read, Write};
 use std::net::{Shutdown, SocketAddr, TcpListener, TcpStream};
 use std::test::Fail;
 use std::time::Duration;
+use test_fault_devices::HeldDevice;
 
 /// How long a peer waits for an answer, in seconds.
 const PATIENCE: u64 = 20;

@@ -5,13 +5,14 @@ use crate::service::frames::{FOUND, LOOKUP, NONE_FOUND, PURGE, REGISTER, assert_
 use crate::service::guests::{Talk, talked};
 use crate::service::stores::{assert_opens_to, formatted, opened};
 use path_hub::{Hub, HubName, Patient, Waiter};
-use sector_dev::{Device, HeldDevice};
+use sector_dev::Device;
 use session_limits::Limits;
 use std::alloc::Global;
 use std::process::Abort;
 use std::sync::Wait;
 use std::test::Fail;
 use std::time::Clock;
+use test_fault_devices::HeldDevice;
 use test_hub_scripts::doors::{Door, Holds, Latch};
 
 /// How often a peer is asked whether it has left before it has.

@@ -1,12 +1,13 @@
 //! Stores on devices in memory, and their core AS.
 
 use isd_as::IsdAs;
-use sector_dev::{Device, FaultDevice, MemDevice, SECTOR};
+use sector_dev::{Device, MemDevice, SECTOR};
 use seg_lookup::Roster;
 use std::alloc::Global;
 use std::process::Abort;
 use store_layout::{LEAST_CHECKPOINT, LEAST_JOURNAL};
 use store_open::{Geometry, OpenError, Store, format, open};
+use test_fault_devices::FaultDevice;
 
 /// The least sizes that are allowed. There is room for ten rows of the segments here, which take 93
 /// bytes each.

@@ -2,11 +2,12 @@
 
 use crate::steps::host::Host;
 use group_core::FollowError;
-use sector_dev::{Device, FuseDevice, MemDevice, Tear};
+use sector_dev::{Device, MemDevice};
 use std::alloc::Global;
 use std::process::Abort;
 use std::test::Fail;
 use store_open::{OpenError, open};
+use test_fault_devices::{FuseDevice, Tear};
 use test_group_scripts::acts::NOTHING;
 use test_group_scripts::stores::{
     Contents, TEARS, assert_opens_to, old_store, opened, opened_contents, read_sector,

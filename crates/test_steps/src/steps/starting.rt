@@ -3,12 +3,13 @@
 use crate::steps::host::Host;
 use group_core::{StageError, SubmitError};
 use path_db::Command;
-use sector_dev::{FaultDevice, MemDevice};
+use sector_dev::MemDevice;
 use seg_core::SegType;
 use std::alloc::Global;
 use std::process::Abort;
 use std::test::Fail;
 use store_open::{Store, StoreError, open};
+use test_fault_devices::FaultDevice;
 use test_group_scripts::stores::{
     Contents, REGISTERED, SEAL, assert_opens_to, change, new_store, old_store, opened, register,
     segment,

@@ -4,11 +4,12 @@
 use crate::steps::host::Host;
 use group_core::BeginError;
 use path_db::Command;
-use sector_dev::{FaultDevice, FuseDevice, MemDevice, Tear};
+use sector_dev::MemDevice;
 use std::alloc::Global;
 use std::process::Abort;
 use std::test::Fail;
 use store_open::{OpenError, open};
+use test_fault_devices::{FaultDevice, FuseDevice, Tear};
 use test_group_scripts::acts::{INSERTED, query, shown};
 use test_group_scripts::stores::{
     Contents, TEARS, assert_opens_to, new_store, opened, opened_contents, register, sealed_store,

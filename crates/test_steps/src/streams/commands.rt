@@ -1,6 +1,7 @@
 //! Rows by numbers, and the commands that register and drop them.
 
-use path_db::{Command, Key, PathDb, Registration};
+use path_db::{Command, PathDb, Registration};
+use path_records::Key;
 use seg_core::{SegType, Segment, read_segment};
 use std::alloc::Global;
 use test_support::{EXPIRY, SEGMENT, TestHost};

@@ -4,11 +4,12 @@
 use crate::streams::host::Host;
 use crate::streams::large_rows::{LARGE_CONTENTS, large_half};
 use group_core::{BeginError, Prepared};
-use sector_dev::{FaultDevice, MemDevice};
+use sector_dev::MemDevice;
 use std::alloc::Global;
 use std::process::Abort;
 use std::test::Fail;
 use store_open::{OpenError, open};
+use test_fault_devices::FaultDevice;
 use test_group_scripts::stores::assert_opens_to;
 use test_group_scripts::work::{Round, Told, Work, assert_stopped, assert_told, work_of};
 use test_support::{TestHost, assert_same};

@@ -3,7 +3,7 @@ use Rattle.std.proofs.Common.{rules, ◌≡◌, List, ℕ, [], ◌++◌, replica
 use Rattle.std.proofs.lemmas.List.{take_all}
 use Rattle.store_layout.specs.Checkpoint.{CanBeHead}
 use Rattle.ckpt_pair.specs.Checkpoint.{written_checkpoint}
-use Rattle.path_db.specs.RowRecord.{rows_encoding}
+use Rattle.path_records.specs.RowRecord.{rows_encoding}
 use Rattle.ckpt_pair.proofs.Lengths.{put_behind, six_parts, records_len}
 use Rattle.ckpt_pair.proofs.Stored.{can_be}
 use Rattle.ckpt_pair.proofs.encoding.checkpoint_front.Goals as goal

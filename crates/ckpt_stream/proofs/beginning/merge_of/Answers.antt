@@ -4,8 +4,8 @@ use Rattle.std.proofs.lemmas.List.{with_items_is}
 use Rattle.std.proofs.lemmas.Result.{err_from_is_err_and}
 use Rattle.byte_lists.specs.Content.{part}
 use Rattle.sector_dev.specs.Disk.{reads_of}
-use Rattle.path_rows.specs.Database.{rows_len}
-use Rattle.path_rows.specs.Command.{database_after_all}
+use Rattle.path_db.specs.Database.{rows_len}
+use Rattle.path_db.specs.Command.{database_after_all}
 use Rattle.store_layout.specs.Layout.{area_at}
 use Rattle.store_layout.specs.Geometry.{geometry_view}
 use Rattle.ckpt_pair.specs.Heads.{head_view}

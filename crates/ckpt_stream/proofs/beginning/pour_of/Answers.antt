@@ -1,6 +1,6 @@
 -- The checkpoint of a plan.
 use Rattle.std.proofs.Common.{◌<◌, ◌^◌, List, arith}
-use Rattle.path_rows.specs.Database.{RowView, IsDatabase, rows_len}
+use Rattle.path_db.specs.Database.{RowView, IsDatabase, rows_len}
 use Rattle.store_layout.specs.Checkpoint.{CanBeCheckpoint}
 use Rattle.ckpt_pair.specs.Checkpoint.{written_checkpoint}
 use Rattle.ckpt_pair.specs.Rows.{rows_format}

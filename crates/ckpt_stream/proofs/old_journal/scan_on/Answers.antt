@@ -2,7 +2,7 @@
 use Rattle.std.proofs.Common.{◌≡◌, ℕ, ◌+◌, ◌*◌, ◌∙◌, true, false, ap, subst, sym, rules, Ok}
 use Rattle.std.specs.Prelude.{Result}
 use Rattle.sector_dev.specs.Disk.{reads_of}
-use Rattle.path_rows.specs.declared.command.Command.{Command}
+use Rattle.path_db.specs.declared.command.Command.{Command}
 use Rattle.store_layout.specs.GroupReading.{JournalRefusal}
 use Rattle.store_layout.specs.Journal.{Reading}
 use Rattle.store_layout.specs.JournalReading.{journal_scan}

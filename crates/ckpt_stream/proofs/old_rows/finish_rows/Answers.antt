@@ -1,6 +1,6 @@
 -- All rows.
 use Rattle.std.proofs.Common.{◌≤◌, ◌∙◌, List, length, sym, subst, arith}
-use Rattle.path_rows.specs.declared.command.Command.{Command}
+use Rattle.path_db.specs.declared.command.Command.{Command}
 use Rattle.row_edits.specs.Planner.{HasSeen, IsPlanOf}
 use Rattle.ckpt_stream.proofs.OldRows.{rows_sized}
 use Rattle.ckpt_stream.proofs.old_rows.finish_rows.Goals as goal

@@ -1,6 +1,6 @@
 -- One more row.
 use Rattle.std.proofs.Common.{List, sym, subst}
-use Rattle.path_rows.specs.Database.{RowView}
+use Rattle.path_db.specs.Database.{RowView}
 use Rattle.ckpt_pair.specs.Stream.{HasStreamed}
 use Rattle.row_edits.specs.Planner.{HasSeen}
 use Rattle.ckpt_stream.proofs.old_rows.see_rows.Goals as goal

@@ -1,6 +1,6 @@
 -- How far the rows of a stream are seen.
 use Rattle.std.proofs.Common.{ℕ, List}
-use Rattle.path_rows.specs.declared.command.Command.{Command}
+use Rattle.path_db.specs.declared.command.Command.{Command}
 use Rattle.ckpt_pair.specs.Stream.{HasStreamed}
 use Rattle.row_edits.specs.Planner.{HasSeen}
 use Rattle.ckpt_stream.proofs.old_rows.see_rows.Given as goal

@@ -1,6 +1,6 @@
 use Rattle.std.proofs.Common.{ap}
 use Rattle.std.specs.Result.{result_ok}
-use Rattle.path_db.proofs.Exports.{command_read_back}
+use Rattle.path_records.proofs.Exports.{command_read_back}
 use Rattle.gate_journal.proofs.command_laws.commands_are_allowed.Goals as goal
 
 pub returns : goal.returns

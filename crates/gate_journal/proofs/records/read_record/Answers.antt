@@ -14,5 +14,5 @@ returns-in_err-command-clause-first c =
     let size : 4 + c.read_u32-size.result - 4 ≡ c.read_u32-size.result = omega arith in
     ap (λ (n : ℕ). take n (drop 4 c.args.bytes.now)) size in
     let refused : Refuses (error_of_record c.in_err-command.field-0.0) (found_in_records (first_command command_format (limits_of c.args.version) c.args.bytes.now)) =
-    first_refused c.args.version c.args.bytes.now c.read_u32-size.result c.read_u32-size.ensures (omega arith) _ c.in_err-command.field-0.0 same c.in_err-command.ensures.decoding in
+    first_refused c.args.version c.args.bytes.now c.read_u32-size.result c.read_u32-size.ensures (omega arith) _ _ c.in_err-command.field-0.0 c.allows-removals.ensures same c.in_err-command.ensures.decoding in
     search (rules, refused)

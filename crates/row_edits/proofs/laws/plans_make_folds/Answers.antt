@@ -1,10 +1,10 @@
 use Rattle.std.proofs.Common.{◌≡◌, Bool, ap, ◌∙◌}
 use Rattle.std.specs.Prelude.{map}
-use Rattle.path_rows.specs.Database.{RowView}
-use Rattle.path_db.specs.RowRecord.{rows_encoding}
+use Rattle.path_db.specs.Database.{RowView}
+use Rattle.path_records.specs.RowRecord.{rows_encoding}
 use Rattle.row_edits.specs.Laws.{left_of}
 use Rattle.row_edits.specs.Merging.{merged, outlives}
-use Rattle.path_db.specs.Key.{key_bytes}
+use Rattle.path_records.specs.Key.{key_bytes}
 use Rattle.row_edits.specs.Planning.{is_beyond}
 use Rattle.row_edits.proofs.laws.plans_make_folds.Goals as goal
 

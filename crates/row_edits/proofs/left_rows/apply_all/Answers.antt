@@ -1,5 +1,5 @@
 use Rattle.std.proofs.Common.{sym, ap, ◌∙◌}
-use Rattle.path_rows.specs.Command.{database_after}
+use Rattle.path_db.specs.Command.{database_after}
 use Rattle.row_edits.proofs.LeftRows.{folded, all_folded}
 use Rattle.row_edits.proofs.left_rows.apply_all.Goals as goal
 

@@ -1,5 +1,5 @@
 use Rattle.std.proofs.Common.{◌≡◌, drop}
-use Rattle.path_rows.specs.Command.{database_after_all}
+use Rattle.path_db.specs.Command.{database_after_all}
 use Rattle.row_edits.proofs.left_rows.apply_all.Given as goal
 
 -- The commands that are left lead to the same as all of them from the start.

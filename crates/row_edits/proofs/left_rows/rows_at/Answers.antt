@@ -1,4 +1,4 @@
-use Rattle.path_rows.specs.Database.{row_under}
+use Rattle.path_db.specs.Database.{row_under}
 use Rattle.row_edits.proofs.LeftRows.{one_more, all_there}
 use Rattle.row_edits.proofs.left_rows.rows_at.Goals as goal
 

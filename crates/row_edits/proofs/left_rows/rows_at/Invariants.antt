@@ -1,7 +1,7 @@
 use Rattle.std.proofs.Common.{◌≡◌, ◌++◌, drop}
 use Rattle.std.specs.Prelude.{map}
-use Rattle.path_rows.specs.Database.{row_under}
-use Rattle.path_db.specs.Key.{key_bytes}
+use Rattle.path_db.specs.Database.{row_under}
+use Rattle.path_records.specs.Key.{key_bytes}
 use Rattle.row_edits.specs.Edits.{views_if_any}
 use Rattle.row_edits.proofs.left_rows.rows_at.Given as goal
 

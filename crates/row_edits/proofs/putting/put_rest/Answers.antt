@@ -1,6 +1,6 @@
 use Rattle.std.proofs.Common.{◌+◌, [], List, sym, subst}
 use Rattle.seg_core.specs.declared.seg_type.SegType.TheVariants.{Up}
-use Rattle.path_db.specs.declared.key.Key.{Key}
+use Rattle.path_records.specs.declared.key.Key.{Key}
 use Rattle.row_edits.specs.declared.edit.Edit.{Edit}
 use Rattle.row_edits.specs.Planning.{IsEnding}
 use Rattle.row_edits.proofs.Plans.{ending_from, put_end, all_made}

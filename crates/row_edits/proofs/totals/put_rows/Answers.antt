@@ -1,6 +1,6 @@
 use Rattle.std.proofs.Common.{arith, List, ap}
 use Rattle.std.specs.Prelude.{Option}
-use Rattle.path_rows.specs.declared.row.Row.{Row}
+use Rattle.path_db.specs.declared.row.Row.{Row}
 use Rattle.row_edits.specs.Edits.{count_rows, views_if_any}
 use Rattle.row_edits.proofs.Ends.{none_left_of}
 use Rattle.row_edits.proofs.totals.put_rows.Goals as goal

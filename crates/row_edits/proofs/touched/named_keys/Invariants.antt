@@ -1,7 +1,7 @@
 use Rattle.std.proofs.Common.{◌≡◌, ◌++◌, drop}
 use Rattle.std.specs.Prelude.{map}
 use Rattle.row_edits.specs.Merging.{keys_named_by}
-use Rattle.path_db.specs.Key.{key_bytes}
+use Rattle.path_records.specs.Key.{key_bytes}
 use Rattle.row_edits.proofs.touched.named_keys.Given as goal
 
 -- The keys so far and those of the commands that are left are all of them.

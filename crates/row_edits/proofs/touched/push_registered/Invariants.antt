@@ -1,7 +1,7 @@
 use Rattle.std.proofs.Common.{◌≡◌, ◌++◌, drop}
 use Rattle.std.specs.Prelude.{map}
-use Rattle.path_rows.specs.Database.{key_of}
-use Rattle.path_db.specs.Key.{key_bytes}
+use Rattle.path_db.specs.Database.{key_of}
+use Rattle.path_records.specs.Key.{key_bytes}
 use Rattle.row_edits.proofs.touched.push_registered.Given as goal
 
 -- The keys so far and those of the rows that are left are all of them.

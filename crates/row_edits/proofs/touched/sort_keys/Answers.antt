@@ -3,8 +3,8 @@ use Rattle.std.specs.Ordering.{is_lt}
 use Rattle.std.proofs.lemmas.Cmp.{nat_list_cmp_total}
 use Rattle.std.proofs.lemmas.Fn.{always_returns_same}
 use Rattle.std.proofs.lemmas.List.Sorted.{ranks_by}
-use Rattle.path_db.specs.declared.key.Key.{Key}
-use Rattle.path_db.specs.Key.{key_bytes}
+use Rattle.path_records.specs.declared.key.Key.{Key}
+use Rattle.path_records.specs.Key.{key_bytes}
 use Rattle.row_edits.specs.Merging.{order_of}
 use Rattle.row_edits.proofs.Touches.{moved_keys}
 use Rattle.row_edits.proofs.touched.sort_keys.Goals as goal

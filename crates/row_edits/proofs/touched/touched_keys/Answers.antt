@@ -1,9 +1,9 @@
 use Rattle.std.proofs.Common.{◌≡◌, List, ℕ, None, sym, ap, ◌∙◌, subst}
 use Rattle.std.specs.Prelude.{map}
 use Rattle.std.proofs.lemmas.Result.{IfOk-weaker}
-use Rattle.path_db.specs.declared.key.Key.{Key}
-use Rattle.path_db.specs.Key.{key_bytes}
-use Rattle.path_rows.specs.declared.command.Command.{Command}
+use Rattle.path_records.specs.declared.key.Key.{Key}
+use Rattle.path_records.specs.Key.{key_bytes}
+use Rattle.path_db.specs.declared.command.Command.{Command}
 use Rattle.row_edits.specs.Merging.{has_key, keys_named_by, KeysRise}
 use Rattle.row_edits.specs.Touched.{IsKeyOrder, risen}
 use Rattle.row_edits.proofs.Touches.{climbs, risen_rise, risen_same}

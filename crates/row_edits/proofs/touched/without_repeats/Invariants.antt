@@ -1,7 +1,7 @@
 use Rattle.std.proofs.Common.{◌≡◌, ◌++◌, drop, None}
 use Rattle.std.specs.Prelude.{map}
 use Rattle.std.specs.Option.{option_map}
-use Rattle.path_db.specs.Key.{key_bytes}
+use Rattle.path_records.specs.Key.{key_bytes}
 use Rattle.row_edits.specs.Touched.{risen}
 use Rattle.row_edits.proofs.touched.without_repeats.Given as goal
 

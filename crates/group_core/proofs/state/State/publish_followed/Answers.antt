@@ -1,4 +1,4 @@
-use Rattle.path_rows.specs.declared.command.Command.{Command}
+use Rattle.path_db.specs.declared.command.Command.{Command}
 use Rattle.store_layout.specs.StoreValues.{value_after}
 use Rattle.store_open.specs.PathStores.{store_format}
 use Rattle.std.proofs.Common.{List, take, refl, ◌∙◌, ap, subst, arith}

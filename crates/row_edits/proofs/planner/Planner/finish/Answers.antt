@@ -1,5 +1,5 @@
 use Rattle.std.proofs.Common.{◌≡◌, ◌-◌, ◌^◌, List, min, sym, subst, arith}
-use Rattle.path_db.specs.declared.key.Key.{Key}
+use Rattle.path_records.specs.declared.key.Key.{Key}
 use Rattle.row_edits.specs.Edits.{views_if_any, bytes_kept, bytes_put}
 use Rattle.row_edits.specs.Planning.{is_beyond, IsPlanned, MakesAll}
 use Rattle.row_edits.proofs.Folds.{plan_of}

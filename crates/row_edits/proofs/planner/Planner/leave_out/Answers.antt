@@ -1,5 +1,5 @@
 use Rattle.std.proofs.Common.{refl}
-use Rattle.path_rows.specs.Row.{row_view}
+use Rattle.path_db.specs.Row.{row_view}
 use Rattle.row_edits.specs.Planning.{is_beyond}
 use Rattle.row_edits.proofs.Plans.{ends_dropped}
 use Rattle.row_edits.proofs.planner.Planner.leave_out.Goals as goal

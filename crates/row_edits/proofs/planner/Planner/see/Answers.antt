@@ -1,6 +1,6 @@
 use Rattle.std.proofs.Common.{List, Bool, refl, sym, subst}
-use Rattle.path_rows.specs.Row.{row_view}
-use Rattle.path_db.specs.declared.key.Key.{Key}
+use Rattle.path_db.specs.Row.{row_view}
+use Rattle.path_records.specs.declared.key.Key.{Key}
 use Rattle.row_edits.specs.Planning.{is_beyond, IsBeforeRowEdit, IsAfterKeyPuts}
 use Rattle.row_edits.specs.declared.planner.Planner.{Planner}
 use Rattle.row_edits.specs.Planner.{PlansOn}

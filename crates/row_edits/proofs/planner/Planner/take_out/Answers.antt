@@ -1,6 +1,6 @@
 use Rattle.std.proofs.Common.{List, ◌∷◌, [], ◌++◌, refl, sym, subst}
-use Rattle.path_rows.specs.Database.{RowView}
-use Rattle.path_rows.specs.Row.{row_view}
+use Rattle.path_db.specs.Database.{RowView}
+use Rattle.path_db.specs.Row.{row_view}
 use Rattle.row_edits.specs.Planning.{is_beyond, IsPlanned}
 use Rattle.row_edits.proofs.Plans.{ends_touched}
 use Rattle.row_edits.proofs.planner.Planner.take_out.Goals as goal

@@ -1,0 +1,6 @@
+-- One goal, which the search finds itself.
+use Rattle.std.proofs.Common.{rules}
+use Rattle.path_db.proofs.command.Registration.into_vec.Goals as goal
+
+pub returns : goal.returns
+returns c = search rules

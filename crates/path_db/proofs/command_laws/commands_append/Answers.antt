@@ -1,0 +1,5 @@
+use Rattle.path_db.proofs.Keys.{commands_append}
+use Rattle.path_db.proofs.command_laws.commands_append.Goals as goal
+
+pub returns : goal.returns
+returns c = commands_append

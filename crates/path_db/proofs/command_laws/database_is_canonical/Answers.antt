@@ -1,0 +1,5 @@
+use Rattle.path_db.proofs.Canon.{database_is_canonical}
+use Rattle.path_db.proofs.command_laws.database_is_canonical.Goals as goal
+
+pub returns : goal.returns
+returns c = database_is_canonical

@@ -1,5 +1,0 @@
-use Rattle.path_db.proofs.Records.{outlined}
-use Rattle.path_db.proofs.row_records.read_spelled.Goals as goal
-
-pub returns-clause-outline : goal.returns-clause-outline
-returns-clause-outline c = outlined c.args.message.now c.in-Ok.segment c.in-Ok.ensures.decoding

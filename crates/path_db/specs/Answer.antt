@@ -1,0 +1,40 @@
+-- The rows that a lookup shows.
+use Rattle.std.specs.Prelude.{ℕ, List, [], ◌∷◌, Bool, false, ◌==◌, ◌&&◌, take, filter, map, Option, Some, None}
+use Rattle.isd_as.specs.IsdAs.{covers_number}
+use Rattle.seg_core.specs.declared.seg_type.SegType.{SegType}
+use Rattle.seg_core.specs.SegmentView.{EntryView, SegmentView}
+use Rattle.seg_slots.specs.Message.{last_of}
+use Rattle.seg_core.specs.Registration.{type_number}
+use Rattle.path_db.specs.Database.{RowView}
+use Rattle.path_db.specs.Command.{is_valid_beyond}
+
+-- An entry is present, and its ISD-AS is covered by the pattern.
+abbrev pub covers_entry : ℕ → Option EntryView → Bool
+covers_entry pattern None = false
+covers_entry pattern (Some e) = covers_number pattern e.ia
+
+-- The first entry of a list.
+abbrev pub first_entry_of : List EntryView → Option EntryView
+first_entry_of [] = None
+first_entry_of (e ∷ es) = Some e
+
+-- A row is of this type.
+abbrev pub is_of_type : SegType → RowView → Bool
+is_of_type kind row = type_number row.0 == type_number kind
+
+-- A row is of the type, the start covers its first entry, and the end covers its last entry.
+abbrev pub matches : SegType → ℕ → ℕ → RowView → Bool
+matches kind start end row =
+    (type_number row.0 == type_number kind) && (covers_entry start (first_entry_of row.1.entries) && covers_entry end (last_of row.1.entries))
+
+-- A row matches, and it expires after this moment, in half seconds since 1970.
+abbrev pub is_shown : SegType → ℕ → ℕ → ℕ → RowView → Bool
+is_shown kind start end now row = matches kind start end row && is_valid_beyond now row
+
+-- The first rows by key that match and are valid, at most `limit` of them.
+unfoldable pub answer_of : ℕ → List RowView → SegType → ℕ → ℕ → ℕ → List RowView
+answer_of limit rows kind start end now = take limit (filter (is_shown kind start end now) rows)
+
+-- The segments of rows.
+abbrev pub segments_of : List RowView → List SegmentView
+segments_of rows = map (λ row. row.1) rows

@@ -1,8 +1,0 @@
--- The bytes of keys.
-use Rattle.std.specs.Prelude.{ℕ, List}
-use Rattle.path_rows.specs.Database.{key}
-use Rattle.path_db.specs.declared.key.Key.{Key}
-
--- The bytes of a key: the type's number, then the id's bytes.
-abbrev pub key_bytes : Key → List ℕ
-key_bytes k = key k.kind k.id

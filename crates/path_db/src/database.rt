@@ -1,0 +1,388 @@
+//! The database.
+
+ghost use Rattle.std.specs.Prelude.{◌≡◌, ◌-◌, ◌^◌, ◌<◌, ◌≤◌, [], ◌∷◌, ◌++◌, true, false, None, length, min, max, not, count_by, if◌then◌else◌, IfOk, IfErr, OnOk, OnErr};
+ghost use Rattle.std.specs.List.{AllByRecursion};
+ghost use Rattle.std.specs.Option.{option_copied, option_map, is_some, ForSome};
+ghost use Rattle.path_db.specs.declared.error.ApplyError.TheVariants.{Full};
+ghost use Rattle.path_db.specs.Database.{IsDatabase, AreWhole, key, row_under, rows_len};
+ghost use Rattle.path_db.specs.Put.{database_after_puts, changes_of};
+ghost use Rattle.path_db.specs.Outcome.{outcome_of_puts, outcome_of_drops};
+ghost use Rattle.path_db.specs.Command.{database_after, database_after_purge, database_after_removal, is_valid_beyond, outcome_of, TakesMemory};
+ghost use Rattle.path_db.specs.Purge.{HasPassed};
+ghost use Rattle.path_db.specs.Row.{row_view, row_views};
+ghost use Rattle.path_db.specs.Answer.{answer_of, segments_of};
+ghost use Rattle.seg_core.specs.Encoding.{IsSegment};
+ghost use Rattle.isd_as.specs.IsdAs.{isd_as_number};
+
+use crate::answers::{Wanted, first_shown, is_indexed, shown_at};
+use crate::command::Command;
+use crate::end::End;
+use crate::end_keys::{add_both, index_key_of, index_of, sweep, touched_keys};
+use crate::error::ApplyError;
+use crate::format::type_byte;
+use crate::outcome::Outcome;
+use crate::purge_walk::PurgeWalk;
+use crate::row::Row;
+use crate::row_list::Rows;
+use crate::row_map::{RowMap, map_of};
+use crate::row_puts::{put_after, put_all, rows_of, saved_rows};
+use end_index::EndIndex;
+use isd_as::IsdAs;
+use seg_core::{SegType, Segment};
+use std::alloc::{AllocError, Global};
+use std::marker::Model;
+
+/// A finite map from keys to segments. A key is a type and an id, and keys are ordered by the
+/// type's number and then by the id's bytes. The database keeps the allocator with which it was
+/// made.
+#[derive(Drop)]
+pub struct PathDb {
+    alloc: Global,
+    rows: RowMap,
+    /// Whether the two indexes are kept. They are empty where they are not.
+    indexed: bool,
+    by_first: EndIndex,
+    by_last: EndIndex,
+    bytes: u128,
+}
+
+impl Model for PathDb {
+    ghost use Rattle.std.specs.Prelude.{List};
+    ghost use Rattle.path_db.specs.Database.{RowView};
+    ghost use Rattle.path_db.specs.Table.{rows_of_table, IsTable};
+
+    ghost Value = { List RowView };
+
+    ghost view = { rows_of_table };
+
+    ghost invariant = { IsTable };
+}
+
+impl PathDb {
+    /// An empty database.
+    pub fn new(alloc: Global) -> PathDb
+        ensures { result ≡ [] }
+    {
+        PathDb {
+            alloc,
+            rows: RowMap::new(alloc),
+            indexed: true,
+            by_first: EndIndex::new(alloc),
+            by_last: EndIndex::new(alloc),
+            bytes: 0,
+        }
+    }
+
+    /// An equal database that keeps no index of its rows by their ends: it takes less memory, and a
+    /// command less time, but `matching` visits all rows of the type. The call takes no memory.
+    pub fn without_indexes(self) -> PathDb
+        ensures { result ≡ self }
+    {
+        let PathDb {
+            alloc,
+            rows,
+            indexed: _indexed,
+            by_first: _by_first,
+            by_last: _by_last,
+            bytes,
+        } = self;
+        PathDb {
+            alloc,
+            rows,
+            indexed: false,
+            by_first: EndIndex::new(alloc),
+            by_last: EndIndex::new(alloc),
+            bytes,
+        }
+    }
+
+    /// The database of these rows, whose keys rise. An error means that memory was refused. An
+    /// empty list takes no memory.
+    pub fn of_rows(alloc: Global, rows: Vec<Row>) -> Result<PathDb, AllocError>
+        requires { IsDatabase (row_views rows.items) }
+        ensures same { IfOk result (λ db. db ≡ row_views rows.items) }
+        ensures memory { OnErr result (0 < length rows.items) }
+    {
+        if rows.is_empty() {
+            return Ok(PathDb::new(alloc));
+        }
+        let by_first = index_of(alloc, End::First, &rows)?;
+        let by_last = index_of(alloc, End::Last, &rows)?;
+        let (rows, bytes) = map_of(alloc, rows)?;
+        Ok(PathDb {
+            alloc,
+            rows,
+            indexed: true,
+            by_first,
+            by_last,
+            bytes,
+        })
+    }
+
+    /// Applies a command, or changes nothing where memory is refused. A purge, a removal and a
+    /// registration of no segments take no memory. A registered segment is shared with its row.
+    pub fn apply(&mut self, command: &Command) -> Result<Outcome, AllocError>
+        ensures database { OnOk result (self.new ≡ database_after self.old command.now) }
+        ensures outcome { IfOk result (λ outcome. outcome ≡ outcome_of self.old command.now) }
+        ensures refused { OnErr result (self.new ≡ self.old) }
+        ensures memory { OnErr result (TakesMemory command.now) }
+        ensures whole { IsDatabase self.new }
+    {
+        match self.apply_up_to(command, u128::MAX) {
+            Ok(outcome) => Ok(outcome),
+            Err(_) => Err(AllocError),
+        }
+    }
+
+    /// Applies a command, or changes nothing where memory is refused or the rows would take more
+    /// than `most` bytes as records. A purge, a removal and a registration of no segments never add
+    /// bytes, and are applied whatever the limit.
+    pub fn apply_within(&mut self, command: &Command, most: u64) -> Result<Outcome, ApplyError>
+        ensures database { OnOk result (self.new ≡ database_after self.old command.now) }
+        ensures outcome { IfOk result (λ outcome. outcome ≡ outcome_of self.old command.now) }
+        ensures within { OnOk result (rows_len self.new ≤ max most (rows_len self.old)) }
+        ensures fits { OnOk result (TakesMemory command.now → rows_len self.new ≤ most) }
+        ensures refused { OnErr result (self.new ≡ self.old) }
+        ensures full { IfErr result (λ e. e ≡ Full → most < rows_len (database_after self.old command.now)) }
+        ensures registers { OnErr result (TakesMemory command.now) }
+        ensures whole { IsDatabase self.new }
+    {
+        self.apply_up_to(command, u128::from(most))
+    }
+
+    /// Applies a command, or changes nothing. `most` counts bytes.
+    #[tactic(auto, unfolding(crate::specs::Command::database_after, crate::specs::Command::outcome_of))]
+    fn apply_up_to(&mut self, command: &Command, most: u128) -> Result<Outcome, ApplyError>
+        ensures database { OnOk result (self.new ≡ database_after self.old command.now) }
+        ensures outcome { IfOk result (λ outcome. outcome ≡ outcome_of self.old command.now) }
+        ensures within { OnOk result (rows_len self.new ≤ max most (rows_len self.old)) }
+        ensures fits { OnOk result (TakesMemory command.now → rows_len self.new ≤ most) }
+        ensures refused { OnErr result (self.new ≡ self.old) }
+        ensures full { IfErr result (λ e. e ≡ Full → most < rows_len (database_after self.old command.now)) }
+        ensures registers { OnErr result (TakesMemory command.now) }
+        ensures whole { IsDatabase self.new }
+    {
+        match command {
+            Command::Register(registration) => self.register(registration.as_slice(), most),
+            Command::Purge(moment) => Ok(self.purge(*moment)),
+            Command::Remove(kind, id) => Ok(self.remove(*kind, id)),
+        }
+    }
+
+    /// Puts segments one after the other, or none of them.
+    fn register(&mut self, new: &[(SegType, Segment)], most: u128) -> Result<Outcome, ApplyError>
+        ensures database { OnOk result (self.new ≡ database_after_puts self.old new.now) }
+        ensures outcome { IfOk result (λ outcome. outcome ≡ outcome_of_puts (changes_of self.old new.now)) }
+        ensures within { OnOk result (rows_len self.new ≤ max most (rows_len self.old)) }
+        ensures fits { OnOk result (0 < length new.now → rows_len self.new ≤ most) }
+        ensures refused { OnErr result (self.new ≡ self.old) }
+        ensures full { IfErr result (λ e. e ≡ Full → most < rows_len (database_after_puts self.old new.now)) }
+        ensures memory { OnErr result (0 < length new.now) }
+        ensures whole { IsDatabase self.new }
+    {
+        if let [one] = new {
+            if let Some(outcome) = self.renew(one, most) {
+                return Ok(outcome);
+            }
+        }
+        let new = rows_of(self.alloc, new)?;
+        self.put(new, most)
+    }
+
+    /// Puts a segment, where there is a row under its key with the same ends, and all rows with the
+    /// new one have at most `most` bytes. Otherwise nothing changes.
+    fn renew(&mut self, new: &(SegType, Segment), most: u128) -> Option<Outcome>
+        ensures database { ForSome result (λ _. self.new ≡ database_after_puts self.old (new.now ∷ [])) }
+        ensures outcome { ForSome result (λ outcome. outcome ≡ outcome_of_puts (changes_of self.old (new.now ∷ []))) }
+        ensures within { ForSome result (λ _. rows_len self.new ≤ most) }
+        ensures whole { ForSome result (λ _. IsDatabase self.new) }
+        ensures none { result ≡ None → self.new ≡ self.old }
+    {
+        let Ok(segment) = new.1.try_clone() else {
+            return None;
+        };
+        let row = Row::new(new.0, segment);
+        if most.saturating_sub(self.bytes) < u128::from(row.len()) {
+            return None;
+        }
+        let change = self.rows.renew(&mut self.bytes, row)?;
+        let mut outcome = Outcome::nothing();
+        outcome.count(change);
+        Some(outcome)
+    }
+
+    /// Puts rows one after the other, or none of them where memory is refused or the rows would
+    /// take more than `most` bytes.
+    fn put(&mut self, new: Vec<Row>, most: u128) -> Result<Outcome, ApplyError>
+        requires { AreWhole (row_views new.items) }
+        ensures database { OnOk result (self.new ≡ database_after_puts self.old (row_views new.items)) }
+        ensures outcome { IfOk result (λ outcome. outcome ≡ outcome_of_puts (changes_of self.old (row_views new.items))) }
+        ensures within { OnOk result (rows_len self.new ≤ max most (rows_len self.old)) }
+        ensures fits { OnOk result (0 < length new.items → rows_len self.new ≤ most) }
+        ensures refused { OnErr result (self.new ≡ self.old) }
+        ensures full { IfErr result (λ e. e ≡ Full → most < rows_len (database_after_puts self.old (row_views new.items))) }
+        ensures memory { OnErr result (0 < length new.items) }
+        ensures whole { IsDatabase self.new }
+    {
+        let saved = saved_rows(self.alloc, &self.rows, &new)?;
+        if new.is_empty() {
+            return Ok(Outcome::nothing());
+        }
+        if !self.indexed {
+            return put_all(&mut self.rows, &mut self.bytes, new, saved, most);
+        }
+        let firsts = touched_keys(self.alloc, End::First, &new, &saved)?;
+        let lasts = touched_keys(self.alloc, End::Last, &new, &saved)?;
+        let added = add_both(&mut self.by_first, &firsts, &mut self.by_last, &lasts);
+        let put = put_after(added, &mut self.rows, &mut self.bytes, new, saved, most);
+        sweep(End::First, &mut self.by_first, &self.rows, &firsts);
+        sweep(End::Last, &mut self.by_last, &self.rows, &lasts);
+        put
+    }
+
+    /// Drops every row that expires at the moment or before. The moment is in half seconds since
+    /// 1970.
+    fn purge(&mut self, moment: u64) -> Outcome
+        ensures database { self.new ≡ database_after_purge self.old moment }
+        ensures fewer { rows_len self.new ≤ rows_len self.old }
+        ensures outcome { result ≡ outcome_of_drops (count_by (λ row. not (is_valid_beyond moment row)) self.old) }
+        ensures whole { IsDatabase self.new }
+    {
+        if self.rows.outlasts(moment) {
+            return Outcome::dropped(0);
+        }
+        let before = self.rows.len();
+        let mut walk = PurgeWalk::new(moment);
+        while self.drop_next(&mut walk) {}
+        Outcome::dropped(before - self.len())
+    }
+
+    /// Drops the next row of a walk that expires at the walk's moment or before. `false` means that
+    /// no such row is left.
+    fn drop_next(&mut self, walk: &mut PurgeWalk) -> bool
+        requires { HasPassed walk.old self.old }
+        ensures others { database_after_purge self.new walk.old.moment ≡ database_after_purge self.old walk.old.moment }
+        ensures dropped { result ≡ true → length self.new < length self.old }
+        ensures none { result ≡ false → database_after_purge self.new walk.old.moment ≡ self.new }
+        ensures passed { HasPassed walk.new self.new }
+        ensures moment { walk.new.moment ≡ walk.old.moment }
+        ensures whole { IsDatabase self.new }
+    {
+        let Some(row) = walk.next_expired(&self.rows) else {
+            self.rows.keep_least_expiry(walk.least);
+            return false;
+        };
+        let kind = row.kind;
+        let id = *row.id();
+        self.remove(kind, &id);
+        true
+    }
+
+    /// Drops the row of a type and an id, where there is one.
+    fn remove(&mut self, kind: SegType, id: &[u8; 32]) -> Outcome
+        ensures database { self.new ≡ database_after_removal self.old (key kind id.now) }
+        ensures fewer { rows_len self.new ≤ rows_len self.old }
+        ensures outcome { result ≡ outcome_of_drops (if is_some (row_under (key kind id.now) self.old) then 1 else 0) }
+        ensures whole { IsDatabase self.new }
+    {
+        let Some(row) = self.rows.remove(kind, id) else {
+            return Outcome::dropped(0);
+        };
+        self.by_first.remove(&index_key_of(End::First, &row));
+        self.by_last.remove(&index_key_of(End::Last, &row));
+        self.bytes -= u128::from(row.len());
+        Outcome::dropped(1)
+    }
+
+    /// The segment of the row with this type and id. `None` where there is no such row.
+    pub fn get(&self, kind: SegType, id: &[u8; 32]) -> Option<&Segment>
+        ensures same { option_copied result ≡ option_map (λ row. row.1) (row_under (key kind id.now) self.now) }
+        ensures whole { IsDatabase self.now }
+    {
+        match self.rows.get(kind, id) {
+            Some(row) => Some(&row.segment),
+            None => None,
+        }
+    }
+
+    /// All rows, in the order of their keys.
+    pub fn rows(&self) -> Rows<'_>
+        ensures same { result ≡ self.now }
+        ensures whole { IsDatabase self.now }
+    {
+        self.rows.rows()
+    }
+
+    /// The segments of the first rows by key, at most `limit`, that are of this type, whose first
+    /// entry `start` covers and whose last entry `end` covers (a part that is 0 covers all), and
+    /// that expire after `now`, in half seconds since 1970. The segments are shared, not copied. An
+    /// error means that memory was refused. An answer without segments takes no memory.
+    pub fn matching(
+        &self,
+        kind: SegType,
+        start: IsdAs,
+        end: IsdAs,
+        now: u64,
+        limit: usize,
+    ) -> Result<Vec<Segment>, AllocError>
+        ensures same { IfOk result (λ found. found.items ≡ segments_of (answer_of limit self.now kind (isd_as_number start) (isd_as_number end) now)) }
+        ensures memory { OnErr result (0 < length (answer_of limit self.now kind (isd_as_number start) (isd_as_number end) now)) }
+        ensures few { IfOk result (λ found. length found.items ≤ limit) }
+        ensures whole { IfOk result (λ found. AllByRecursion IsSegment found.items) }
+    {
+        let wanted = Wanted {
+            kind,
+            start,
+            end,
+            moment: now,
+        };
+        if self.indexed {
+            if is_indexed(end) {
+                let index_keys = self.by_last.keys_at(type_byte(kind), end.to_u64());
+                return shown_at(self.alloc, &self.rows, index_keys, wanted, limit);
+            }
+            if is_indexed(start) {
+                let index_keys = self.by_first.keys_at(type_byte(kind), start.to_u64());
+                return shown_at(self.alloc, &self.rows, index_keys, wanted, limit);
+            }
+        }
+        first_shown(self.alloc, self.rows.of_type(kind), wanted, limit)
+    }
+
+    /// The number of rows. The call takes constant time.
+    pub fn len(&self) -> usize
+        ensures count { result ≡ length self.now }
+        ensures whole { IsDatabase self.now }
+    {
+        self.rows.len()
+    }
+
+    /// The bytes of all rows as records: for each the type (1), the length (4), and the segment's
+    /// encoding. The result is 2^64 - 1 for a greater count. The call takes constant time, as the
+    /// count is kept up to date.
+    pub fn encoded_len(&self) -> u64
+        ensures { result ≡ min (rows_len self.now) (2 ^ 64 - 1) }
+    {
+        u64::try_from(self.bytes).unwrap_or(u64::MAX)
+    }
+
+    /// An equal database, which shares the segments. An error means that memory was refused. A copy
+    /// of an empty database takes no memory.
+    pub fn try_clone(&self) -> Result<PathDb, AllocError>
+        ensures same { IfOk result (λ copy. copy ≡ self.now) }
+        ensures memory { OnErr result (0 < length self.now) }
+        ensures whole { IfOk result (λ copy. IsDatabase copy) }
+    {
+        if self.rows.len() == 0 {
+            return Ok(PathDb::new(self.alloc));
+        }
+        Ok(PathDb {
+            alloc: self.alloc,
+            rows: self.rows.try_clone(self.alloc)?,
+            indexed: self.indexed,
+            by_first: self.by_first.try_clone()?,
+            by_last: self.by_last.try_clone()?,
+            bytes: self.bytes,
+        })
+    }
+}

@@ -1,7 +1,0 @@
-use Rattle.std.proofs.Common.{◌∙◌}
-use Rattle.isd_as.specs.IsdAs.{isd_as_number}
-use Rattle.path_rows.proofs.Ends.{ends_is}
-use Rattle.path_rows.proofs.answers.covers_last.Goals as goal
-
-pub returns : goal.returns
-returns c = c.covers_entry.ensures ∙ ends_is (isd_as_number c.args.pattern) c.args.entries.now c.last.result c.last.ensures.value

@@ -1,6 +1,0 @@
--- One goal, which the search finds itself.
-use Rattle.std.proofs.Common.{rules}
-use Rattle.path_rows.proofs.command.Registration.new.Goals as goal
-
-pub returns : goal.returns
-returns c = search rules

@@ -1,5 +1,0 @@
-use Rattle.path_rows.proofs.Keys.{keys_are_separate}
-use Rattle.path_rows.proofs.command_laws.keys_are_separate.Goals as goal
-
-pub returns : goal.returns
-returns c = keys_are_separate

@@ -1,4 +1,0 @@
-mod Members
-mod Newest
-mod Folds
-mod Agreeing

@@ -1,0 +1,23 @@
+//! Tests of the command line: how its words are read, commands over a store whose device, output or
+//! memory fails, the page of a server's numbers, and the error line and the status with which the
+//! program ends. Whole command lines are in `test_program`.
+#![tactic(auto)]
+
+#[cfg(test)]
+mod asking;
+#[cfg(test)]
+mod commands;
+#[cfg(test)]
+mod lines;
+#[cfg(test)]
+mod options;
+#[cfg(test)]
+mod pages;
+#[cfg(test)]
+mod refusals;
+#[cfg(test)]
+mod requests;
+#[cfg(test)]
+mod versions;
+#[cfg(test)]
+mod writers;

@@ -1,0 +1,207 @@
+//! What command lines ask for, and how they are refused. What is printed of refused ones, and the
+//! help, are lines of `test_program`.
+
+use clap::error::ErrorKind;
+use cli_words::{
+    CHECKPOINT, CORES, CommandLine, DEVICE, FORCE, FORMAT, FUTURE, GRACE, HEX, IDLE, JOURNAL, KEY,
+    LAYOUT, LISTEN, NEW, NOW, ONCE, PEER_SESSIONS, QUIET, RUN, SESSIONS, SHOW, SPARE, STATUS,
+    STATUS_LISTEN, STOP_ON_END_OF_INPUT, Subcommand, UPGRADE, read,
+};
+use std::alloc::Global;
+use std::process::Abort;
+
+/// Appends a word, which is kept as a text.
+fn push_word(rt: &impl Abort, alloc: Global, words: &mut Vec<String>, word: &str) {
+    let word = word.to_string(alloc).expect(rt, "no memory");
+    words.push(word).expect(rt, "no memory");
+}
+
+/// The words of a line, which are parted by single spaces, after the program's name.
+fn words_of(rt: &impl Abort, alloc: Global, line: &str) -> Vec<String> {
+    let mut words = Vec::new(alloc);
+    push_word(rt, alloc, &mut words, "pathd");
+    for word in line.split(' ') {
+        push_word(rt, alloc, &mut words, word);
+    }
+    words
+}
+
+/// An option of a command line, and its value.
+#[derive(Clone, Copy)]
+struct Value {
+    line: &'static str,
+    /// The command that the line asks for.
+    command: &'static str,
+    option: &'static str,
+    value: Option<&'static str>,
+}
+
+const ALL_OF_ONCE: &str = "once --cores 1-1,2-2 --now 5 --key 00ff --hex";
+
+const ALL_OF_RUN: &str =
+    "run --quiet --grace 4294967295 --stop-on-end-of-input --peer-sessions 18446744073709551615 --idle 4294967295 --future 4294967295 --spare 56 --sessions 18446744073709551615 --key 00 --cores 1-1 --status [::1]:1 --listen [::1]:0 d";
+
+#[rattlefmt::skip]
+const VALUES: [Value; 36] = [
+    Value { line: ALL_OF_ONCE, command: ONCE, option: CORES, value: Some("1-1,2-2") },
+    Value { line: ALL_OF_ONCE, command: ONCE, option: NOW, value: Some("5") },
+    Value { line: ALL_OF_ONCE, command: ONCE, option: KEY, value: Some("00ff") },
+    Value { line: "once", command: ONCE, option: CORES, value: None },
+    Value { line: "once", command: ONCE, option: NOW, value: None },
+    Value { line: "once", command: ONCE, option: KEY, value: None },
+    Value { line: "once --key=", command: ONCE, option: KEY, value: Some("") },
+    Value { line: "format d --checkpoint 2 --journal 516", command: FORMAT, option: DEVICE, value: Some("d") },
+    Value { line: "format --journal=516 --checkpoint=2 d", command: FORMAT, option: DEVICE, value: Some("d") },
+    Value { line: "format d --checkpoint 1048576 --journal 516", command: FORMAT, option: CHECKPOINT, value: Some("1048576") },
+    Value { line: "format d --checkpoint 2 --journal 1048576", command: FORMAT, option: JOURNAL, value: Some("1048576") },
+    Value { line: "show d", command: SHOW, option: DEVICE, value: Some("d") },
+    Value { line: "show --layout d", command: SHOW, option: DEVICE, value: Some("d") },
+    Value { line: "show -- --layout", command: SHOW, option: DEVICE, value: Some("--layout") },
+    Value { line: "status d", command: STATUS, option: DEVICE, value: Some("d") },
+    Value { line: "status -- --layout", command: STATUS, option: DEVICE, value: Some("--layout") },
+    Value { line: "upgrade d", command: UPGRADE, option: DEVICE, value: Some("d") },
+    Value { line: ALL_OF_RUN, command: RUN, option: DEVICE, value: Some("d") },
+    Value { line: ALL_OF_RUN, command: RUN, option: LISTEN, value: Some("[::1]:0") },
+    Value { line: ALL_OF_RUN, command: RUN, option: STATUS_LISTEN, value: Some("[::1]:1") },
+    Value { line: ALL_OF_RUN, command: RUN, option: SESSIONS, value: Some("18446744073709551615") },
+    Value { line: ALL_OF_RUN, command: RUN, option: IDLE, value: Some("4294967295") },
+    Value { line: ALL_OF_RUN, command: RUN, option: PEER_SESSIONS, value: Some("18446744073709551615") },
+    Value { line: ALL_OF_RUN, command: RUN, option: GRACE, value: Some("4294967295") },
+    Value { line: ALL_OF_RUN, command: RUN, option: FUTURE, value: Some("4294967295") },
+    Value { line: ALL_OF_RUN, command: RUN, option: SPARE, value: Some("56") },
+    Value { line: ALL_OF_RUN, command: RUN, option: CORES, value: Some("1-1") },
+    Value { line: ALL_OF_RUN, command: RUN, option: KEY, value: Some("00") },
+    Value { line: "run d --listen a", command: RUN, option: LISTEN, value: Some("a") },
+    Value { line: "run d --listen a", command: RUN, option: STATUS_LISTEN, value: None },
+    Value { line: "run d --listen a", command: RUN, option: SESSIONS, value: None },
+    Value { line: "run d --listen a", command: RUN, option: IDLE, value: None },
+    Value { line: "run d --listen a", command: RUN, option: PEER_SESSIONS, value: None },
+    Value { line: "run d --listen a", command: RUN, option: GRACE, value: None },
+    Value { line: "run d --listen a", command: RUN, option: FUTURE, value: None },
+    Value { line: "run d --listen a", command: RUN, option: SPARE, value: None },
+];
+
+/// Sees the value of an option.
+fn assert_value(rt: &impl Abort, alloc: Global, wanted: Value) {
+    let Value { line, option, .. } = wanted;
+    let words = words_of(rt, alloc, line);
+    let CommandLine {
+        subcommand,
+        options,
+    } = read(alloc, words.as_slice()).expect(rt, line);
+    assert!(rt;
+        Subcommand::named(wanted.command) == Some(subcommand),
+        "{line}"
+    );
+    assert!(rt; options.get_str(option) == wanted.value, "{line} {option}");
+}
+
+#[test]
+fn values_of_options(rt: HostRuntime) {
+    for value in VALUES {
+        assert_value(&rt, rt.alloc(), value);
+    }
+}
+
+/// A flag of a command line, and whether it is given.
+#[derive(Clone, Copy)]
+struct Flag {
+    line: &'static str,
+    /// The command that the line asks for.
+    command: &'static str,
+    flag: &'static str,
+    is_given: bool,
+}
+
+#[rattlefmt::skip]
+const FLAGS: [Flag; 12] = [
+    Flag { line: "once", command: ONCE, flag: HEX, is_given: false },
+    Flag { line: ALL_OF_ONCE, command: ONCE, flag: HEX, is_given: true },
+    Flag { line: "format d --checkpoint 2 --journal 516 --new", command: FORMAT, flag: NEW, is_given: true },
+    Flag { line: "format d --checkpoint 2 --journal 516 --new", command: FORMAT, flag: FORCE, is_given: false },
+    Flag { line: "format d --force --checkpoint 2 --journal 516", command: FORMAT, flag: FORCE, is_given: true },
+    Flag { line: "format d --force --checkpoint 2 --journal 516", command: FORMAT, flag: NEW, is_given: false },
+    Flag { line: "show d", command: SHOW, flag: LAYOUT, is_given: false },
+    Flag { line: "show d --layout", command: SHOW, flag: LAYOUT, is_given: true },
+    Flag { line: "run d --listen a", command: RUN, flag: QUIET, is_given: false },
+    Flag { line: ALL_OF_RUN, command: RUN, flag: QUIET, is_given: true },
+    Flag { line: "run d --listen a", command: RUN, flag: STOP_ON_END_OF_INPUT, is_given: false },
+    Flag { line: ALL_OF_RUN, command: RUN, flag: STOP_ON_END_OF_INPUT, is_given: true },
+];
+
+/// Sees whether a flag is given.
+fn assert_flag(rt: &impl Abort, alloc: Global, wanted: Flag) {
+    let Flag { line, flag, .. } = wanted;
+    let words = words_of(rt, alloc, line);
+    let CommandLine {
+        subcommand,
+        options,
+    } = read(alloc, words.as_slice()).expect(rt, line);
+    assert!(rt;
+        Subcommand::named(wanted.command) == Some(subcommand),
+        "{line}"
+    );
+    assert!(rt; options.get_flag(flag) == wanted.is_given, "{line} {flag}");
+}
+
+#[test]
+fn flags(rt: HostRuntime) {
+    for flag in FLAGS {
+        assert_flag(&rt, rt.alloc(), flag);
+    }
+}
+
+/// Lines that are refused, and how.
+#[rattlefmt::skip]
+const REFUSED: [(&str, ErrorKind); 36] = [
+    ("run --version", ErrorKind::UnknownArgument),
+    ("once d", ErrorKind::UnknownArgument),
+    ("once --now", ErrorKind::InvalidValue),
+    ("once --now x", ErrorKind::ValueValidation),
+    ("once --hex --hex", ErrorKind::ArgumentConflict),
+    ("once --hex=1", ErrorKind::TooManyValues),
+    ("once --listen a", ErrorKind::UnknownArgument),
+    ("format", ErrorKind::MissingRequiredArgument),
+    ("format d", ErrorKind::MissingRequiredArgument),
+    ("format d --checkpoint 2", ErrorKind::MissingRequiredArgument),
+    ("format d --journal 516", ErrorKind::MissingRequiredArgument),
+    ("format --checkpoint 2 --journal 516", ErrorKind::MissingRequiredArgument),
+    ("format d --checkpoint 1048577 --journal 516", ErrorKind::ValueValidation),
+    ("format d e --checkpoint 2 --journal 516", ErrorKind::UnknownArgument),
+    ("show", ErrorKind::MissingRequiredArgument),
+    ("show d e", ErrorKind::UnknownArgument),
+    ("show d --quiet", ErrorKind::UnknownArgument),
+    ("status d --device=d", ErrorKind::UnknownArgument),
+    ("upgrade", ErrorKind::MissingRequiredArgument),
+    ("upgrade d --layout", ErrorKind::UnknownArgument),
+    ("run --listen a", ErrorKind::MissingRequiredArgument),
+    ("run d --listen", ErrorKind::InvalidValue),
+    ("run d --listen a --listen b", ErrorKind::ArgumentConflict),
+    ("run d --status a", ErrorKind::MissingRequiredArgument),
+    ("run d --listen a --status", ErrorKind::InvalidValue),
+    ("run d --listen a --sessions 18446744073709551616", ErrorKind::ValueValidation),
+    ("run d --listen a --idle 4294967296", ErrorKind::ValueValidation),
+    ("run d --listen a --idle +1", ErrorKind::ValueValidation),
+    ("run d --listen a --peer-sessions +1", ErrorKind::ValueValidation),
+    ("run d --listen a --grace +1", ErrorKind::ValueValidation),
+    ("run d --listen a --grace 4294967296", ErrorKind::ValueValidation),
+    ("run d --listen a --future 4294967296", ErrorKind::ValueValidation),
+    ("run d --listen a --future +1", ErrorKind::ValueValidation),
+    ("run d --listen a --spare 57", ErrorKind::ValueValidation),
+    ("run d --listen a --spare +8", ErrorKind::ValueValidation),
+    ("once --future 1", ErrorKind::UnknownArgument),
+];
+
+/// Sees how a line is refused.
+fn assert_refused(rt: &impl Abort, alloc: Global, line: &str, wanted: ErrorKind) {
+    let words = words_of(rt, alloc, line);
+    let error = read(alloc, words.as_slice()).err().expect(rt, line);
+    assert!(rt; error.kind() == wanted && error.exit_code() == 2, "{line}");
+}
+
+#[test]
+fn lines_that_are_not_read(rt: HostRuntime) {
+    for (line, kind) in REFUSED {
+        assert_refused(&rt, rt.alloc(), line, kind);
+    }
+}
