@@ -4,25 +4,26 @@ _pathd() {
   local current=${COMP_WORDS[COMP_CWORD]} previous=${COMP_WORDS[COMP_CWORD - 1]} words
   COMPREPLY=()
   if ((COMP_CWORD == 1)); then
-    words="once format show status upgrade run help -h --help -V --version"
+    words="once format copy show status upgrade run help -h --help -V --version"
   else
     case $previous in
-      --checkpoint | --journal | --listen | --status | --cores | --key | --sessions | --peer-sessions | --idle | --future | --spare | --grace | --now) return ;;
+      --checkpoint | --journal | --rows | --listen | --status | --cores | --key | --sessions | --peer-sessions | --idle | --future | --spare | --grace | --now) return ;;
     esac
     case ${COMP_WORDS[1]} in
       once) words="--cores --now --key --hex -h --help" ;;
-      format) words="--checkpoint --journal -h --help" ;;
+      copy) words="--checkpoint --journal --rows -h --help" ;;
+      format) words="--checkpoint --journal --rows --new --force -h --help" ;;
       show) words="--layout -h --help" ;;
       status | upgrade) words="-h --help" ;;
       run) words="--listen --status --cores --key --sessions --peer-sessions --idle --future --spare --stop-on-end-of-input --grace --quiet -h --help" ;;
-      help) words="once format show status upgrade run help" ;;
+      help) words="once format copy show status upgrade run help" ;;
       *) return ;;
     esac
   fi
   mapfile -t COMPREPLY < <(compgen -W "$words" -- "$current")
   case ${COMP_WORDS[1]}:$current in
     *:-*) ;;
-    format:* | show:* | status:* | upgrade:* | run:*)
+    format:* | copy:* | show:* | status:* | upgrade:* | run:*)
       ((COMP_CWORD == 1)) || mapfile -t COMPREPLY < <(compgen -f -- "$current")
       ;;
   esac

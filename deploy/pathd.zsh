@@ -7,6 +7,7 @@ _pathd() {
   commands=(
     'once:answer one session from standard input to standard output'
     'format:make a file with an empty store'
+    'copy:make a store with the rows of another'
     'show:print the rows of a store and its place'
     'status:print the numbers of a store'
     'upgrade:write a store in version 2'
@@ -33,7 +34,18 @@ _pathd() {
       _arguments $help \
         '--checkpoint[sectors of a checkpoint area]:C:' \
         '--journal[sectors of a journal]:J:' \
+        '(--checkpoint --journal)--rows[rows for which there is room]:N:' \
+        '(--force)--new[refuse where a store is]' \
+        '(--new)--force[lose a store that is there, without asking]' \
         '1:DEV:_files'
+      ;;
+    copy)
+      _arguments $help \
+        '--checkpoint[sectors of a checkpoint area]:C:' \
+        '--journal[sectors of a journal]:J:' \
+        '(--checkpoint --journal)--rows[rows for which there is room]:N:' \
+        '1:OLD:_files' \
+        '2:NEW:_files'
       ;;
     show)
       _arguments $help \

@@ -14,14 +14,14 @@ from pathlib import Path
 from pathd_tools import TOP, toolbox
 from pathd_tools.pages.source import uses
 
-HUB = "path_hub store_open sector_dev seg_lookup path_db seg_core isd_as"
+HUB = "path_hub hub_readers store_open sector_dev seg_lookup path_db seg_core isd_as"
 # The crates that each program of bench/*.rattle uses.
 PROGRAMS = {
     "checkpoints": "group_core store_open sector_dev",
     "device_memory": "sector_dev",
     "echo_server": "",
     "groups": "group_core store_open sector_dev path_db seg_core",
-    "hub_figures": HUB,
+    "hub_figures": f"{HUB} test_fault_devices",
     "hub_stress": HUB,
     "journals": "gate_journal path_db seg_core",
     "rows": "path_db seg_core",

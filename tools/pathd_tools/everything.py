@@ -26,6 +26,7 @@ PROGRAMS = [
     ("strace perl", "syscalls PROGRAM"),
     ("strace", "faults PROGRAM"),
     ("python3", "closed-handles PROGRAM"),
+    ("python3", "terminal PROGRAM"),
     ("python3", "going-on PROGRAM"),
     ("strace python3", "server-calls PROGRAM"),
     ("root losetup", "block-device PROGRAM"),

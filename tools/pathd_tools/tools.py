@@ -32,6 +32,7 @@ CHECKS = [
     Tool("server-calls", "checks.server_calls", "the reads and writes of a session"),
     Tool("locks", "locks.sh", "the commands beside another process's lock"),
     Tool("closed-handles", "checks.closed_handles", "the commands with closed standard handles: nothing but the store is in its file"),
+    Tool("terminal", "checks.terminal", "`format` at a pseudo terminal: what it asks, and which answers leave the file as it is"),
     Tool("going-on", "checks.going_on", "a server that is stopped and continued, whose lines nobody reads, or that gets no thread"),
     Tool("faults", "faults.sh", "the commands while calls on the store's file fail or are interrupted"),
     Tool("block-device", "block_device.sh", "the commands over a loop device, also one that loses writes; as root"),

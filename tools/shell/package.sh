@@ -69,7 +69,7 @@ expect "each link of its pages leads to something, and no block needs the reposi
 expect "the program prints its help" inside /usr/bin/pathd --help
 expect "a store is made and served, and the probe is answered" sh_inside '
   cd /var/lib/pathd
-  setpriv --reuid pathd --regid pathd --clear-groups pathd format store --checkpoint 64 --journal 516
+  setpriv --reuid pathd --regid pathd --clear-groups pathd format store --new --checkpoint 64 --journal 516
   setpriv --reuid pathd --regid pathd --clear-groups \
     pathd run store --listen 127.0.0.1:39252 --cores 1-ff00:0:110 --sessions 1 &
   MAINPID=$! /usr/lib/pathd/pathd-probe --wait 127.0.0.1:39252

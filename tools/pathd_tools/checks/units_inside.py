@@ -430,7 +430,7 @@ def purge(is_short: bool) -> None:
 
 
 def back_up() -> None:
-    """The page 'Back up and restore', at rest."""
+    """The part 'Back up and restore', at rest."""
     copy = Path("/var/tmp/copy")
     words = ["flock", "--shared", "--nonblock", STORE, "cp", STORE, copy]
     done = run(*words)

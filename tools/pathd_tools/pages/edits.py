@@ -36,7 +36,7 @@ from pathlib import Path
 from pathd_tools.pages.source import CRATES, TOP, crates
 from pathd_tools.toolbox import parser
 
-PAGE = TOP / "docs" / "EDITS.md"
+PAGE = CRATES / "EDITS.md"
 KINDS = {"must-fail": "gate", "more-edits": "beside"}
 HEADER = "| edit | the wrong body | refused by | at |"
 
@@ -412,7 +412,7 @@ def main(words: list[str]) -> int:
     options.add_argument("--beside", action="append_const", dest="kinds", const="beside", help="those of more-edits/ alone")
     options.add_argument("--only", action="append", default=[], metavar="EDIT", help="this edit alone")
     options.add_argument("--judge", action="store_true", help="print the last results again, and try nothing")
-    options.add_argument("--write", action="store_true", help="write docs/EDITS.md by the last results, and try nothing")
+    options.add_argument("--write", action="store_true", help="write crates/EDITS.md by the last results, and try nothing")
     asked = options.parse_args(words)
     if asked.write:
         return write()

@@ -42,16 +42,18 @@ def of_source() -> Commands:
     text = SOURCE.read_text()
     names = dict(re.findall(r'^pub const (\w+): &str = "([^"]*)";', text, re.M))
     functions = bodies(text)
-    device = re.search(r'\.value_name\("(\w+)"\)', functions["device_argument"])[1]
+    paths = {name: re.search(r'\.value_name\("(\w+)"\)', functions[name])[1] for name in functions if name.endswith("_argument")}
     found = {}
     for body in functions.values():
         named = re.search(r"\bCommand::new\(alloc, ([A-Z_]+)\)", body)
         if not named:
             continue
         body += "".join(functions[it] for it in re.findall(r"\b(with_\w+)\(alloc, command\)", body))
+        body += "".join(functions[it] for it in re.findall(r"\b(\w+_option)\(alloc\)", body))
         options = {f"--{names[name]} {value}" for name, value in re.findall(r'\boption\(alloc, (\w+), "(\w+)"', body)}
         options |= {f"--{names[name]}" for name in re.findall(r"\bflag\(alloc, (\w+),", body)}
-        options |= {device} if "device_argument(alloc)" in body else set()
+        named_paths = re.findall(r'\b(\w+_argument)\(alloc\)(?:\s*\.value_name\("(\w+)"\))?', body)
+        options |= {other or paths[name] for name, other in named_paths}
         found[names[named[1]]] = frozenset(options | HELP_OPTIONS)
     return found | {HELP: frozenset()}
 
@@ -113,8 +115,12 @@ class Bash:
 
 
 def without_value_names(commands: Commands) -> Commands:
-    """A command line with one name for all values."""
-    return {name: frozenset(re.sub(r" \w+$", f" {VALUE}", it) for it in options) for name, options in commands.items()}
+    """A command line with one name for all values, and one for all paths."""
+
+    def plain(option: str) -> str:
+        return re.sub(r" \w+$", f" {VALUE}", option) if option.startswith("-") else DEVICE
+
+    return {name: frozenset(plain(it) for it in options) for name, options in commands.items()}
 
 
 def of_zsh() -> Commands:
@@ -124,8 +130,8 @@ def of_zsh() -> Commands:
     listed = re.search(r"^  commands=\(\n(.*?)^  \)", text, re.M | re.S)[1]
     found = {name: frozenset() for name in re.findall(r"^ +'(\w+):", listed, re.M)}
     for name, body in re.findall(r"^    (\w+)\)\n(.*?)^      ;;", text, re.M | re.S):
-        options = {f"{it} {value}".strip() for it, value in re.findall(r"'(--[\w-]+)\[[^]]*\](?::(\w+):)?'", body)}
-        options |= set(re.findall(r"'1:(\w+):_files'", body))
+        options = {f"{it} {value}".strip() for it, value in re.findall(r"'(?:\(--[\w -]+\))?(--[\w-]+)\[[^]]*\](?::(\w+):)?'", body)}
+        options |= set(re.findall(r"'\d:(\w+):_files'", body))
         found[name] = frozenset(options | (common if "_arguments $help" in body else frozenset()))
     return found
 

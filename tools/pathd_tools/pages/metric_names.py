@@ -6,9 +6,8 @@ page cites; the codes of refusals are those of docs/codes.csv. It prints nothing
 - deploy/pathd.rules.yml and deploy/grafana-dashboard.json use no other name, no other value of a
   label, and `rate` and `increase` of counters alone,
 - each name is on the dashboard, or is listed here as left out,
-- the table of docs/operating/numbers.md has each name with its type, and no other, and the page
-  each value of a label but the codes,
-- docs/WATCHING.md has a heading for each alert, and no other.
+- the table of docs/WATCHING.md has each name with its type, and no other, and the page each value
+  of a label but the codes, and a heading for each alert, and no other.
 """
 from __future__ import annotations
 
@@ -23,7 +22,6 @@ from pathd_tools.toolbox import parser
 PAGE = CRATES / "status_page"
 RULES = TOP / "deploy/pathd.rules.yml"
 DASHBOARD = TOP / "deploy/grafana-dashboard.json"
-NUMBERS = TOP / "docs/operating/numbers.md"
 WATCHING = TOP / "docs/WATCHING.md"
 # The names that are on no panel, and why.
 NOT_DRAWN = {"pathd_format_version": "it changes once in a store's life"}
@@ -89,14 +87,14 @@ def problems() -> list[str]:
     drawn = names(used[DASHBOARD], known)
     found += [f"{DASHBOARD.relative_to(TOP)}: {it} is not drawn" for it in sorted(known.keys() - drawn - NOT_DRAWN.keys())]
     found += [f"{it} is drawn, and listed as left out" for it in sorted(NOT_DRAWN.keys() & drawn)]
-    page = NUMBERS.read_text()
+    page = WATCHING.read_text()
     table = dict(re.findall(r"^\| `(pathd_\w+)(?:\{[^}]*\})?` \| (\w+) \|", page, re.M))
     named = sorted(set().union(*(values[label] for label in values if label != "code")))
-    found += [f"{NUMBERS.relative_to(TOP)}: `{it}` is missing" for it in named if f"`{it}`" not in page]
-    found += [f"{NUMBERS.relative_to(TOP)}: the row of {it} is missing or has another type" for it in sorted(known) if table.get(it) != known[it]]
-    found += [f"{NUMBERS.relative_to(TOP)}: {it} is no number of the page" for it in sorted(table.keys() - known.keys())]
+    found += [f"{WATCHING.relative_to(TOP)}: `{it}` is missing" for it in named if f"`{it}`" not in page]
+    found += [f"{WATCHING.relative_to(TOP)}: the row of {it} is missing or has another type" for it in sorted(known) if table.get(it) != known[it]]
+    found += [f"{WATCHING.relative_to(TOP)}: {it} is no number of the page" for it in sorted(table.keys() - known.keys())]
     alerts = set(re.findall(r"^ *- alert: (\w+)", RULES.read_text(), re.M))
-    headed = set(re.findall(r"^### (Pathd\w+)", WATCHING.read_text(), re.M))
+    headed = set(re.findall(r"^### (Pathd\w+)", page, re.M))
     return found + [f"one of {RULES.relative_to(TOP)} and {WATCHING.relative_to(TOP)} alone has {it}" for it in sorted(alerts ^ headed)]
 
 

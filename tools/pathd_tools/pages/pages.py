@@ -14,8 +14,8 @@ END = "<!-- end -->"
 
 
 def pages() -> list[Path]:
-    """README.md and what is beside it, docs/, the crates' pages, and those of clients and tools."""
-    found = [*TOP.glob("*.md"), *(TOP / "docs").glob("**/*.md"), *CRATES.glob("*/README.md")]
+    """README.md and what is beside it, docs/, the crates' pages and what is beside them, and those of clients and tools."""
+    found = [*TOP.glob("*.md"), *(TOP / "docs").glob("**/*.md"), *CRATES.glob("*.md"), *CRATES.glob("*/README.md")]
     found += [*TOP.glob("clients/**/*.md"), *TOP.glob("tools/**/*.md"), *TOP.glob("bench/*.md"), *TOP.glob("deploy/*.md")]
     return sorted(found)
 

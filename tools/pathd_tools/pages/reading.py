@@ -41,7 +41,7 @@ QUOTED_OF_SERVER = CRATES / "log_recovery" / "specs" / "Survival.antt"
 # The contracts that carry each promise.
 PROMISES = [
     ("2: a segment, read", ["seg_core segment::read_segment"]),
-    ("2: the database after a command", ["path_rows database::apply"]),
+    ("2: the database after a command", ["path_db database::apply"]),
     ("2: a lookup's answer", ["seg_lookup classification::classify", "seg_lookup answers::answer"]),
     ("2: `open`, its answer", ["store_open open_store::open opened refused"]),
     ("3: a session over any service", ["session_core serving::serve"]),
@@ -52,7 +52,7 @@ PROMISES = [
     ("4: `run_traced` and `reopen_after`, what survives", SURVIVAL),
     ("4: what a server's device holds", ["path_server running::serve_store"]),
     ("4: `reopen_left`, what survives a server", SERVED),
-    ("5: a lookup", ["path_hub reader::lookup", "path_hub reader::learn"]),
+    ("5: a lookup", ["hub_readers reader::lookup", "hub_readers reader::learn"]),
     ("5: `register`", ["path_hub hub::register"]),
 ]
 
