@@ -13,9 +13,9 @@ use Rattle.ckpt_pair.specs.declared.error.PairError.{PairError}
 use Rattle.ckpt_pair.specs.declared.reading.Front.{Front}
 use Rattle.ckpt_pair.specs.Refusals.{ReadsPair}
 use Rattle.ckpt_pair.specs.Heads.{head_view}
-use Rattle.ckpt_pair.specs.Versions.{latest}
+use Rattle.store_layout.specs.Limits.{latest}
 use Rattle.ckpt_pair.specs.Rows.{as_counted, rows_format}
-use Rattle.ckpt_pair.specs.Reading.{FrontView, front_view, with_room, front_in, or_bad, HasRowsToRead, with_head, with_rows_behind, rows_behind, AreReadByTheirFronts}
+use Rattle.ckpt_pair.specs.Reading.{FrontView, front_view, with_room, front_in, or_bad_checkpoint, HasRowsToRead, with_head, with_rows_behind, rows_behind, AreReadByTheirFronts}
 
 -- the checkpoint by its head, and by whether the rows end within the area
 by_front : (head : Result laws.Head PairRefusal) (fits : Bool) (size count : ℕ) (found : FrontView → Option (List RowView)) (rows : Option (List RowView))
@@ -46,7 +46,7 @@ front_size area front (Err refusal) fits size count reads = absurd reads
 front_size area front (Ok head) false size count reads = absurd reads
 front_size area front (Ok head) true size count reads = sym (ap (λ (view : FrontView). view.size) reads)
 
-found_is : (found : Option (List RowView)) (rows : List RowView) → or_bad found ≡ Ok rows → found ≡ Some rows
+found_is : (found : Option (List RowView)) (rows : List RowView) → or_bad_checkpoint found ≡ Ok rows → found ≡ Some rows
 found_is None rows is = absurd cc
 found_is (Some found) rows is = cc
 
@@ -57,16 +57,16 @@ module _ (area : List ℕ) (front : Front) (rows : List ℕ) (reads : ReadsPair 
       ∙ ap (λ (r : Result FrontView PairRefusal). with_rows_behind r (rows_behind area)) (front_is front (front_in latest (length area) area) reads)
       ∙ ap (λ (l : List ℕ). with_head (head_view front.head) (as_counted front.count (rows_decoding l))) (sym are)
 
-  pub half_read : (db : List RowView) → or_bad (as_counted front.count (rows_decoding rows)) ≡ Ok db
+  pub half_read : (db : List RowView) → or_bad_checkpoint (as_counted front.count (rows_decoding rows)) ≡ Ok db
       → checkpoint_in rows_format latest area ≡ Ok (record { head = head_view front.head; db = db })
   half_read db is = split ∙ ap (with_head (head_view front.head)) (found_is (as_counted front.count (rows_decoding rows)) db is)
 
-  pub half_refused : {X : Type 0} (view : X → laws.Checkpoint (List RowView)) (e : PairError) → ReadsPair (λ (db : List RowView). db) (Err e) (or_bad (as_counted front.count (rows_decoding rows)))
+  pub half_refused : {X : Type 0} (view : X → laws.Checkpoint (List RowView)) (e : PairError) → ReadsPair (λ (db : List RowView). db) (Err e) (or_bad_checkpoint (as_counted front.count (rows_decoding rows)))
       → ReadsPair view (Err e) (checkpoint_in rows_format latest area)
   half_refused {X} view e is =
       subst (λ (r : Result (laws.Checkpoint (List RowView)) PairRefusal). ReadsPair view (Err e) r) (sym split) (so (as_counted front.count (rows_decoding rows)) is)
     where
-      so : (found : Option (List RowView)) → ReadsPair (λ (db : List RowView). db) (Err e) (or_bad found) → ReadsPair view (Err e) (with_head (head_view front.head) found)
+      so : (found : Option (List RowView)) → ReadsPair (λ (db : List RowView). db) (Err e) (or_bad_checkpoint found) → ReadsPair view (Err e) (with_head (head_view front.head) found)
       so None is = is
       so (Some db) is = absurd is
 

@@ -8,7 +8,7 @@ use Rattle.store_layout.specs.CheckpointReading.{PairRefusal, head_in, rows_size
 use Rattle.path_db.specs.Database.{RowView}
 use Rattle.path_records.specs.RowRecord.{rows_decoding}
 use Rattle.path_records.proofs.RowsBack.{rows_back, rows_spelled}
-use Rattle.ckpt_pair.specs.Versions.{latest}
+use Rattle.store_layout.specs.Limits.{latest}
 use Rattle.ckpt_pair.specs.Rows.{as_counted, counted_rows, rows_format}
 use Rattle.ckpt_pair.specs.Checkpoint.{DatabasesAreStorable, DatabasesCanBeCheckpoints, ReadCheckpointsAreDatabases}
 use Rattle.ckpt_pair.proofs.Lengths.{records_len, fewer_rows}

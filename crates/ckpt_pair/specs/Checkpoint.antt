@@ -6,7 +6,7 @@ use Rattle.store_layout.specs.Checkpoint.{CanBeHead, CanBeCheckpoint}
 use Rattle.store_layout.specs.CheckpointReading.{checkpoint_in}
 use Rattle.store_layout.specs.StoreFormat.{IsStorable}
 use Rattle.path_db.specs.Database.{RowView, IsDatabase, rows_len}
-use Rattle.ckpt_pair.specs.Versions.{latest}
+use Rattle.store_layout.specs.Limits.{latest}
 use Rattle.ckpt_pair.specs.Rows.{rows_format}
 
 -- The checkpoint that is written for a database.

@@ -1,6 +1,5 @@
 pub mod Refusals
 pub mod Heads
-pub mod Versions
 pub mod Rows
 pub mod Checkpoint
 pub mod Reading

@@ -9,7 +9,7 @@ use Rattle.path_records.specs.RowRecord.{rows_decoding, HasOutline}
 use Rattle.ckpt_pair.specs.declared.reading.Front.{Front}
 use Rattle.ckpt_pair.specs.declared.reading.Checkpoint.{Checkpoint}
 use Rattle.ckpt_pair.specs.Heads.{head_view}
-use Rattle.ckpt_pair.specs.Versions.{latest}
+use Rattle.store_layout.specs.Limits.{latest}
 use Rattle.ckpt_pair.specs.Rows.{rows_format, as_counted}
 
 -- The front of a checkpoint.
@@ -40,9 +40,9 @@ abbrev pub front_in : ℕ → ℕ → List ℕ → Result FrontView PairRefusal
 front_in known size bytes = with_room (head_in known bytes) (nat_le (BEFORE_ROWS + rows_size bytes) size) (rows_size bytes) (rows_count bytes)
 
 -- A value that may be missing, which is refused as BadCheckpoint where it is.
-abbrev pub or_bad : {X : Type 0} → Option X → Result X PairRefusal
-or_bad None = Err BadCheckpoint
-or_bad (Some x) = Ok x
+abbrev pub or_bad_checkpoint : {X : Type 0} → Option X → Result X PairRefusal
+or_bad_checkpoint None = Err BadCheckpoint
+or_bad_checkpoint (Some x) = Ok x
 
 -- Bytes that begin with these are not read as rows, for any count and whatever bytes come after
 -- them.

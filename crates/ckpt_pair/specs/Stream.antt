@@ -9,7 +9,7 @@ use Rattle.path_records.specs.RowRecord.{rows_decoding}
 use Rattle.path_records.specs.RowWalk.{WalkView, HasGiven}
 use Rattle.path_records.specs.RowsReader.{AreRefused}
 use Rattle.ckpt_pair.specs.declared.row_stream.RowStream.TheInside.{Inside}
-use Rattle.ckpt_pair.specs.Versions.{latest}
+use Rattle.store_layout.specs.Limits.{latest}
 use Rattle.ckpt_pair.specs.Rows.{rows_format, as_counted}
 use Rattle.ckpt_pair.specs.Reading.{FrontView, front_in, with_head}
 

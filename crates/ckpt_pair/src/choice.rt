@@ -59,6 +59,6 @@ pub fn tail_half(heads: Heads, chosen: Half, sealed: bool) -> Result<Half, PairE
 }
 
 /// An opening continues in the half that has the tail.
-pub fn openings_go_on_there<Db, C>()
+pub fn openings_continue_at_the_tail<Db, C>()
     ensures { GoesOnWhereTailStands Db C }
 {}

@@ -6,7 +6,7 @@ ghost use Rattle.store_layout.specs.CheckpointReading.{head_in};
 ghost use Rattle.store_layout.specs.OpeningReading.{head_behind};
 ghost use Rattle.ckpt_pair.specs.Refusals.{ReadsPair};
 ghost use Rattle.ckpt_pair.specs.Heads.{head_view, head_seen};
-ghost use Rattle.ckpt_pair.specs.Versions.{latest};
+ghost use Rattle.store_layout.specs.Limits.{latest};
 
 use crate::error::PairError;
 use crate::format::{CHECKPOINT_MAGIC, EPOCH_AT, PLACE_AT, VERSION_AT};

@@ -15,7 +15,7 @@ mod reading;
 mod row_stream;
 mod rows_laws;
 
-pub use choice::{choose, openings_go_on_there, tail_half};
+pub use choice::{choose, openings_continue_at_the_tail, tail_half};
 pub use encoding::{checkpoint_front, checkpoint_head, encode_checkpoint};
 pub use error::PairError;
 pub use format::{CHECKPOINT_MAGIC, COUNT_AT, SIZE_AT, area_room};

@@ -7,7 +7,7 @@ ghost use Rattle.path_records.specs.RowRecord.{rows_decoding};
 ghost use Rattle.ckpt_pair.specs.declared.error.PairError.TheVariants.{NoMemory, BadCheckpoint};
 ghost use Rattle.ckpt_pair.specs.Refusals.{GivesPair};
 ghost use Rattle.ckpt_pair.specs.Rows.{as_counted};
-ghost use Rattle.ckpt_pair.specs.Reading.{or_bad, AreNoRows};
+ghost use Rattle.ckpt_pair.specs.Reading.{or_bad_checkpoint, AreNoRows};
 
 use crate::error::PairError;
 use crate::reading::has_count;
@@ -46,7 +46,7 @@ pub fn feed_rows_by<B: RowReading>(
 /// The database of all bytes that were fed, which have to be the records of exactly `count` rows.
 /// The call takes memory only where the bytes are the records of some rows.
 pub fn finish_rows(reader: RowsReader, count: u32) -> Result<PathDb, PairError>
-    ensures decoding { GivesPair (λ rows. rows) result (or_bad (as_counted count (rows_decoding reader))) }
+    ensures decoding { GivesPair (λ rows. rows) result (or_bad_checkpoint (as_counted count (rows_decoding reader))) }
     ensures whole { IfOk result IsDatabase }
     ensures memory { IfErr result (λ e. e ≡ NoMemory → IsOk (rows_decoding reader) × (0 < length reader)) }
 {

@@ -8,9 +8,9 @@ ghost use Rattle.store_layout.specs.declared.format.TheConstants.{BEFORE_ROWS};
 ghost use Rattle.store_layout.specs.CheckpointReading.{checkpoint_in};
 ghost use Rattle.ckpt_pair.specs.declared.error.PairError.TheVariants.{NoMemory};
 ghost use Rattle.ckpt_pair.specs.Refusals.{ReadsPair, GivesPair};
-ghost use Rattle.ckpt_pair.specs.Versions.{latest};
+ghost use Rattle.store_layout.specs.Limits.{latest};
 ghost use Rattle.ckpt_pair.specs.Rows.{rows_format, as_counted};
-ghost use Rattle.ckpt_pair.specs.Reading.{front_view, front_in, checkpoint_view, or_bad, HasRowsToRead};
+ghost use Rattle.ckpt_pair.specs.Reading.{front_view, front_in, checkpoint_view, or_bad_checkpoint, HasRowsToRead};
 
 use crate::error::PairError;
 use crate::format::{COUNT_AT, SIZE_AT};
@@ -81,7 +81,7 @@ fn rows_bytes(area: &[u8], size: u32) -> &[u8]
 
 /// Reads exactly this number of rows from all of these bytes.
 fn read_counted(alloc: Global, bytes: &[u8], count: u32) -> Result<PathDb, PairError>
-    ensures decoding { GivesPair (λ rows. rows) result (or_bad (as_counted count (rows_decoding bytes.now))) }
+    ensures decoding { GivesPair (λ rows. rows) result (or_bad_checkpoint (as_counted count (rows_decoding bytes.now))) }
     ensures whole { IfOk result IsDatabase }
     ensures memory { IfErr result (λ e. e ≡ NoMemory → HasOutline bytes.now) }
 {

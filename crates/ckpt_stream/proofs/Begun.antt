@@ -19,13 +19,12 @@ use Rattle.store_layout.specs.GroupReading.{JournalRefusal}
 use Rattle.store_layout.specs.Journal.{Reading}
 use Rattle.store_layout.specs.JournalReading.{journal_scan}
 use Rattle.store_layout.specs.Layout.{Geometry, area_at, area_of, journal_of, image_sectors}
-use Rattle.store_layout.specs.Limits.{limits_of}
+use Rattle.store_layout.specs.Limits.{limits_of, latest}
 use Rattle.store_layout.specs.StoreFormat.{db_after}
 use Rattle.gate_journal.specs.declared.error.JournalError.TheVariants as journal
 use Rattle.gate_journal.specs.declared.scanner.Scan.{Scan}
 use Rattle.gate_journal.specs.Commands.{command_format}
 use Rattle.gate_journal.specs.Scanning.{reading_of}
-use Rattle.ckpt_pair.specs.Versions.{latest}
 use Rattle.ckpt_pair.specs.Reading.{with_head}
 use Rattle.ckpt_pair.specs.Checkpoint.{written_checkpoint}
 use Rattle.ckpt_pair.specs.Rows.{rows_format, as_counted, counted_rows}

@@ -16,7 +16,7 @@ use Rattle.store_layout.specs.CheckpointReading.{PairRefusal, head_in, rows_size
 use Rattle.store_layout.specs.Journal.{Reading}
 use Rattle.store_layout.specs.JournalReading.{journal_scan}
 use Rattle.store_layout.specs.Layout.{Geometry, IsGeometry, image_sectors, area_at, area_of, journal_of}
-use Rattle.store_layout.specs.Limits.{limits_of}
+use Rattle.store_layout.specs.Limits.{limits_of, latest}
 use Rattle.gate_journal.specs.Commands.{command_format}
 use Rattle.gate_journal.specs.Scanning.{reading_of, IsReadUpTo}
 use Rattle.ckpt_pair.specs.declared.reading.Front.{Front}
@@ -24,7 +24,6 @@ use Rattle.ckpt_pair.specs.Heads.{head_view}
 use Rattle.ckpt_pair.specs.Reading.{with_head}
 use Rattle.ckpt_pair.specs.Rows.{rows_format, as_counted, counted_rows}
 use Rattle.ckpt_pair.specs.Stream.{StreamView, HasStreamed}
-use Rattle.ckpt_pair.specs.Versions.{latest}
 use Rattle.path_records.specs.RowWalk.{HasGiven}
 use Rattle.store_open.specs.Sealed.{folded_in, folded_behind, sealed_half}
 use Rattle.store_open.proofs.FirstSectors.{part_in_front}

@@ -6,7 +6,7 @@ use Rattle.store_layout.specs.Checkpoint.{Checkpoint}
 use Rattle.store_layout.specs.CheckpointReading.{checkpoint_in}
 use Rattle.store_layout.specs.Layout.{Geometry, area_of}
 use Rattle.ckpt_pair.specs.declared.error.PairError.{PairError}
-use Rattle.ckpt_pair.specs.Versions.{latest}
+use Rattle.store_layout.specs.Limits.{latest}
 use Rattle.ckpt_pair.specs.Rows.{rows_format}
 use Rattle.std.specs.Prelude.{Err}
 use Rattle.store_open.specs.declared.error.OpenError.{OpenError}

@@ -12,7 +12,7 @@ use Rattle.store_layout.specs.Layout.{Geometry, area_of}
 use Rattle.store_layout.specs.Checkpoint.{Checkpoint, CanBeCheckpoint, checkpoint_bytes, checkpoint_size}
 use Rattle.store_layout.specs.CheckpointReading.{checkpoint_in}
 use Rattle.ckpt_pair.specs.Checkpoint.{written_checkpoint}
-use Rattle.ckpt_pair.specs.Versions.{latest}
+use Rattle.store_layout.specs.Limits.{latest}
 use Rattle.ckpt_pair.specs.Rows.{rows_format}
 use Rattle.store_open.specs.Sealed.{SealedHalf, sealed_half}
 use Rattle.store_open.specs.declared.sealed.SealedError.{SealedError}

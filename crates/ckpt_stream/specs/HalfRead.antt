@@ -35,15 +35,15 @@ IsHalfRead (Rows rows) = AreRowsRead rows
 IsHalfRead (Planned planned) = ArePlanned planned
 
 -- The rows of a front end within an area.
-abbrev pub FitsWithin : Geometry → Front → Type 0
-FitsWithin geometry front = BEFORE_ROWS + front.size ≤ SECTOR * geometry.checkpoint
+abbrev pub FitsArea : Geometry → Front → Type 0
+FitsArea geometry front = BEFORE_ROWS + front.size ≤ SECTOR * geometry.checkpoint
 
 -- What is read is within these sizes.
 abbrev pub IsWithin : Geometry → HalfRead → Type 0
 IsWithin geometry Unread = Unit {0}
-IsWithin geometry (Journal journal) = (journal.sectors ≡ geometry.journal) × FitsWithin geometry journal.front
-IsWithin geometry (Rows rows) = FitsWithin geometry rows.front
-IsWithin geometry (Planned planned) = FitsWithin geometry planned.front
+IsWithin geometry (Journal journal) = (journal.sectors ≡ geometry.journal) × FitsArea geometry journal.front
+IsWithin geometry (Rows rows) = FitsArea geometry rows.front
+IsWithin geometry (Planned planned) = FitsArea geometry planned.front
 
 -- A bound on the number of pieces that are still to be read.
 abbrev pub pieces_to_come : HalfRead → ℕ

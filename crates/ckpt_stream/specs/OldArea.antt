@@ -9,7 +9,7 @@ use Rattle.store_layout.specs.Layout.{Geometry, area_at, area_of}
 use Rattle.store_layout.specs.CheckpointReading.{PairRefusal, checkpoint_in}
 use Rattle.ckpt_pair.specs.declared.reading.Front.{Front}
 use Rattle.ckpt_pair.specs.Heads.{head_view}
-use Rattle.ckpt_pair.specs.Versions.{latest}
+use Rattle.store_layout.specs.Limits.{latest}
 use Rattle.ckpt_pair.specs.Reading.{with_head}
 use Rattle.ckpt_pair.specs.Rows.{rows_format, as_counted}
 use Rattle.store_open.specs.declared.error.OpenError.{OpenError}

@@ -7,7 +7,7 @@ use Rattle.path_db.specs.declared.command.Command.{Command}
 use Rattle.path_records.specs.RowRecord.{rows_encoding}
 use Rattle.store_layout.specs.declared.format.TheConstants.{BEFORE_ROWS}
 use Rattle.store_layout.specs.declared.half.Half.{Half}
-use Rattle.store_layout.specs.Limits.{limits_of}
+use Rattle.store_layout.specs.Limits.{limits_of, latest}
 use Rattle.store_layout.specs.Journal.{IsGroupChain, JournalEndsAs, Reading, all_of}
 use Rattle.store_layout.specs.Layout.{Geometry, area_of, journal_of}
 use Rattle.store_layout.specs.Checkpoint.{Checkpoint}
@@ -17,7 +17,6 @@ use Rattle.gate_journal.specs.Scanning.{reading_of, IsReadUpTo}
 use Rattle.ckpt_pair.specs.declared.reading.Front.{Front}
 use Rattle.ckpt_pair.specs.Heads.{head_view}
 use Rattle.ckpt_pair.specs.Stream.{HasStreamed}
-use Rattle.ckpt_pair.specs.Versions.{latest}
 use Rattle.ckpt_pair.specs.Rows.{rows_format}
 use Rattle.ckpt_stream.specs.declared.half_read.HalfRead.{HalfRead}
 use Rattle.ckpt_stream.specs.declared.half_read.HalfRead.TheVariants.{Unread, Journal, Rows, Planned}

@@ -9,7 +9,7 @@ ghost use Rattle.store_layout.specs.Geometry.{geometry_view};
 ghost use Rattle.store_open.specs.Sealed.{LooksAtHalf};
 ghost use Rattle.ckpt_stream.specs.HalfRead.{IsHalfRead, IsWithin, pieces_to_come, ReadsOn};
 
-use crate::old_area::open_half;
+use crate::old_area::read_half_front;
 use crate::old_journal::{JournalRead, scan_on};
 use crate::old_rows::{PlannedRows, RowsRead, rows_on};
 use byte_lists::SECTOR;
@@ -65,7 +65,7 @@ impl HalfRead {
         ensures reads { IsHonest (D.disk device.old) → ReadsOn (geometry_view geometry) half (reads_of (D.disk device.old)) self result }
     {
         match self {
-            HalfRead::Unread => open_half(alloc, device, geometry, half),
+            HalfRead::Unread => read_half_front(alloc, device, geometry, half),
             HalfRead::Journal(journal) => scan_on(alloc, device, geometry, half, journal),
             HalfRead::Rows(rows) => rows_on(alloc, device, geometry, half, rows),
             HalfRead::Planned(planned) => Ok(HalfRead::Planned(planned)),

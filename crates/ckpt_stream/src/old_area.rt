@@ -23,7 +23,7 @@ use store_layout::{Geometry, Half};
 use store_open::{OpenError, SealedError, read_sector};
 
 /// Reads the front of a half's area. Its journal comes next.
-pub(crate) fn open_half<D: Device>(
+pub(crate) fn read_half_front<D: Device>(
     alloc: Global,
     device: &mut D,
     geometry: Geometry,

@@ -8,7 +8,7 @@ use Rattle.sector_dev.specs.PositionedFile.{FileState, IsHonestFile}
 use Rattle.sector_dev.specs.Stretch.{Stretch}
 use Rattle.sector_dev.proofs.Stretches.{honest_after}
 use Rattle.store_layout.specs.Opening.{StoreValue, OpensTo}
-use Rattle.ckpt_pair.specs.Versions.{latest}
+use Rattle.store_layout.specs.Limits.{latest}
 use Rattle.store_open.specs.Open.{IsOpened, OpensAlike}
 use Rattle.store_open.specs.PathStores.{store_format}
 use Rattle.store_open.specs.Store.{StoreView}

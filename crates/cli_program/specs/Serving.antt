@@ -7,7 +7,7 @@ use Rattle.sector_dev.specs.Image.{IsImage, IsFromImage}
 use Rattle.sector_dev.specs.PositionedFile.{FileState, IsHonestFile, file_moment}
 use Rattle.sector_dev.specs.Stretch.{Stretch}
 use Rattle.store_layout.specs.Opening.{StoreValue, OpensTo}
-use Rattle.ckpt_pair.specs.Versions.{latest}
+use Rattle.store_layout.specs.Limits.{latest}
 use Rattle.store_open.specs.Open.{OpensAlike}
 use Rattle.store_open.specs.PathStores.{store_format}
 use Rattle.logged_state.specs.Kept.{AllClaimsKept}

@@ -86,7 +86,7 @@ impl Display for Failure<'_> {
                 )
             }
             Failure::File(path, error) => write_no_file(f, path, error),
-            Failure::Store(path, fault) => write_no_store(f, path, *fault),
+            Failure::Store(path, fault) => write_store_failure(f, path, *fault),
             Failure::Listen(text, error) => write!(f, "cannot listen at {text}: {error}"),
             Failure::Server(error) => write!(f, "the server ended: {error}"),
             Failure::Session(fault) => write_no_session(f, *fault),
@@ -110,7 +110,7 @@ fn write_no_file<W: fmt::Write>(
 }
 
 /// Writes why a device's store is not made, opened or changed, or not printed.
-fn write_no_store<W: fmt::Write>(
+fn write_store_failure<W: fmt::Write>(
     f: &mut Formatter<W>,
     path: &str,
     fault: StoreFault,

@@ -4,7 +4,7 @@ use Rattle.std.specs.Io.KnownBytes.{Appends}
 use Rattle.sector_dev.specs.Disk.{Disk, IsHonest, reads_of}
 use Rattle.sector_dev.specs.Calls.{Keeps, one_more}
 use Rattle.store_layout.specs.OpeningReading.{opening_of}
-use Rattle.ckpt_pair.specs.Versions.{latest}
+use Rattle.store_layout.specs.Limits.{latest}
 use Rattle.store_open.specs.PathStores.{store_format}
 use Rattle.store_open.specs.Open.{RefusesOpening, WantsMemoryToOpen}
 use Rattle.store_open.specs.declared.error.OpenError.{OpenError}

@@ -9,7 +9,7 @@ use Rattle.path_db.specs.declared.command.Command.{Command}
 use Rattle.store_layout.specs.declared.format.TheConstants.{BEFORE_ROWS}
 use Rattle.store_layout.specs.Opening.{Opening, IsOpening, opening_value}
 use Rattle.store_layout.specs.StoreGrowth.{last_reading}
-use Rattle.ckpt_pair.specs.Versions.{latest}
+use Rattle.store_layout.specs.Limits.{latest}
 use Rattle.store_open.specs.PathStores.{store_format}
 use Rattle.store_open.specs.Store.{counted_len}
 use Rattle.whole_writes.specs.Written.{IsWrittenInPart}

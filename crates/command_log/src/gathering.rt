@@ -45,7 +45,7 @@ pub struct LogDesk<B: LogName> {
 
 impl<B: LogName> LogDesk<B> {
     /// A list in which there is no claim yet.
-    pub fn list(&self) -> LoggedList<B>
+    pub fn empty_list(&self) -> LoggedList<B>
         ensures { result ≡ [] }
     {
         LoggedList {

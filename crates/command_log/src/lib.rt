@@ -4,7 +4,7 @@
 //!
 //! To the layer above: `CommandLog::append` returns a claim of a command at its index, and
 //! `CommandLog::redeem` exchanges the claim of a committed command for one that also says that the
-//! command is committed. `CommandLog::find` says that the log has the command of such a claim at
+//! command is committed. `CommandLog::prove_committed` says that the log has the command of such a claim at
 //! its index, among the committed ones. Claims are handed from thread to thread, any number of them
 //! may be dropped, and no call compares anything at run time.
 #![tactic(auto)]

@@ -2,7 +2,7 @@
 
 ghost use Rattle.std.specs.Prelude.{◌≡◌, ◌<◌, [], ◌++◌, true, false};
 ghost use Rattle.command_log.specs.Log.{log_with, with_committed, next_claim};
-ghost use Rattle.command_log.specs.Passes.{keeper_view, claim_view, no_view, gathered_view, log_in, claim_in, known_in, IsKeeper, IsTrueOf};
+ghost use Rattle.command_log.specs.Passes.{keeper_view, claim_view, no_view, gathered_view, log_in, claim_in, known_in, IsKeeper, ClaimsHoldIn};
 
 use crate::rule::{
     Appends, Checks, Chosen, CommitMoment, Commits, Confirms, Copies, Gathers, Issues, LogPass,
@@ -75,12 +75,12 @@ pub(crate) fn confirm(table: &LogTable, keeper: &mut LogPass, claim: LogPass) ->
 }
 
 /// The keeper takes in a claim, and compares it with the log.
-pub(crate) fn compare(table: &LogTable, keeper: &mut LogPass, claim: LogPass)
+pub(crate) fn check_claim(table: &LogTable, keeper: &mut LogPass, claim: LogPass)
     requires table { (keeper.old.table_id ≡ table.now.shared.table_id) × (table.now.shared.table_id.words ≡ 1) }
     requires keeper { IsKeeper keeper.old.me.0 }
     requires claim { (claim.table_id ≡ keeper.old.table_id) × (claim.me.1 ≡ []) }
     ensures kept { (keeper.new.table_id ≡ keeper.old.table_id) × (keeper.new.me.0 ≡ keeper.old.me.0) }
-    ensures claim { IsTrueOf (log_in keeper.old.me.0) claim.me.0 }
+    ensures claim { ClaimsHoldIn (log_in keeper.old.me.0) claim.me.0 }
 {
     table.shared.join_seat::<Takes>(keeper, claim);
     table.shared.load::<Checks>(keeper, 0);

@@ -58,24 +58,24 @@ impl UnnamedLog {
 
     /// The command of a claim of this log is among the committed ones, at its index. The call
     /// compares nothing.
-    pub fn find(&mut self, logged: UnnamedClaim)
+    pub fn prove_committed(&mut self, logged: UnnamedClaim)
         requires { logged.table ≡ self.old.table }
         ensures same { self.new ≡ self.old }
         ensures found { IsCommitted self.old.log logged.claim }
     {
         let UnnamedClaim { pass } = logged;
-        steps::compare(&self.table, &mut self.keeper, pass);
+        steps::check_claim(&self.table, &mut self.keeper, pass);
     }
 
     /// The commands of all claims of a list of this log are among the committed ones, each at its
     /// index. The call compares nothing.
-    pub fn find_all(&mut self, list: &mut UnnamedList)
+    pub fn prove_all(&mut self, list: &mut UnnamedList)
         requires { list.old.table ≡ self.old.table }
         ensures same { (self.new ≡ self.old) × (list.new ≡ list.old) }
         ensures found { AllByRecursion (IsCommitted self.old.log) list.old.claims }
     {
         let copy = steps::copy(&self.table, &mut list.pass);
-        steps::compare(&self.table, &mut self.keeper, copy);
+        steps::check_claim(&self.table, &mut self.keeper, copy);
     }
 }
 

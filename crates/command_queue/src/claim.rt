@@ -30,7 +30,7 @@ impl<J: QueueName> Claim<J> {
     }
 
     /// Two claims of one number are of one command.
-    pub fn agrees(&self, other: &Claim<J>)
+    pub fn same_number_means_same_command(&self, other: &Claim<J>)
         requires { self.now.number ≡ other.now.number }
         ensures { self.now.command.value ≡ other.now.command.value }
     {

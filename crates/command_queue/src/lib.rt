@@ -7,7 +7,7 @@
 //!
 //! To the layer above: `CommandQueue::hand_in` returns a claim of the command that was passed, with
 //! the next number. `CommandQueue::take` returns the command that waits longest, with a claim of
-//! that command. `Claim::agrees` shows that two claims of one number are of one command.
+//! that command. `Claim::same_number_means_same_command` shows that two claims of one number are of one command.
 #![tactic(auto)]
 
 mod claim;

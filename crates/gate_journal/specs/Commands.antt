@@ -8,9 +8,9 @@ use Rattle.path_records.proofs.Exports.{command_spelled, command_read_on}
 use Rattle.store_layout.specs.CommandFormat.{CommandFormat}
 
 -- A reading that returns a command did not refuse it.
-pub read_from : {T E : Type 0} (reading : Result T E) (value : T) → result_ok reading ≡ Some value → reading ≡ Ok value
-read_from (Ok other) value is = cc
-read_from (Err refusal) value is = cc
+pub returned_as_read : {T E : Type 0} (reading : Result T E) (value : T) → result_ok reading ≡ Some value → reading ≡ Ok value
+returned_as_read (Ok other) value is = cc
+returned_as_read (Err refusal) value is = cc
 
 -- The format of commands: a command is encoded as its record, and bytes are read as one. Of the
 -- limits, the one on removals counts.
@@ -19,8 +19,8 @@ command_format = record {
   encoding = command_encoding;
   decoding = λ limits bytes. result_ok (command_decoding limits.removals bytes);
   spelled = λ limits bytes command each is.
-      command_spelled limits.removals bytes command each (read_from (command_decoding limits.removals bytes) command is);
+      command_spelled limits.removals bytes command each (returned_as_read (command_decoding limits.removals bytes) command is);
   grows = λ small large bytes command larger is.
       ap result_ok (command_read_on small.removals large.removals bytes command larger.removals
-      (read_from (command_decoding small.removals bytes) command is));
+      (returned_as_read (command_decoding small.removals bytes) command is));
 }

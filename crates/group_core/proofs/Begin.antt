@@ -10,7 +10,7 @@ use Rattle.sector_dev.specs.Image.{IsFromImage}
 use Rattle.sector_dev.specs.Stretch.{Leaves}
 use Rattle.sector_dev.proofs.Images.{image_of_reads}
 use Rattle.sector_dev.proofs.Stretches.{honest_before, leaves_here}
-use Rattle.store_layout.specs.Limits.{limits_of}
+use Rattle.store_layout.specs.Limits.{limits_of, latest}
 use Rattle.store_layout.specs.Journal.{all_of, IsJournal}
 use Rattle.store_layout.specs.declared.half.Half.{Half}
 use Rattle.store_layout.specs.Layout.{Geometry, other, area_of, journal_of}
@@ -19,7 +19,6 @@ use Rattle.store_layout.specs.CheckpointReading.{checkpoint_in}
 use Rattle.store_layout.specs.Checkpoint.{Checkpoint, checkpoint_bytes, checkpoint_encoding}
 use Rattle.store_layout.proofs.Exports.{checkpoint_read, journal_read, store_journal}
 use Rattle.gate_journal.specs.Commands.{command_format}
-use Rattle.ckpt_pair.specs.Versions.{latest}
 use Rattle.ckpt_pair.specs.Checkpoint.{written_checkpoint}
 use Rattle.ckpt_pair.specs.Rows.{rows_format}
 use Rattle.ckpt_stream.specs.Merge.{MergeView, encoding_made}

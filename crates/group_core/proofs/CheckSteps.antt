@@ -8,14 +8,13 @@ use Rattle.path_db.specs.declared.command.Command.{Command}
 use Rattle.sector_dev.specs.Disk.{Disk, IsHonest}
 use Rattle.sector_dev.specs.Calls.{Keeps, WriteCall, SyncCall}
 use Rattle.sector_dev.proofs.Stretches.{honest_before, honest_after}
-use Rattle.store_layout.specs.Limits.{AreAsLarge, limits_of}
+use Rattle.store_layout.specs.Limits.{AreAsLarge, limits_of, latest}
 use Rattle.store_layout.specs.CommandFormat.{IsAllowed}
 use Rattle.store_layout.specs.Journal.{gate_behind}
 use Rattle.store_layout.specs.Layout.{Geometry, other, area_at, gate_at}
 use Rattle.store_layout.specs.Checkpoint.{Checkpoint, checkpoint_encoding}
 use Rattle.store_layout.proofs.Exports.{later_allow_more}
 use Rattle.gate_journal.specs.Commands.{command_format}
-use Rattle.ckpt_pair.specs.Versions.{latest}
 use Rattle.ckpt_pair.specs.Rows.{rows_format}
 use Rattle.ckpt_stream.specs.Merge.{MergeView, encoding_if_any}
 use Rattle.group_phases.specs.declared.phases.Check.{Check}

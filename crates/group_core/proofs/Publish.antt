@@ -4,7 +4,7 @@ use Rattle.std.specs.List.{AllByRecursion}
 use Rattle.path_db.specs.Database.{RowView}
 use Rattle.path_db.specs.declared.command.Command.{Command}
 use Rattle.store_layout.specs.declared.half.Half.{Half}
-use Rattle.store_layout.specs.Limits.{limits_of}
+use Rattle.store_layout.specs.Limits.{limits_of, latest}
 use Rattle.store_layout.specs.Group.{group_sectors}
 use Rattle.store_layout.specs.Journal.{gate_behind}
 use Rattle.store_layout.specs.Layout.{other}
@@ -14,7 +14,6 @@ use Rattle.store_layout.specs.Opening.{StoreValue}
 use Rattle.store_layout.specs.StoreValues.{value_after}
 use Rattle.store_layout.proofs.Exports.{folds_in_parts}
 use Rattle.gate_journal.specs.Commands.{command_format}
-use Rattle.ckpt_pair.specs.Versions.{latest}
 use Rattle.store_open.specs.PathStores.{store_format}
 use Rattle.group_phases.specs.declared.phases.Flush.{Flush}
 use Rattle.group_phases.specs.declared.phases.Flush.TheVariants.{Resting, Durable}

@@ -14,7 +14,7 @@ use Rattle.store_layout.specs.StoreFormat.{db_after}
 use Rattle.store_layout.specs.Checkpoint.{Head, Checkpoint, checkpoint_size}
 use Rattle.store_layout.specs.Opening.{Opening, limits_in, IsTail, IsOpening, db_at_seal, tail_half}
 use Rattle.gate_journal.specs.Commands.{command_format}
-use Rattle.ckpt_pair.specs.Versions.{latest}
+use Rattle.store_layout.specs.Limits.{latest}
 use Rattle.ckpt_pair.specs.Rows.{rows_format}
 use Rattle.store_open.specs.Closing.{HasClosedGates}
 use Rattle.store_open.specs.PathStores.{store_format}

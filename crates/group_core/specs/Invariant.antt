@@ -8,7 +8,7 @@ use Rattle.path_records.specs.CommandRecord.{IsWithinLimits}
 use Rattle.sector_dev.specs.Disk.{IsHonest}
 use Rattle.sector_dev.specs.Image.{EveryImage}
 use Rattle.store_layout.specs.declared.format.TheConstants.{BEFORE_ROWS}
-use Rattle.store_layout.specs.Limits.{Limits, limits_of}
+use Rattle.store_layout.specs.Limits.{Limits, limits_of, latest}
 use Rattle.store_layout.specs.CommandFormat.{IsAllowed}
 use Rattle.store_layout.specs.Group.{last_place, group_sectors, JournalHasRoom, CanBeGroup}
 use Rattle.store_layout.specs.Journal.{gate_behind}
@@ -16,7 +16,6 @@ use Rattle.store_layout.specs.Layout.{Geometry, IsGeometry, image_sectors}
 use Rattle.store_layout.specs.StoreFormat.{db_after}
 use Rattle.store_layout.specs.Checkpoint.{Checkpoint, checkpoint_encoding, checkpoint_size}
 use Rattle.gate_journal.specs.Commands.{command_format}
-use Rattle.ckpt_pair.specs.Versions.{latest}
 use Rattle.ckpt_pair.specs.Rows.{rows_format}
 use Rattle.store_open.specs.PathStores.{store_format}
 use Rattle.group_phases.specs.declared.phases.Flush.{Flush}

@@ -12,7 +12,7 @@ use Rattle.store_layout.specs.Layout.{Geometry}
 use Rattle.store_layout.specs.Opening.{StoreValue, OpensTo}
 use Rattle.store_layout.specs.StoreValues.{value_after}
 use Rattle.store_layout.proofs.Exports.{folds_in_parts}
-use Rattle.ckpt_pair.specs.Versions.{latest}
+use Rattle.store_layout.specs.Limits.{latest}
 use Rattle.store_open.specs.Behind.{SameBehind}
 use Rattle.store_open.specs.PathStores.{store_format}
 use Rattle.group_phases.specs.HeldSteps.{OpensAroundCall}

@@ -10,7 +10,7 @@ use Rattle.sector_dev.proofs.Stretches.{stretch_here, stretch_honest}
 use Rattle.store_layout.specs.Opening.{StoreValue, Opening, OpensTo, opening_value}
 use Rattle.store_layout.specs.OpeningReading.{opening_of}
 use Rattle.store_layout.proofs.Exports.{has_one_value, opening_read}
-use Rattle.ckpt_pair.specs.Versions.{latest}
+use Rattle.store_layout.specs.Limits.{latest}
 use Rattle.store_open.specs.Open.{RefusesOpening, IsErrorOfReading, OpensAlike, IsOpened, ComesBack}
 use Rattle.store_open.specs.PathStores.{store_format}
 use Rattle.store_open.specs.Store.{StoreView}

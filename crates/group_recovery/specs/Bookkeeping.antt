@@ -6,9 +6,8 @@ use Rattle.std.specs.BTreeMap.{insert_entry}
 use Rattle.path_db.specs.Database.{RowView}
 use Rattle.path_db.specs.Command.{outcome_of}
 use Rattle.path_db.specs.declared.outcome.Outcome.{Outcome}
-use Rattle.store_layout.specs.Limits.{limits_of}
+use Rattle.store_layout.specs.Limits.{limits_of, latest}
 use Rattle.store_layout.specs.StoreFormat.{db_after}
-use Rattle.ckpt_pair.specs.Versions.{latest}
 use Rattle.store_open.specs.PathStores.{store_format}
 use Rattle.group_core.specs.declared.beginning.BeginError.TheVariants as begin
 use Rattle.group_core.specs.StateView.{StateView}

@@ -7,7 +7,7 @@ use Rattle.sector_dev.specs.Image.{EveryImage, IsFromImage}
 use Rattle.sector_dev.specs.Stretch.{Stretch}
 use Rattle.store_layout.specs.Opening.{OpensTo}
 use Rattle.store_layout.specs.StoreValues.{value_after}
-use Rattle.ckpt_pair.specs.Versions.{latest}
+use Rattle.store_layout.specs.Limits.{latest}
 use Rattle.store_open.specs.Behind.{SameBehind}
 use Rattle.store_open.specs.PathStores.{store_format}
 use Rattle.group_recovery.specs.declared.events.Event.{Event}

@@ -5,7 +5,7 @@ use Rattle.sector_dev.specs.Disk.{Disk, IsHonest}
 use Rattle.sector_dev.specs.Image.{EveryImage}
 use Rattle.sector_dev.specs.Stretch.{Stretch}
 use Rattle.store_layout.specs.Opening.{StoreValue, OpensTo}
-use Rattle.ckpt_pair.specs.Versions.{latest}
+use Rattle.store_layout.specs.Limits.{latest}
 use Rattle.store_open.specs.PathStores.{store_format}
 use Rattle.store_open.specs.Store.{StoreView}
 use Rattle.group_core.specs.Starting.{value_of_store}

@@ -5,7 +5,7 @@ use Rattle.path_db.specs.Database.{RowView}
 use Rattle.path_db.specs.declared.command.Command.{Command}
 use Rattle.store_layout.specs.Opening.{StoreValue, OpensTo}
 use Rattle.store_layout.specs.StoreValues.{value_after}
-use Rattle.ckpt_pair.specs.Versions.{latest}
+use Rattle.store_layout.specs.Limits.{latest}
 use Rattle.store_open.specs.PathStores.{store_format}
 use Rattle.logged_state.specs.Left.{OpensToFrontOf}
 

@@ -47,7 +47,7 @@ impl Left {
     /// Each command that was acknowledged is among the committed ones, at its index. So each image
     /// that opens to this log opens with each of these commands at its place. The call compares
     /// nothing.
-    pub fn find_acknowledged(&mut self)
+    pub fn prove_acknowledged(&mut self)
         ensures same { self.new ≡ self.old }
         ensures found { AllByRecursion (IsCommitted self.old.log) self.old.acknowledged }
         ensures opens { (opening : StoreValue (List RowView)) (image : List ℕ)
@@ -55,18 +55,18 @@ impl Left {
         ensures since { (opening : StoreValue (List RowView)) (history : History)
             → AllKept opening self.old.log history → AllClaimsKept opening self.old.log history self.old.acknowledged }
     {
-        self.log.find_all(&mut self.acknowledged);
+        self.log.prove_all(&mut self.acknowledged);
     }
 
     /// The command of a claim of this log is among the committed ones, at its index. So each image
     /// that opens to this log opens with the command at its place. The call compares nothing.
-    pub fn find(&mut self, claim: UnnamedClaim)
+    pub fn prove_committed(&mut self, claim: UnnamedClaim)
         requires { claim.table ≡ self.old.table }
         ensures same { self.new ≡ self.old }
         ensures found { IsCommitted self.old.log claim.claim }
         ensures opens { (opening : StoreValue (List RowView)) (image : List ℕ) → OpensToLog opening self.old.log image
             → OpensWith opening (opening.place + claim.claim.index) claim.claim.command image }
     {
-        self.log.find(claim);
+        self.log.prove_committed(claim);
     }
 }

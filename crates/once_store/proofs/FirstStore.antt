@@ -11,7 +11,7 @@ use Rattle.store_layout.specs.OpeningReading.{opening_of}
 use Rattle.store_layout.specs.TakeOver.{IsFormatted, empty_journal}
 use Rattle.store_layout.proofs.Exports.{empty_read}
 use Rattle.store_layout.proofs.Opened.{is_opened_so}
-use Rattle.ckpt_pair.specs.Versions.{latest}
+use Rattle.store_layout.specs.Limits.{latest}
 use Rattle.store_open.specs.NewStore.{IsNewStore}
 use Rattle.store_open.specs.PathStores.{store_format}
 use Rattle.store_open.specs.Store.{StoreView, HasOpening}

@@ -1,7 +1,7 @@
 -- Folding a sealed half.
 use Rattle.std.specs.Prelude.{◌≡◌, ◌⊎◌, ℕ, ◌+◌, ◌-◌, ◌*◌, ◌^◌, ◌<◌, ◌≤◌, false, length}
 use Rattle.byte_lists.specs.declared.format.TheConstants.{SECTOR}
-use Rattle.ckpt_pair.specs.Versions.{latest}
+use Rattle.store_layout.specs.Limits.{latest}
 use Rattle.group_phases.specs.declared.phases.Check.TheVariants.{Ready, Sealed}
 use Rattle.group_core.specs.StateView.{StateView}
 use Rattle.group_core.specs.Steps.{spent}

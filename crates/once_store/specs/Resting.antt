@@ -3,7 +3,7 @@ use Rattle.std.specs.Prelude.{◌≡◌, ◌+◌, ◌<◌, ◌≤◌, false, [],
 use Rattle.path_db.specs.declared.command.Command.{Command}
 use Rattle.store_layout.specs.Layout.{Geometry}
 use Rattle.store_layout.specs.Group.{last_place}
-use Rattle.ckpt_pair.specs.Versions.{latest}
+use Rattle.store_layout.specs.Limits.{latest}
 use Rattle.group_phases.specs.declared.phases.Check.{Check}
 use Rattle.group_phases.specs.declared.phases.Check.TheVariants.{Ready, Sealed, Planned, Laid, Switched, SwitchFailed, Live, Closing, CloseFailed}
 use Rattle.group_core.specs.declared.ticket.Ticket.{Ticket}

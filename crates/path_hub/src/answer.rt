@@ -85,7 +85,7 @@ impl<N: HubName> Answer<N> {
         if answered.number() != claim.number() {
             return None;
         }
-        answered.agrees(claim);
+        answered.same_number_means_same_command(claim);
         Some(outcome)
     }
 }

@@ -150,14 +150,14 @@ fn named_crew<
         Ok(hub) => hub,
         Err((store, refused)) => return (store.into_device(), None, Err(refused)),
     };
-    let attended = act(&rt, &hub, crew);
+    let attended = run_with_ringer(&rt, &hub, crew);
     let (device, left) = hub.close();
     (device, Some(left), attended)
 }
 
 /// Runs the thread that wakes others while the actors run and guests are attended to, and then
 /// stops the state.
-fn act<
+fn run_with_ringer<
     N: HubName + Send + Sync,
     D: Device + Send,
     C: Crew<D, R> + Sync,
@@ -171,10 +171,10 @@ fn act<
         |ringer| -> Result<u64, HubError>
             ensures { IfErr result (λ e. e ≡ NoMemory) }
         {
-            if ringer.spawn(move || ring(rt, hub)).is_err() {
+            if ringer.spawn(move || run_ringer(rt, hub)).is_err() {
                 return Err(HubError::NoMemory);
             }
-            let attended = run_actors(rt, hub, crew);
+            let attended = run_with_checkpointer(rt, hub, crew);
             hub.stop();
             attended
         },
@@ -183,7 +183,7 @@ fn act<
 
 /// Runs both actors while guests are attended to, and then stops them. The flusher starts last, so
 /// that the crew is not called where the thread of an actor is not given.
-fn run_actors<
+fn run_with_checkpointer<
     N: HubName + Send + Sync,
     D: Device + Send,
     C: Crew<D, R> + Sync,
@@ -197,11 +197,14 @@ fn run_actors<
         |checkpointer| -> Result<u64, HubError>
             ensures { IfErr result (λ e. e ≡ NoMemory) }
         {
-            if checkpointer.spawn(move || fold(rt, hub, crew)).is_err() {
+            if checkpointer
+                .spawn(move || run_checkpointer(rt, hub, crew))
+                .is_err()
+            {
                 return Err(HubError::NoMemory);
             }
             hub.expect_threads();
-            let attended = run_flusher(rt, hub, crew);
+            let attended = run_with_flusher(rt, hub, crew);
             hub.stop();
             attended
         },
@@ -209,7 +212,7 @@ fn run_actors<
 }
 
 /// Runs the flusher while guests are attended to, and then stops it.
-fn run_flusher<
+fn run_with_flusher<
     N: HubName + Send + Sync,
     D: Device + Send,
     C: Crew<D, R> + Sync,
@@ -223,7 +226,7 @@ fn run_flusher<
         |flusher| -> Result<u64, HubError>
             ensures { IfErr result (λ e. e ≡ NoMemory) }
         {
-            if flusher.spawn(move || flush(rt, hub, crew)).is_err() {
+            if flusher.spawn(move || run_flusher(rt, hub, crew)).is_err() {
                 return Err(HubError::NoMemory);
             }
             let attended = attend_all(rt, hub, crew);
@@ -234,7 +237,7 @@ fn run_flusher<
 }
 
 /// Runs the checkpointer until the state stops.
-fn fold<N: HubName, D: Device, C: Crew<D, R>, R: Wait + Clock>(
+fn run_checkpointer<N: HubName, D: Device, C: Crew<D, R>, R: Wait + Clock>(
     rt: &R,
     hub: &Hub<D, N, R>,
     crew: &C,
@@ -243,12 +246,12 @@ fn fold<N: HubName, D: Device, C: Crew<D, R>, R: Wait + Clock>(
 }
 
 /// Wakes the threads whose commands are answered, until the state stops.
-fn ring<N: HubName, D: Device, R: Wait + Clock>(rt: &R, hub: &Hub<D, N, R>) {
+fn run_ringer<N: HubName, D: Device, R: Wait + Clock>(rt: &R, hub: &Hub<D, N, R>) {
     hub.changes.ringer.run(rt);
 }
 
 /// Runs the flusher until the state stops, and reports to the crew why it did.
-fn flush<N: HubName, D: Device, C: Crew<D, R>, R: Wait + Clock>(
+fn run_flusher<N: HubName, D: Device, C: Crew<D, R>, R: Wait + Clock>(
     rt: &R,
     hub: &Hub<D, N, R>,
     crew: &C,

@@ -152,7 +152,7 @@ impl<D: Device, N: HubName, R: Wait + Clock> Hub<D, N, R> {
             board,
             has_stranger: AtomicBool::new(false),
             readers: Mutex::new(readers),
-            acknowledged: Mutex::new(desk.list()),
+            acknowledged: Mutex::new(desk.empty_list()),
             desk,
         })
     }
@@ -192,7 +192,7 @@ impl<D: Device, N: HubName, R: Wait + Clock> Hub<D, N, R> {
         show.close();
         let (log, acknowledged) = log.unnamed_with(acknowledged.into_inner());
         let mut left = Left::of(log, acknowledged);
-        left.find_acknowledged();
+        left.prove_acknowledged();
         (device, left)
     }
 }

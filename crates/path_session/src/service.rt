@@ -83,7 +83,7 @@ impl<'a, D: Device, N: HubName, R: Wait + Clock, V: Verifier, C: Now, P: Waiter>
             peer,
             moment: 0,
             last: None,
-            acknowledged: hub.desk().list(),
+            acknowledged: hub.desk().empty_list(),
         }
     }
 

@@ -9,7 +9,7 @@ use Rattle.sector_dev.proofs.Stretches.{honest_before, at_exit, stretch_weaker, 
 use Rattle.store_layout.specs.Layout.{Geometry}
 use Rattle.store_layout.specs.Opening.{StoreValue, OpensTo}
 use Rattle.store_layout.specs.StoreValues.{value_after}
-use Rattle.ckpt_pair.specs.Versions.{latest}
+use Rattle.store_layout.specs.Limits.{latest}
 use Rattle.store_open.specs.Behind.{SameBehind}
 use Rattle.store_open.specs.PathStores.{store_format}
 use Rattle.group_core.specs.StateView.{StateView}

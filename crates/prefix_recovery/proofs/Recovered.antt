@@ -9,7 +9,7 @@ use Rattle.sector_dev.proofs.Images.{image_of_reads}
 use Rattle.store_layout.specs.Opening.{StoreValue, OpensTo, opening_value}
 use Rattle.store_layout.specs.StoreValues.{value_after}
 use Rattle.store_layout.proofs.Exports.{has_one_value}
-use Rattle.ckpt_pair.specs.Versions.{latest}
+use Rattle.store_layout.specs.Limits.{latest}
 use Rattle.store_open.specs.Open.{OpensAlike}
 use Rattle.store_open.specs.PathStores.{store_format}
 use Rattle.store_open.specs.Store.{StoreView}

@@ -16,7 +16,7 @@ use Rattle.store_layout.specs.Checkpoint.{Checkpoint, CanBeCheckpoint, IsCheckpo
 use Rattle.store_layout.specs.Opening.{Opening, limits_in, IsOpening}
 use Rattle.store_layout.specs.TakeOver.{empty_journal}
 use Rattle.store_layout.proofs.Exports.{store_read, first_sector_makes_store, part_take, area_long, half_inside, writes_leave_others, part_written, written_there, gate_there, area_beside, journal_beside, gate_beside, store_beside, empty_read}
-use Rattle.ckpt_pair.specs.Versions.{latest}
+use Rattle.store_layout.specs.Limits.{latest}
 use Rattle.ckpt_pair.specs.Rows.{rows_format}
 use Rattle.store_open.specs.PathStores.{store_format}
 use Rattle.store_copy.specs.Copying.{IsBlank, OpensToNothing, IsNoneOrWhole, IsStoreWith}

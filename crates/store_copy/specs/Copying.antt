@@ -10,7 +10,7 @@ use Rattle.store_layout.specs.declared.format.TheConstants.{BEFORE_ROWS}
 use Rattle.store_layout.specs.Layout.{Geometry, IsGeometry, image_sectors}
 use Rattle.store_layout.specs.FirstSector.{IsStore}
 use Rattle.store_layout.specs.Opening.{Opening, IsOpening}
-use Rattle.ckpt_pair.specs.Versions.{latest}
+use Rattle.store_layout.specs.Limits.{latest}
 use Rattle.store_open.specs.PathStores.{store_format, IsStoreOf}
 use Rattle.store_open.specs.Behind.{SameBehind}
 use Rattle.store_open.specs.NewStore.{DeviceHasRoomFor}

@@ -21,7 +21,7 @@ pub fn checkpointer_loop<R: Wait, S: Steps, W: Watch>(rt: &R, steps: &S, watch: 
     let mut is_short = false;
     for _ in rt.forever() {
         let seen = steps.changes(Awaited::Seal);
-        match begin_prepared(steps) {
+        match prepare_and_begin(steps) {
             Ok(None) => {}
             Ok(Some(plan)) => {
                 is_short = note_memory(watch, Actor::Checkpointer, is_short, false);
@@ -48,7 +48,7 @@ pub fn checkpointer_loop<R: Wait, S: Steps, W: Watch>(rt: &R, steps: &S, watch: 
 
 /// Prepares the next piece of a checkpoint, and begins it once all pieces are prepared. Returns
 /// `None` where there are more pieces.
-fn begin_prepared<S: Steps>(steps: &S) -> Result<Option<Plan>, BeginError>
+fn prepare_and_begin<S: Steps>(steps: &S) -> Result<Option<Plan>, BeginError>
     ensures { IfErr result (λ e. e ≡ begin_refused.Stopped → S.has_stopped steps.now) }
 {
     match steps.prepare()? {

@@ -20,7 +20,7 @@ use Rattle.path_db.specs.Database.{RowView, rows_len}
 use Rattle.path_records.specs.RowRecord.{rows_encoding}
 use Rattle.path_records.specs.RecordLaws.{WrittenRowsAreCounted}
 use Rattle.path_db.specs.declared.command.Command.{Command}
-use Rattle.ckpt_pair.specs.Versions.{latest}
+use Rattle.store_layout.specs.Limits.{latest}
 use Rattle.ckpt_pair.specs.Rows.{rows_format}
 use Rattle.ckpt_pair.specs.Checkpoint.{written_checkpoint}
 use Rattle.store_open.specs.PathStores.{store_format}

@@ -6,7 +6,7 @@ use Rattle.sector_dev.specs.Calls.{one_more, SyncCall}
 use Rattle.sector_dev.proofs.Parts.{reads_synced}
 use Rattle.sector_dev.proofs.Stretches.{honest_after}
 use Rattle.store_layout.specs.OpeningReading.{opening_of}
-use Rattle.ckpt_pair.specs.Versions.{latest}
+use Rattle.store_layout.specs.Limits.{latest}
 use Rattle.store_open.specs.declared.error.OpenError.{OpenError}
 use Rattle.store_open.specs.declared.error.OpenError.TheVariants.{NotAStore, Device, Pair, Journal, NoMemory}
 use Rattle.store_open.specs.declared.folded.Folded.{Folded}

@@ -9,7 +9,7 @@ use Rattle.store_layout.specs.Layout.{Geometry, IsGeometry, image_sectors, other
 use Rattle.store_layout.specs.Opening.{Opening, limits_in, IsTail, last_journal, IsOpening}
 use Rattle.store_layout.proofs.Exports.{stays_within_bounds}
 use Rattle.gate_journal.specs.Commands.{command_format}
-use Rattle.ckpt_pair.specs.Versions.{latest}
+use Rattle.store_layout.specs.Limits.{latest}
 use Rattle.store_open.specs.Open.{IsOpened}
 use Rattle.store_open.specs.PathStores.{store_format}
 use Rattle.store_open.specs.Store.{StoreView}

@@ -14,8 +14,8 @@ use Rattle.store_layout.specs.CheckpointReading.{PairRefusal, BadCheckpoint, hea
 use Rattle.store_layout.specs.Layout.{Geometry, IsGeometry, image_sectors, area_at, area_of}
 use Rattle.ckpt_pair.specs.declared.error.PairError.{PairError}
 use Rattle.ckpt_pair.specs.declared.error.PairError.TheVariants as pair
-use Rattle.ckpt_pair.specs.Versions.{latest}
-use Rattle.ckpt_pair.specs.Reading.{FrontView, front_in, with_room, or_bad, with_head, with_rows_behind, rows_behind, AreReadByTheirFronts}
+use Rattle.store_layout.specs.Limits.{latest}
+use Rattle.ckpt_pair.specs.Reading.{FrontView, front_in, with_room, or_bad_checkpoint, with_head, with_rows_behind, rows_behind, AreReadByTheirFronts}
 use Rattle.ckpt_pair.specs.Refusals.{ReadsPair}
 use Rattle.ckpt_pair.specs.Rows.{rows_format, as_counted}
 use Rattle.store_open.specs.declared.error.OpenError.{OpenError}
@@ -53,11 +53,11 @@ rows_refused see (Journal e) bytes head count so = so
 rows_refused see NoMemory bytes head count so = tt
 
 -- rows with another count
-count_refused : {X : Type 0} (see : X → Checkpoint (List RowView)) (e : PairError) (head : Head) (found : Option (List RowView)) → ReadsPair {X = List RowView} (λ rows. rows) (Err e) (or_bad found) → ReadsPair see (Err e) (with_head head found)
+count_refused : {X : Type 0} (see : X → Checkpoint (List RowView)) (e : PairError) (head : Head) (found : Option (List RowView)) → ReadsPair {X = List RowView} (λ rows. rows) (Err e) (or_bad_checkpoint found) → ReadsPair see (Err e) (with_head head found)
 count_refused see e head None so = so
 count_refused see e head (Some rows) so = absurd so
 
-counted : (db : List RowView) (head : Head) (found : Option (List RowView)) → or_bad found ≡ Ok db → with_head head found ≡ Ok (record { head = head; db = db })
+counted : (db : List RowView) (head : Head) (found : Option (List RowView)) → or_bad_checkpoint found ≡ Ok db → with_head head found ≡ Ok (record { head = head; db = db })
 counted db head None so = absurd cc
 counted db head (Some rows) so =
     let same : rows ≡ db = cc in
@@ -129,16 +129,16 @@ module _ (geometry : Geometry) (half : Half) (reads sector : List ℕ) (at : ℕ
         subst (PairSo see (Err e)) (sym read_behind) (rows_refused see e (part (512 * at + 32) front.size reads) front.head front.count so)
 
     pub count_refused_so : {X : Type 0} (see : X → Checkpoint (List RowView)) (e : PairError) (fed : List ℕ) → fed ≡ part (512 * at + 32) front.size reads
-        → (e ≢ pair.NoMemory → ReadsPair {X = List RowView} (λ rows. rows) (Err e) (or_bad (as_counted front.count (rows_decoding fed))))
+        → (e ≢ pair.NoMemory → ReadsPair {X = List RowView} (λ rows. rows) (Err e) (or_bad_checkpoint (as_counted front.count (rows_decoding fed))))
         → PairSo see (Err (error_of_pair e)) (checkpoint_in rows_format latest Area)
     count_refused_so see e fed same so =
         subst (PairSo see (Err (error_of_pair e))) (sym read_behind)
         (pair_given see e (with_head front.head (as_counted front.count (rows_decoding (part (512 * at + 32) front.size reads))))
         (λ other. count_refused see e front.head (as_counted front.count (rows_decoding (part (512 * at + 32) front.size reads)))
-        (subst (λ (bytes : List ℕ). ReadsPair {X = List RowView} (λ rows. rows) (Err e) (or_bad (as_counted front.count (rows_decoding bytes)))) same (so other))))
+        (subst (λ (bytes : List ℕ). ReadsPair {X = List RowView} (λ rows. rows) (Err e) (or_bad_checkpoint (as_counted front.count (rows_decoding bytes)))) same (so other))))
 
-    pub counted_so : (db : List RowView) (fed : List ℕ) → fed ≡ part (512 * at + 32) front.size reads → or_bad (as_counted front.count (rows_decoding fed)) ≡ Ok db
+    pub counted_so : (db : List RowView) (fed : List ℕ) → fed ≡ part (512 * at + 32) front.size reads → or_bad_checkpoint (as_counted front.count (rows_decoding fed)) ≡ Ok db
         → checkpoint_in rows_format latest Area ≡ Ok (record { head = front.head; db = db })
     counted_so db fed same so =
         read_behind ∙ counted db front.head (as_counted front.count (rows_decoding (part (512 * at + 32) front.size reads)))
-        (subst (λ (bytes : List ℕ). or_bad (as_counted front.count (rows_decoding bytes)) ≡ Ok db) same so)
+        (subst (λ (bytes : List ℕ). or_bad_checkpoint (as_counted front.count (rows_decoding bytes)) ≡ Ok db) same so)

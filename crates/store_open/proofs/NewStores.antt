@@ -9,7 +9,7 @@ use Rattle.store_layout.specs.Layout.{Geometry, area_of}
 use Rattle.store_layout.specs.Checkpoint.{checkpoint_head_encoding, first_checkpoint, IsCheckpoint, CanBeCheckpoint}
 use Rattle.store_layout.specs.StoreFormat.{StoreFormat}
 use Rattle.store_open.specs.NewStore.{first_head, IsNewStore, IsEmptyStore, IsFormattedInAny}
-use Rattle.ckpt_pair.specs.Versions.{latest}
+use Rattle.store_layout.specs.Limits.{latest}
 use Rattle.store_layout.proofs.TakeOver.{opens_empty}
 use Rattle.path_db.specs.Database.{RowView}
 use Rattle.path_db.specs.declared.command.Command.{Command}

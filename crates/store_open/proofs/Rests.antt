@@ -13,7 +13,7 @@ use Rattle.sector_dev.proofs.Results.{success}
 use Rattle.sector_dev.proofs.Parts.{history_synced, reads_synced}
 use Rattle.sector_dev.proofs.Stretches.{honest_after, honest_before, leaves_here, at_exit, stretch_here, stretch_then, stretch_sync, stretch_weaker, from_here, stretch_honest}
 use Rattle.store_layout.specs.declared.half.Half.{Half}
-use Rattle.store_layout.specs.Limits.{Limits}
+use Rattle.store_layout.specs.Limits.{Limits, latest}
 use Rattle.store_layout.specs.Journal.{Reading}
 use Rattle.store_layout.specs.Layout.{Geometry, other}
 use Rattle.store_layout.specs.Opening.{Opening, limits_in, IsTail, IsOpening}
@@ -21,7 +21,6 @@ use Rattle.store_layout.specs.OpeningReading.{opening_of}
 use Rattle.store_layout.proofs.Exports.{opening_read, opening_from}
 use Rattle.gate_journal.specs.Commands.{command_format}
 use Rattle.store_layout.specs.Checkpoint.{Head}
-use Rattle.ckpt_pair.specs.Versions.{latest}
 use Rattle.store_open.specs.Closing.{IsClosing, IsClosingUnused, HasClosedGates, HasNoGateToClose, synced_by}
 use Rattle.store_open.specs.declared.folded.Folded.{Folded}
 use Rattle.store_open.specs.Folded.{store_on, TellsOnAny}

@@ -10,7 +10,7 @@ use Rattle.store_layout.specs.GroupReading as refusals
 use Rattle.store_layout.specs.Journal.{Reading}
 use Rattle.store_layout.specs.Layout.{other, gate_of, journal_of}
 use Rattle.store_layout.specs.Layout as laws
-use Rattle.store_layout.specs.Limits.{limits_of}
+use Rattle.store_layout.specs.Limits.{limits_of, latest}
 use Rattle.store_layout.specs.JournalReading.{journal_scan}
 use Rattle.store_layout.specs.Checkpoint.{Checkpoint, Head as HeadView}
 use Rattle.store_layout.specs.CheckpointReading.{PairRefusal, SealedNewer}
@@ -26,7 +26,6 @@ use Rattle.ckpt_pair.specs.declared.error.PairError.TheVariants as pair
 use Rattle.ckpt_pair.specs.declared.head.Head.{Head}
 use Rattle.ckpt_pair.specs.declared.head.Heads.{Heads}
 use Rattle.ckpt_pair.specs.Heads.{head_seen, head_at, half_with_tail}
-use Rattle.ckpt_pair.specs.Versions.{latest}
 use Rattle.ckpt_pair.specs.Refusals.{ReadsPair}
 use Rattle.store_open.specs.declared.error.OpenError.{OpenError}
 use Rattle.store_open.specs.declared.error.OpenError.TheVariants.{NotAStore, Device, Pair, Journal, NoMemory}

@@ -5,7 +5,7 @@ use Rattle.path_db.specs.declared.command.Command.{Command}
 use Rattle.sector_dev.specs.Disk.{Disk, IsHonest, reads_of}
 use Rattle.store_layout.specs.Opening.{Opening, IsOpening}
 use Rattle.ckpt_pair.specs.Heads.{head_view}
-use Rattle.ckpt_pair.specs.Versions.{latest}
+use Rattle.store_layout.specs.Limits.{latest}
 use Rattle.store_open.specs.declared.folded.Folded.{Folded}
 use Rattle.store_layout.specs.Geometry.{geometry_view}
 use Rattle.store_open.specs.PathStores.{store_format}

@@ -11,7 +11,7 @@ use Rattle.store_layout.specs.FirstSector.{IsStore, first_sector}
 use Rattle.store_layout.specs.Checkpoint.{Head, checkpoint_head_encoding}
 use Rattle.store_layout.specs.StoreFormat.{StoreFormat}
 use Rattle.store_layout.specs.TakeOver.{IsFormatted}
-use Rattle.ckpt_pair.specs.Versions.{latest}
+use Rattle.store_layout.specs.Limits.{latest}
 use Rattle.store_open.specs.PathStores.{IsStoreOf}
 use Rattle.store_open.specs.declared.new_store.FormatError.{FormatError}
 use Rattle.store_open.specs.declared.new_store.FormatError.TheVariants.{BadGeometry, TooSmall, Fault}

@@ -19,7 +19,7 @@ use Rattle.gate_journal.specs.declared.error.JournalError.{JournalError}
 use Rattle.gate_journal.specs.declared.error.JournalError.TheVariants as journal
 use Rattle.gate_journal.specs.declared.scanner.Scan.{Scan}
 use Rattle.gate_journal.specs.Scanning.{reading_of}
-use Rattle.ckpt_pair.specs.Versions.{latest}
+use Rattle.store_layout.specs.Limits.{latest}
 use Rattle.ckpt_pair.specs.Reading.{checkpoint_view, front_in}
 use Rattle.ckpt_pair.specs.Refusals.{error_of}
 use Rattle.store_open.specs.declared.opening.Found.{Found}

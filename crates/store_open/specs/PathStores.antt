@@ -9,7 +9,7 @@ use Rattle.path_db.specs.Command.{database_after}
 use Rattle.store_layout.specs.StoreFormat.{StoreFormat}
 use Rattle.store_layout.specs.Opening.{OpensTo}
 use Rattle.gate_journal.specs.Commands.{command_format}
-use Rattle.ckpt_pair.specs.Versions.{latest}
+use Rattle.store_layout.specs.Limits.{latest}
 use Rattle.ckpt_pair.specs.Rows.{rows_format}
 
 -- No bytes are the encoding of no rows.

@@ -13,7 +13,7 @@ use Rattle.store_layout.specs.StoreFormat.{db_after}
 use Rattle.store_layout.specs.Checkpoint.{Head, Checkpoint}
 use Rattle.store_layout.specs.CheckpointReading.{PairRefusal, checkpoint_in}
 use Rattle.store_layout.specs.OpeningReading.{journal_from}
-use Rattle.ckpt_pair.specs.Versions.{latest}
+use Rattle.store_layout.specs.Limits.{latest}
 use Rattle.ckpt_pair.specs.Rows.{rows_format}
 use Rattle.store_open.specs.PathStores.{store_format}
 use Rattle.store_open.specs.declared.error.OpenError.{OpenError}

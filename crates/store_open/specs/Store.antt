@@ -12,7 +12,7 @@ use Rattle.store_layout.specs.Layout.{Geometry, other}
 use Rattle.store_layout.specs.Checkpoint.{Head}
 use Rattle.store_layout.specs.Opening.{Opening, IsOpening, db_at_seal, opening_value}
 use Rattle.store_layout.specs.StoreGrowth.{last_reading}
-use Rattle.ckpt_pair.specs.Versions.{latest}
+use Rattle.store_layout.specs.Limits.{latest}
 use Rattle.store_open.specs.Closing.{HasClosedGates}
 use Rattle.store_open.specs.PathStores.{store_format, IsStoreOf}
 use Rattle.store_open.specs.declared.store_error.StoreError.{StoreError}

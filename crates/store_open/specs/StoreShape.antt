@@ -2,7 +2,7 @@
 use Rattle.std.specs.Prelude.{◌≡◌, ℕ, ◌+◌, ◌≤◌, true, false}
 use Rattle.path_db.specs.Database.{IsDatabase}
 use Rattle.sector_dev.specs.Disk.{IsHonest}
-use Rattle.ckpt_pair.specs.Versions.{latest}
+use Rattle.store_layout.specs.Limits.{latest}
 use Rattle.store_open.specs.NewStore.{DeviceHasRoomFor}
 use Rattle.store_open.specs.Store.{StoreView, IsSound}
 

@@ -5,7 +5,7 @@ ghost use Rattle.sector_dev.specs.Disk.{IsHonest, reads_of};
 ghost use Rattle.store_layout.specs.Layout.{IsGeometry, image_sectors};
 ghost use Rattle.store_layout.specs.OpeningReading.{head_of};
 ghost use Rattle.ckpt_pair.specs.Heads.{head_seen};
-ghost use Rattle.ckpt_pair.specs.Versions.{latest};
+ghost use Rattle.store_layout.specs.Limits.{latest};
 ghost use Rattle.store_open.specs.declared.error.OpenError.TheVariants.{NoMemory};
 ghost use Rattle.store_layout.specs.Geometry.{geometry_view};
 ghost use Rattle.store_open.specs.Refusals.{LooksFor, PairSo};

@@ -6,7 +6,7 @@ ghost use Rattle.sector_dev.specs.Disk.{IsHonest, reads_of};
 ghost use Rattle.byte_lists.specs.Sectors.{is_open_gate};
 ghost use Rattle.store_layout.specs.Layout.{other, gate_of};
 ghost use Rattle.store_layout.specs.OpeningReading.{opening_of, by_geometry, by_choice, by_checkpoint, behind_journal, journal_from};
-ghost use Rattle.ckpt_pair.specs.Versions.{latest};
+ghost use Rattle.store_layout.specs.Limits.{latest};
 ghost use Rattle.ckpt_pair.specs.Reading.{checkpoint_view};
 ghost use Rattle.gate_journal.specs.Scanning.{reading_of};
 ghost use Rattle.std.specs.Option.{option_map, IfSome};

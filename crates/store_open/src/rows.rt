@@ -8,7 +8,7 @@ ghost use Rattle.path_db.specs.Database.{IsDatabase};
 ghost use Rattle.store_layout.specs.declared.format.TheConstants.{BEFORE_ROWS};
 ghost use Rattle.store_layout.specs.CheckpointReading.{checkpoint_in};
 ghost use Rattle.store_layout.specs.Layout.{IsGeometry, image_sectors, area_of};
-ghost use Rattle.ckpt_pair.specs.Versions.{latest};
+ghost use Rattle.store_layout.specs.Limits.{latest};
 ghost use Rattle.ckpt_pair.specs.Reading.{checkpoint_view, front_in};
 ghost use Rattle.ckpt_pair.specs.Rows.{rows_format};
 ghost use Rattle.store_layout.specs.Geometry.{geometry_view};

@@ -64,8 +64,8 @@ fn receipts_are_found_in_what_is_left(rt: HostRuntime) -> Result<(), Fail> {
     let store = new_store(&host, alloc);
     match with_hub(&rt, alloc, store, 1, Registers) {
         Ok(((first, second), device, mut left)) => {
-            left.find(first);
-            left.find(second);
+            left.prove_committed(first);
+            left.prove_committed(second);
             let _device = assert_opens_to(&host, alloc, device, Contents::empty_at(2));
         }
         Err((_store, _job, e)) => panic!(rt; "{e:?}"),

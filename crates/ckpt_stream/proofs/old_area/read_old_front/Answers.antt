@@ -8,7 +8,7 @@ use Rattle.store_layout.specs.CheckpointReading.{head_in, rows_size, rows_count}
 use Rattle.store_layout.specs.Layout.{area_at}
 use Rattle.store_layout.specs.Geometry.{geometry_view}
 use Rattle.ckpt_pair.specs.declared.reading.Front.{Front}
-use Rattle.ckpt_pair.specs.Versions.{latest}
+use Rattle.store_layout.specs.Limits.{latest}
 use Rattle.ckpt_pair.specs.Reading.{front_view, checkpoint_view}
 use Rattle.store_open.specs.declared.error.OpenError.{OpenError}
 use Rattle.store_open.specs.Refusals.{error_of_pair}

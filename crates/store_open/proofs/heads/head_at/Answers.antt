@@ -6,7 +6,7 @@ use Rattle.sector_dev.proofs.Stretches.{honest_after}
 use Rattle.store_layout.specs.OpeningReading.{head_of}
 use Rattle.ckpt_pair.specs.declared.head.Head.{Head}
 use Rattle.ckpt_pair.specs.Heads.{head_seen}
-use Rattle.ckpt_pair.specs.Versions.{latest}
+use Rattle.store_layout.specs.Limits.{latest}
 use Rattle.ckpt_pair.specs.Refusals.{ReadsPair}
 use Rattle.store_layout.specs.Geometry.{geometry_view}
 use Rattle.store_open.specs.declared.error.OpenError.{OpenError}

@@ -3,7 +3,7 @@ use Rattle.std.proofs.Common.{ap, ◌∙◌, Err}
 use Rattle.std.proofs.lemmas.Result.{err_from_is_err_and}
 use Rattle.sector_dev.specs.Disk.{reads_of}
 use Rattle.store_layout.proofs.Exports.{opening_from}
-use Rattle.ckpt_pair.specs.Versions.{latest}
+use Rattle.store_layout.specs.Limits.{latest}
 use Rattle.store_open.specs.Open.{opening_view, WantsMemoryToOpen}
 use Rattle.store_open.specs.PathStores.{store_format}
 use Rattle.store_open.specs.declared.error.OpenError.{OpenError}

@@ -5,7 +5,7 @@ use Rattle.sector_dev.proofs.Stretches.{honest_after, honest_before}
 use Rattle.store_layout.specs.FirstSector.{geometry_in}
 use Rattle.store_layout.specs.Layout as laws
 use Rattle.store_layout.specs.OpeningReading.{by_geometry}
-use Rattle.ckpt_pair.specs.Versions.{latest}
+use Rattle.store_layout.specs.Limits.{latest}
 use Rattle.store_open.specs.PathStores.{store_format}
 use Rattle.store_open.specs.Open.{opening_view, OpensSo, WantsMemoryToOpen}
 use Rattle.store_open.specs.Refusals.{OnOkOrNoMemory}

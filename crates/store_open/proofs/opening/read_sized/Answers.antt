@@ -3,7 +3,7 @@ use Rattle.std.proofs.Common.{sym, ◌∙◌, ap, subst, Option}
 use Rattle.std.specs.Option.{option_map, IfSome}
 use Rattle.sector_dev.specs.Disk.{reads_of}
 use Rattle.store_layout.specs.OpeningReading.{by_geometry}
-use Rattle.ckpt_pair.specs.Versions.{latest}
+use Rattle.store_layout.specs.Limits.{latest}
 use Rattle.store_layout.specs.declared.geometry.Geometry.{Geometry}
 use Rattle.store_layout.specs.Geometry.{geometry_view}
 use Rattle.store_open.specs.NewStore.{DeviceHasRoomFor}

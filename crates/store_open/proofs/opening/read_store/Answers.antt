@@ -10,7 +10,7 @@ use Rattle.store_layout.specs.Layout.{area_of}
 use Rattle.store_layout.specs.Opening.{Opening}
 use Rattle.store_layout.specs.OpeningReading.{by_choice, by_checkpoint}
 use Rattle.ckpt_pair.specs.declared.reading.Checkpoint.{Checkpoint}
-use Rattle.ckpt_pair.specs.Versions.{latest}
+use Rattle.store_layout.specs.Limits.{latest}
 use Rattle.ckpt_pair.specs.Reading.{checkpoint_view, front_in}
 use Rattle.ckpt_pair.specs.Rows.{rows_format}
 use Rattle.store_layout.specs.Geometry.{geometry_view}

@@ -7,7 +7,7 @@ use Rattle.sector_dev.proofs.Stretches.{honest_after}
 use Rattle.store_layout.specs.CheckpointReading.{checkpoint_in}
 use Rattle.store_layout.specs.Layout.{area_of}
 use Rattle.ckpt_pair.specs.declared.reading.Checkpoint.{Checkpoint}
-use Rattle.ckpt_pair.specs.Versions.{latest}
+use Rattle.store_layout.specs.Limits.{latest}
 use Rattle.ckpt_pair.specs.Reading.{front_view, checkpoint_view}
 use Rattle.ckpt_pair.specs.Rows.{rows_format}
 use Rattle.store_layout.specs.Geometry.{geometry_view}

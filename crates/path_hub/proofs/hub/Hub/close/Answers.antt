@@ -14,9 +14,9 @@ pub returns-clause-acknowledged : goal.returns-clause-acknowledged
 returns-clause-acknowledged g c honest content is =
     let opening = g.N.StateName.opening in
     let log_is = ap (λ l. l.log) c.of-left.ensures ∙ ap (λ l. l.log) c.unnamed_with-log.ensures.log in
-    let opens = c.find_acknowledged.ensures.opens opening content
+    let opens = c.prove_acknowledged.ensures.opens opening content
     (subst (λ (log : Log). OpensToLog opening log content) (sym log_is) (c.into_parts-device.ensures.left honest content is)) in
-    subst (λ (left : LeftView). OpensWithAll opening left.acknowledged content) (sym c.find_acknowledged.ensures.same) opens
+    subst (λ (left : LeftView). OpensWithAll opening left.acknowledged content) (sym c.prove_acknowledged.ensures.same) opens
 
 -- the same log, and the same claims
 log_kept : (opening : StoreValue (List RowView)) (history : History) (log same : Log) → log ≡ same → AllKept opening log history → AllKept opening same history
@@ -31,4 +31,4 @@ returns-clause-since g c honest =
     let opening = g.N.StateName.opening in
     let log_is = ap (λ l. l.log) c.of-left.ensures ∙ ap (λ l. l.log) c.unnamed_with-log.ensures.log in
     let kept = c.into_parts-device.ensures.since (honest_after _ _ c.into_parts-device.ensures.moments.keeps honest) in
-    claims_kept opening _ _ _ (sym c.find_acknowledged.ensures.same) (c.find_acknowledged.ensures.since opening _ (log_kept opening _ _ _ (sym log_is) kept))
+    claims_kept opening _ _ _ (sym c.prove_acknowledged.ensures.same) (c.prove_acknowledged.ensures.since opening _ (log_kept opening _ _ _ (sym log_is) kept))

@@ -2,7 +2,7 @@ use Rattle.std.proofs.Common.{◌<◌, sym, ap, ◌∙◌, subst, arith}
 use Rattle.command_log.specs.declared.rule.LogView.{LogView}
 use Rattle.command_log.proofs.KeeperSteps.{takes, checks}
 use Rattle.atomic_table.specs.Table.Act.{keeps}
-use Rattle.command_log.proofs.steps.compare.Goals as goal
+use Rattle.command_log.proofs.steps.check_claim.Goals as goal
 
 pub join_seat-requires : goal.join_seat-requires
 join_seat-requires c =

@@ -4,7 +4,7 @@ use Rattle.sector_dev.specs.Disk.{reads_of}
 use Rattle.store_layout.specs.Layout.{journal_of}
 use Rattle.store_layout.specs.Geometry.{geometry_view}
 use Rattle.store_open.proofs.Journals.{journal_size}
-use Rattle.ckpt_stream.proofs.old_area.open_half.Goals as goal
+use Rattle.ckpt_stream.proofs.old_area.read_half_front.Goals as goal
 
 pub returns-clause-reads : goal.returns-clause-reads
 returns-clause-reads g c honest on =

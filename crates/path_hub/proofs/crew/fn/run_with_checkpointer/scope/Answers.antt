@@ -1,7 +1,7 @@
 use denote.Param.Send.{sendable}
 use Rattle.std.proofs.Crossing.{crosses}
 use Rattle.path_hub.proofs.Sent.{hub_sync}
-use Rattle.path_hub.proofs.crew.fn.run_flusher.scope.Goals as goal
+use Rattle.path_hub.proofs.crew.fn.run_with_checkpointer.scope.Goals as goal
 
 -- the thread has the hub and the crew
 pub spawn-requires-send-F : goal.spawn-requires-send-F
