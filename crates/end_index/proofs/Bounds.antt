@@ -1,6 +1,6 @@
--- The index keys between the bounds of a type and an ISD-AS: for `keys_at`.
-use Rattle.std.proofs.Common.{◌≡◌, ◌≢◌, ◌⊎◌, inl, inr, ℕ, zero, suc, ◌+◌, ◌<◌, true, false, not, ◌&&◌, ◌==◌, List, [], ◌∷◌, length, refl, sym, ap, ◌∙◌, arith}
-use Rattle.std.specs.Ordering.{nat_cmp, is_eq, is_le, ordering_then, MatchOrdering}
+-- The index keys between the bounds of a type and an ISD-AS: for `keys_at` and `keys_after`.
+use Rattle.std.proofs.Common.{◌≡◌, ◌≢◌, ◌⊎◌, inl, inr, ℕ, zero, suc, ◌+◌, ◌<◌, Bool, true, false, not, ◌&&◌, ◌==◌, List, [], ◌∷◌, length, refl, sym, ap, ◌∙◌, arith}
+use Rattle.std.specs.Ordering.{nat_cmp, is_eq, is_lt, is_le, ordering_then, MatchOrdering}
 use Rattle.std.specs.Cmp.{ranks}
 use Rattle.std.specs.Cmp.Lexicographic.{slice_cmp}
 use Rattle.std.specs.declared.cmp.Ordering.{Ordering}
@@ -9,7 +9,7 @@ use Rattle.std.proofs.lemmas.Bool.{false≢true}
 use Rattle.std.proofs.lemmas.Bool.Decides.{eqb_tells}
 use Rattle.std.proofs.Math.Dec.{eqb}
 use Rattle.end_index.specs.declared.index_key.IndexKey.{IndexKey}
-use Rattle.end_index.specs.IndexKey.{index_key_cmp, stands_at}
+use Rattle.end_index.specs.IndexKey.{index_key_cmp, stands_at, is_after_id}
 
 abbrev pub zeros : ℕ → List ℕ
 zeros zero = []
@@ -72,3 +72,33 @@ between low high index_key n low_id high_id kind next long =
     (next_rank (nat_cmp low.isd_as index_key.isd_as) (nat_cmp (low.isd_as + 1) index_key.isd_as) low.isd_as index_key.isd_as (ranks low.isd_as index_key.isd_as) (ranks (low.isd_as + 1) index_key.isd_as))
     ∙ ap (λ a. a && is_eq (nat_cmp low.isd_as index_key.isd_as)) (same_number (nat_cmp low.kind index_key.kind) low.kind index_key.kind (ranks low.kind index_key.kind) (eqb_tells index_key.kind low.kind))
     ∙ ap (λ b. (index_key.kind == low.kind) && b) (same_number (nat_cmp low.isd_as index_key.isd_as) low.isd_as index_key.isd_as (ranks low.isd_as index_key.isd_as) (eqb_tells index_key.isd_as low.isd_as)))
+
+-- ---- the index keys after an id
+
+and_true : (b : Bool) → (b && true) ≡ b
+and_true true = refl
+and_true false = refl
+
+-- the cases by the same orders, and by that of an id
+table_after : (o p r s later : Ordering) → is_le later ≡ true → IsNext p r
+    → (is_lt (ordering_then o (ordering_then p s)) && not (is_le (ordering_then o (ordering_then r later)))) ≡ ((is_eq o && is_eq p) && is_lt s)
+table_after Less p r s later e next = refl
+table_after Greater p r s later e next = refl
+table_after Equal Less Less s later e next = refl
+table_after Equal Less Equal s later e next = ap not e
+table_after Equal Less Greater s later e next = sym next
+table_after Equal Equal Greater s later e next = and_true (is_lt s)
+table_after Equal Equal Less s later e next = absurd (false≢true (sym next))
+table_after Equal Equal Equal s later e next = absurd (false≢true (sym next))
+table_after Equal Greater r s later e next = refl
+
+-- the index keys of an ISD-AS above an id, and below the least index key of the next one
+pub between_after : (kind isd_as : ℕ) (id : List ℕ) (q : IndexKey) (n : ℕ) → length q.id ≡ n
+    → (is_lt (ordering_then (nat_cmp kind q.kind) (ordering_then (nat_cmp isd_as q.isd_as) (slice_cmp nat_cmp id q.id))) && not (is_le (ordering_then (nat_cmp kind q.kind) (ordering_then (nat_cmp (isd_as + 1) q.isd_as) (slice_cmp nat_cmp (zeros n) q.id)))))
+    ≡ (stands_at kind isd_as q && is_after_id id q)
+between_after kind isd_as id q n long =
+    table_after (nat_cmp kind q.kind) (nat_cmp isd_as q.isd_as) (nat_cmp (isd_as + 1) q.isd_as) (slice_cmp nat_cmp id q.id) (slice_cmp nat_cmp (zeros n) q.id)
+    (zeros_first n q.id long)
+    (next_rank (nat_cmp isd_as q.isd_as) (nat_cmp (isd_as + 1) q.isd_as) isd_as q.isd_as (ranks isd_as q.isd_as) (ranks (isd_as + 1) q.isd_as))
+    ∙ ap (λ a. (a && is_eq (nat_cmp isd_as q.isd_as)) && is_after_id id q) (same_number (nat_cmp kind q.kind) kind q.kind (ranks kind q.kind) (eqb_tells q.kind kind))
+    ∙ ap (λ b. ((q.kind == kind) && b) && is_after_id id q) (same_number (nat_cmp isd_as q.isd_as) isd_as q.isd_as (ranks isd_as q.isd_as) (eqb_tells q.isd_as isd_as))

@@ -1,7 +1,7 @@
 -- Index keys in an index, and their order.
 use Rattle.std.specs.Prelude.{ℕ, List, Bool, ◌==◌, ◌&&◌}
 use Rattle.std.specs.List.{list_any}
-use Rattle.std.specs.Ordering.{nat_cmp, is_eq, ordering_then}
+use Rattle.std.specs.Ordering.{nat_cmp, is_eq, is_lt, ordering_then}
 use Rattle.std.specs.Cmp.Lexicographic.{slice_cmp}
 use Rattle.std.specs.declared.cmp.Ordering.{Ordering}
 use Rattle.end_index.specs.declared.index_key.IndexKey.{IndexKey}
@@ -21,3 +21,7 @@ has index_keys q = list_any (is_same q) index_keys
 -- An index key is of this type and of this ISD-AS.
 abbrev pub stands_at : ℕ → ℕ → IndexKey → Bool
 stands_at kind isd_as index_key = index_key.kind == kind && index_key.isd_as == isd_as
+
+-- An index key's id is above this one.
+abbrev pub is_after_id : List ℕ → IndexKey → Bool
+is_after_id id index_key = is_lt (slice_cmp nat_cmp id index_key.id)

@@ -3,13 +3,14 @@
 ghost use Rattle.std.specs.Prelude.{◌≡◌, ◌+◌, ◌^◌, ◌<◌, [], ◌&&◌, ◌||◌, not, IfOk, OnOk, OnErr, filter};
 ghost use Rattle.std.specs.List.Sorted.{IsStrictlySortedBy};
 ghost use Rattle.end_index.specs.declared.index_key.IndexKey.{IndexKey};
-ghost use Rattle.end_index.specs.IndexKey.{index_key_cmp, has, is_same, stands_at};
+ghost use Rattle.end_index.specs.IndexKey.{index_key_cmp, has, is_same, stands_at, is_after_id};
 
 use crate::index_key::IndexKey;
 use std::alloc::{AllocError, Global};
 use std::collections::BTreeSet;
 use std::collections::btree_set::Range;
 use std::marker::Model;
+use std::ops::Bound;
 
 /// A set of index keys, in their order.
 #[derive(Drop)]
@@ -91,5 +92,26 @@ impl EndIndex {
             id: [0; 32],
         };
         self.index_keys.range(low..high)
+    }
+
+    /// The index keys of a type and an ISD-AS whose ids are above this one, by rising id. No others
+    /// are visited.
+    pub fn keys_after(&self, kind: u8, isd_as: u64, id: &[u8; 32]) -> IndexKeys<'_>
+        requires { isd_as + 1 < 2 ^ 64 }
+        ensures same { result ≡ filter (λ q. stands_at kind isd_as q && is_after_id id.now q) self.now }
+        ensures rising { IsStrictlySortedBy index_key_cmp self.now }
+    {
+        let low = IndexKey {
+            kind,
+            isd_as,
+            id: *id,
+        };
+        let high = IndexKey {
+            kind,
+            isd_as: isd_as + 1,
+            id: [0; 32],
+        };
+        self.index_keys
+            .range((Bound::Excluded(low), Bound::Excluded(high)))
     }
 }

@@ -1,7 +1,8 @@
 //! An ordered index of rows by the ISD-AS at one of their ends.
 //!
 //! To the layer above: a set of index keys, each a type, an ISD-AS and an id. `keys_at` returns
-//! those of one type and one ISD-AS by rising id, and visits no others.
+//! those of one type and one ISD-AS by rising id, and `keys_after` those of them whose ids are above
+//! a given one. Neither visits others.
 #![tactic(auto)]
 
 mod index;
