@@ -20,6 +20,7 @@ mod Appended
 mod ShownLeft
 mod ShownFirst
 mod Walked
+mod After
 mod Newest
 mod Kept
 mod Counts

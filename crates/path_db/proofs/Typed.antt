@@ -38,7 +38,7 @@ between low high k low_id high_id next =
     ∙ same_number (nat_cmp low.kind k.kind) low.kind k.kind (ranks low.kind k.kind) (eqb_tells k.kind low.kind))
 
 -- a key has the type of its row
-own_kind : (k : RowKey) (row : Row) → bytes_of k ≡ key_of (row_view row) → k.kind ≡ type_number row.kind
+pub own_kind : (k : RowKey) (row : Row) → bytes_of k ≡ key_of (row_view row) → k.kind ≡ type_number row.kind
 unfolding key_of
 own_kind k row e = cc
 

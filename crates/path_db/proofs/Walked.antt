@@ -39,7 +39,7 @@ use Rattle.path_db.proofs.Canon.{database_is_canonical}
 use Rattle.path_db.proofs.PutRow.{found_is_under, is_key_itself}
 use Rattle.path_db.proofs.IndexKeys.{EndOf, AreSame, same_from, both_from, first_from, second_from, either_from, or_first, or_second, number_itself}
 
-equal_number : (a b : ℕ) → (a == b) ≡ true → a ≡ b
+pub equal_number : (a b : ℕ) → (a == b) ≡ true → a ≡ b
 equal_number a b e = elim (eqb_tells a b) [
   | inl same ↦ same.1
   | inr other ↦ absurd (false≢true (sym other.0 ∙ e))

@@ -1,11 +1,13 @@
 -- The rows that a lookup shows.
 use Rattle.std.specs.Prelude.{ℕ, List, [], ◌∷◌, Bool, false, ◌==◌, ◌&&◌, take, filter, map, Option, Some, None}
+use Rattle.std.specs.Ordering.{nat_cmp, is_lt}
+use Rattle.std.specs.Cmp.Lexicographic.{slice_cmp}
 use Rattle.isd_as.specs.IsdAs.{covers_number}
 use Rattle.seg_core.specs.declared.seg_type.SegType.{SegType}
 use Rattle.seg_core.specs.SegmentView.{EntryView, SegmentView}
 use Rattle.seg_slots.specs.Message.{last_of}
 use Rattle.seg_core.specs.Registration.{type_number}
-use Rattle.path_db.specs.Database.{RowView}
+use Rattle.path_db.specs.Database.{RowView, key, key_of}
 use Rattle.path_db.specs.Command.{is_valid_beyond}
 
 -- An entry is present, and its ISD-AS is covered by the pattern.
@@ -34,6 +36,15 @@ is_shown kind start end now row = matches kind start end row && is_valid_beyond 
 -- The first rows by key that match and are valid, at most `limit` of them.
 unfoldable pub answer_of : ℕ → List RowView → SegType → ℕ → ℕ → ℕ → List RowView
 answer_of limit rows kind start end now = take limit (filter (is_shown kind start end now) rows)
+
+-- A row's key is above that of this type and this id.
+abbrev pub is_after : SegType → List ℕ → RowView → Bool
+is_after kind id row = is_lt (slice_cmp nat_cmp (key kind id) (key_of row))
+
+-- The first rows by key, of those above the key of the type and an id, that match and are valid, at
+-- most `limit` of them.
+abbrev pub answer_after : ℕ → List RowView → SegType → List ℕ → ℕ → ℕ → ℕ → List RowView
+answer_after limit rows kind id start end now = answer_of limit (filter (is_after kind id) rows) kind start end now
 
 -- The segments of rows.
 abbrev pub segments_of : List RowView → List SegmentView

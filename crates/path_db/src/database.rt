@@ -10,7 +10,7 @@ ghost use Rattle.path_db.specs.Outcome.{outcome_of_puts, outcome_of_drops};
 ghost use Rattle.path_db.specs.Command.{database_after, database_after_purge, database_after_removal, is_valid_beyond, outcome_of, TakesMemory};
 ghost use Rattle.path_db.specs.Purge.{HasPassed};
 ghost use Rattle.path_db.specs.Row.{row_view, row_views};
-ghost use Rattle.path_db.specs.Answer.{answer_of, segments_of};
+ghost use Rattle.path_db.specs.Answer.{answer_of, answer_after, segments_of};
 ghost use Rattle.seg_core.specs.Encoding.{IsSegment};
 ghost use Rattle.isd_as.specs.IsdAs.{isd_as_number};
 
@@ -347,6 +347,42 @@ impl PathDb {
             }
         }
         first_shown(self.alloc, self.rows.of_type(kind), wanted, limit)
+    }
+
+    /// The same as `matching`, of the rows whose ids are above this one.
+    pub fn matching_after(
+        &self,
+        kind: SegType,
+        id: &[u8; 32],
+        start: IsdAs,
+        end: IsdAs,
+        now: u64,
+        limit: usize,
+    ) -> Result<Vec<Segment>, AllocError>
+        ensures same { IfOk result (λ found. found.items ≡ segments_of (answer_after limit self.now kind id.now (isd_as_number start) (isd_as_number end) now)) }
+        ensures memory { OnErr result (0 < length (answer_after limit self.now kind id.now (isd_as_number start) (isd_as_number end) now)) }
+        ensures few { IfOk result (λ found. length found.items ≤ limit) }
+        ensures whole { IfOk result (λ found. AllByRecursion IsSegment found.items) }
+    {
+        let wanted = Wanted {
+            kind,
+            start,
+            end,
+            moment: now,
+        };
+        if self.indexed {
+            if is_indexed(end) {
+                let index_keys = self.by_last.keys_after(type_byte(kind), end.to_u64(), id);
+                return shown_at(self.alloc, &self.rows, index_keys, wanted, limit);
+            }
+            if is_indexed(start) {
+                let index_keys = self
+                    .by_first
+                    .keys_after(type_byte(kind), start.to_u64(), id);
+                return shown_at(self.alloc, &self.rows, index_keys, wanted, limit);
+            }
+        }
+        first_shown(self.alloc, self.rows.of_type_after(kind, id), wanted, limit)
     }
 
     /// The number of rows. The call takes constant time.

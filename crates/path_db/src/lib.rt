@@ -4,8 +4,9 @@
 //! To the layer above, `PathDb::apply` leaves the database that the definition gives after a
 //! command and returns what the command did; where memory is refused, nothing changes.
 //! `apply_within` also refuses a command after which the rows would take too many bytes. `rows` is
-//! the map in the order of its keys, and `matching` returns what a lookup shows. Laws say what
-//! commands leave, and that servers with the same registrations have the same rows.
+//! the map in the order of its keys, `matching` returns what a lookup shows, and `matching_after`
+//! what it shows after an id. Laws say what commands leave, and that servers with the same
+//! registrations have the same rows.
 #![tactic(auto)]
 
 mod agreement;

@@ -5,7 +5,7 @@ ghost use Rattle.std.specs.Option.{ForSome, option_map};
 ghost use Rattle.path_db.specs.declared.end.End.TheVariants.{First, Last};
 ghost use Rattle.path_db.specs.Database.{IsRising, key, key_of, row_under, row_len, rows_len};
 ghost use Rattle.path_db.specs.Command.{database_after_purge, database_after_removal};
-ghost use Rattle.path_db.specs.Answer.{is_of_type};
+ghost use Rattle.path_db.specs.Answer.{is_of_type, is_after};
 ghost use Rattle.path_db.specs.EndKeys.{entry_at_end, IsSeenTo};
 ghost use Rattle.path_db.specs.Put.{database_after_put, change_of};
 ghost use Rattle.path_db.specs.Row.{row_view, row_views};
@@ -26,6 +26,7 @@ use std::alloc::{AllocError, Global};
 use std::collections::BTreeMap;
 use std::marker::Model;
 use std::mem::replace;
+use std::ops::Bound;
 
 /// Rows, each under its key, in the order of the keys.
 #[derive(Drop)]
@@ -90,6 +91,26 @@ impl RowMap {
             id: [0; 32],
         };
         RowRange::of(self.rows.range(low..high))
+    }
+
+    /// The rows of a type whose ids are above this one, in the order of their keys. No others are
+    /// visited.
+    pub(crate) fn of_type_after(&self, kind: SegType, id: &[u8; 32]) -> RowRange<'_>
+        ensures { result ≡ filter (is_of_type kind) (filter (is_after kind id.now) self.now) }
+    {
+        let number = type_byte(kind);
+        let low = RowKey {
+            kind: number,
+            id: *id,
+        };
+        let high = RowKey {
+            kind: number + 1,
+            id: [0; 32],
+        };
+        RowRange::of(
+            self.rows
+                .range((Bound::Excluded(low), Bound::Excluded(high))),
+        )
     }
 
     /// The rows whose keys are not lower than this one, in the order of their keys. No others are
