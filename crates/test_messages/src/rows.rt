@@ -1,6 +1,7 @@
 //! Tests of `path_db` and `path_records`. They check what no contract states: values from outside,
 //! that calls succeed where memory suffices, and the database where memory is refused.
 
+mod after;
 mod commands;
 mod drops;
 mod memory;
