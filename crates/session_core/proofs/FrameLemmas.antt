@@ -1,11 +1,14 @@
 -- A whole frame at the front of bytes, and the message that its encoding gives: for `next_frame`
 -- and the laws.
-use Rattle.std.proofs.Common.{◌≡◌, ℕ, zero, suc, ◌+◌, ◌*◌, ◌-◌, ◌<◌, ◌≤◌, List, [], ◌∷◌, ◌++◌, ◌^◌, length, take, drop, get_or, slice_range, refl, sym, ap, ◌∙◌, arith, lit<, append_assoc, take-append-drop}
+use Rattle.std.proofs.Common.{◌≡◌, ℕ, zero, suc, ◌+◌, ◌*◌, ◌-◌, ◌<◌, ◌≤◌, ◌⊎◌, inl, inr, List, [], ◌∷◌, ◌++◌, ◌^◌, length, take, drop, get_or, slice_range, Option, Some, None, refl, sym, ap, ◌∙◌, arith, lit<, append_assoc, take-append-drop}
 use Rattle.std.proofs.lemmas.List.{get_or-take, length-take-le, length-drop, drop-drop, drop_more}
-use Rattle.std.proofs.lemmas.Nat.{be_bytes_4, be_bytes_8}
+use Rattle.std.proofs.lemmas.Nat.{be_bytes_4, be_bytes_8, from_be_bytes-to_be_bytes_8}
 use Rattle.std.specs.Int.{w32, w64, to_be_bytes, from_be_bytes}
+use Rattle.std.specs.Option.{IfSome}
+use Rattle.session_core.specs.declared.list_request.ListRequest.{ListRequest}
 use Rattle.session_core.specs.declared.message.Message.TheVariants.{Register, Lookup, Purge, Remove}
-use Rattle.session_core.specs.Frames.{MessageView, message_kind, message_body, frame_encoding, length_at, frame_kind_at, IsFrameLength, IsMessageKind, IsLengthOf, FitsFrame}
+use Rattle.session_core.specs.declared.message.Message.TheVariants as message
+use Rattle.session_core.specs.Frames.{MessageView, message_kind, message_body, id_bytes, list_body, frame_encoding, length_at, frame_kind_at, IsFrameLength, IsMessageKind, IsListLength, IsLengthOf, FitsList, FitsFrame}
 use Rattle.session_core.specs.Front.{BeginsWithFrame}
 
 abbrev pub AreBytes : List ℕ → Type 0
@@ -79,13 +82,80 @@ length_at_is bytes n is =
     let d : get_or (take 4 bytes) 3 0 ≡ get_or bytes 3 0 = get_or-take 4 bytes 3 0 (lit< tt) in
     omega arith
 
+-- ---- the list with a body
+
+abbrev pub id_from : List ℕ → Option (List ℕ)
+id_from [] = None
+id_from (x ∷ xs) = Some (x ∷ xs)
+
+id_from-bytes : (after : Option (List ℕ)) → IfSome after (λ id. length id ≡ 32) → id_from (id_bytes after) ≡ after
+id_from-bytes None h = refl
+id_from-bytes (Some []) h = absurd (omega (arith, h))
+id_from-bytes (Some (x ∷ xs)) h = refl
+
+id_bytes-from : (bytes : List ℕ) → id_bytes (id_from bytes) ≡ bytes
+id_bytes-from [] = refl
+id_bytes-from (x ∷ xs) = refl
+
+id_from-fits : (bytes : List ℕ) → (length bytes ≡ 0) ⊎ (length bytes ≡ 32) → IfSome (id_from bytes) (λ id. length id ≡ 32)
+id_from-fits [] h = tt
+id_from-fits (x ∷ xs) (inl none) = absurd (omega (arith, none))
+id_from-fits (x ∷ xs) (inr all) = all
+
+pub after_size : (body : List ℕ) → IsListLength (1 + length body) → (length (drop 17 body) ≡ 0) ⊎ (length (drop 17 body) ≡ 32)
+after_size body (inl short) = inl (omega (arith, short, length-drop 17 body))
+after_size body (inr long) = inr (omega (arith, long, length-drop 17 body))
+
+pub list_is_long : (body : List ℕ) → IsListLength (1 + length body) → 17 ≤ length body
+list_is_long body (inl short) = omega (arith, short)
+list_is_long body (inr long) = omega (arith, long)
+
+-- eight bytes of a body
+side_at : (body : List ℕ) (at : ℕ) → AreBytes body → at + 8 ≤ length body → to_be_bytes w64 (from_be_bytes w64 (take 8 (drop at body))) ≡ take 8 (drop at body)
+side_at body at b whole =
+    be_bytes_8 (take 8 (drop at body)) (from_be_bytes w64 (take 8 (drop at body))) (length-take-le 8 (drop at body) (omega (arith, length-drop at body)))
+    (take_below 8 (drop at body) (drop_below at body b)) refl
+
+abbrev pub list_with : List ℕ → ListRequest
+list_with body = record {
+  kind = get_or body 0 0;
+  start = from_be_bytes w64 (take 8 (drop 1 body));
+  end = from_be_bytes w64 (take 8 (drop 9 body));
+  after = id_from (drop 17 body);
+}
+
+-- a body of one byte, two sides and the rest
+body_parts : (body : List ℕ) → 17 ≤ length body → get_or body 0 0 ∷ (take 8 (drop 1 body) ++ (take 8 (drop 9 body) ++ drop 17 body)) ≡ body
+body_parts body long =
+    let last : take 8 (drop 9 body) ++ drop 17 body ≡ drop 9 body = ap (λ (t : List ℕ). take 8 (drop 9 body) ++ t) (sym (drop-drop 8 9 body)) ∙ take-append-drop 8 (drop 9 body) in
+    let both : take 8 (drop 1 body) ++ drop 9 body ≡ drop 1 body = ap (λ (t : List ℕ). take 8 (drop 1 body) ++ t) (sym (drop-drop 8 1 body)) ∙ take-append-drop 8 (drop 1 body) in
+    ap (λ (t : List ℕ). get_or body 0 0 ∷ (take 8 (drop 1 body) ++ t)) last ∙ ap (λ (t : List ℕ). get_or body 0 0 ∷ t) both ∙ sym (drop_more body 0 0 (omega (arith, long)))
+
+pub list_body-of : (body : List ℕ) (request : ListRequest) → AreBytes body → 17 ≤ length body → request.kind ≡ get_or body 0 0 → request.start ≡ from_be_bytes w64 (take 8 (drop 1 body))
+    → request.end ≡ from_be_bytes w64 (take 8 (drop 9 body)) → id_bytes request.after ≡ drop 17 body → list_body request ≡ body
+list_body-of body request b long kind start end after =
+    ap (λ (k : ℕ). k ∷ (to_be_bytes w64 request.start ++ (to_be_bytes w64 request.end ++ id_bytes request.after))) kind
+    ∙ ap (λ (t : List ℕ). get_or body 0 0 ∷ (t ++ (to_be_bytes w64 request.end ++ id_bytes request.after))) (ap (to_be_bytes w64) start ∙ side_at body 1 b (omega (arith, long)))
+    ∙ ap (λ (t : List ℕ). get_or body 0 0 ∷ (take 8 (drop 1 body) ++ (t ++ id_bytes request.after))) (ap (to_be_bytes w64) end ∙ side_at body 9 b (omega (arith, long)))
+    ∙ ap (λ (t : List ℕ). get_or body 0 0 ∷ (take 8 (drop 1 body) ++ (take 8 (drop 9 body) ++ t))) after
+    ∙ body_parts body long
+
+same_list : (request : ListRequest) (start end : ℕ) (after : Option (List ℕ)) → start ≡ request.start → end ≡ request.end → after ≡ request.after
+    → record { kind = request.kind; start = start; end = end; after = after } ≡ request
+same_list request start end after a b c = rw (a, b, c) refl
+
+pub list_with-body : (request : ListRequest) → FitsList request → list_with (list_body request) ≡ request
+list_with-body request h =
+    same_list request _ _ _ (from_be_bytes-to_be_bytes_8 request.start h.start_fits) (from_be_bytes-to_be_bytes_8 request.end h.end_fits) (id_from-bytes request.after h.id_fits)
+
 -- ---- the message of a kind with a body
 
 abbrev pub message_with : ℕ → List ℕ → MessageView
 message_with (suc zero) body = Register body
 message_with (suc (suc zero)) body = Lookup body
 message_with (suc (suc (suc zero))) body = Purge (from_be_bytes w64 body)
-message_with _ body = Remove (get_or body 0 0) (drop 1 body)
+message_with (suc (suc (suc (suc zero)))) body = Remove (get_or body 0 0) (drop 1 body)
+message_with _ body = message.List (list_with body)
 
 pub record IsMessageWith (kind : ℕ) (body : List ℕ) (m : MessageView) : Type 0 where
   pub kind_is : message_kind m ≡ kind
@@ -104,6 +174,19 @@ message_with_is (suc (suc (suc zero))) body b known sized of_kind =
     let nine : 1 + length body ≡ 9 = of_kind.0 refl in
     record { kind_is = refl; body_is = be_bytes_8 body (from_be_bytes w64 body) (omega arith) b refl; fits = moment_fits body b }
 message_with_is (suc (suc (suc (suc zero)))) body b known sized of_kind =
-    let size : 1 + length body ≡ 34 = of_kind.1 refl in
+    let size : 1 + length body ≡ 34 = of_kind.1.0 refl in
     record { kind_is = refl; body_is = sym (drop_more body 0 0 (omega arith)); fits = (b 0, omega (arith, length-drop 1 body)) }
-message_with_is (suc (suc (suc (suc (suc k))))) body b known sized of_kind = absurd (omega (arith, known.1))
+message_with_is (suc (suc (suc (suc (suc zero))))) body b known sized of_kind =
+    let size : IsListLength (1 + length body) = of_kind.1.1 refl in
+    let long : 17 ≤ length body = list_is_long body size in
+    record {
+      kind_is = refl;
+      body_is = list_body-of body (list_with body) b long refl refl refl (id_bytes-from (drop 17 body));
+      fits = record {
+        kind_fits = b 0;
+        start_fits = moment_fits (take 8 (drop 1 body)) (take_below 8 (drop 1 body) (drop_below 1 body b));
+        end_fits = moment_fits (take 8 (drop 9 body)) (take_below 8 (drop 9 body) (drop_below 9 body b));
+        id_fits = id_from-fits (drop 17 body) (after_size body size);
+      };
+    }
+message_with_is (suc (suc (suc (suc (suc (suc k)))))) body b known sized of_kind = absurd (omega (arith, known.1))

@@ -1,26 +1,41 @@
 -- Bytes are frames in at most one way: for the laws, and for the contracts of sessions and of
 -- `Framer`.
-use Rattle.std.proofs.Common.{◌≡◌, ℕ, ◌+◌, List, [], ◌∷◌, ◌++◌, length, take, drop, get_or, refl, sym, ap, subst, ◌∙◌, arith, append_assoc}
+use Rattle.std.proofs.Common.{◌≡◌, ℕ, ◌+◌, ◌⊎◌, inl, inr, List, [], ◌∷◌, ◌++◌, length, take, drop, get_or, Option, Some, None, refl, sym, ap, subst, ◌∙◌, arith, append_assoc}
 use Rattle.std.proofs.lemmas.List.{length-append, take_at, drop_at}
 use Rattle.std.proofs.lemmas.Nat.{from_be_bytes-to_be_bytes_4, from_be_bytes-to_be_bytes_8}
 use Rattle.std.specs.List.{flat_map, AllByRecursion}
+use Rattle.std.specs.Option.{IfSome}
+use Rattle.session_core.specs.declared.list_request.ListRequest.{ListRequest}
 use Rattle.session_core.specs.declared.message.Message.TheVariants.{Register, Lookup, Purge, Remove}
-use Rattle.session_core.specs.Frames.{MessageView, message_kind, message_body, message_frame, length_at, frame_kind_at, IsFrameLength, IsMessageKind, IsLengthOf, HasRightLength, FitsFrame, Ending, Rest, BadLength, BadKind, FramesEndAs, AreFrames}
-use Rattle.session_core.proofs.FrameLemmas.{message_with}
+use Rattle.session_core.specs.declared.message.Message.TheVariants as message
+use Rattle.session_core.specs.Frames.{MessageView, message_kind, message_body, id_bytes, list_body, message_frame, length_at, frame_kind_at, IsFrameLength, IsMessageKind, IsListLength, IsLengthOf, HasRightLength, FitsList, FitsFrame, Ending, Rest, BadLength, BadKind, FramesEndAs, AreFrames}
+use Rattle.session_core.proofs.FrameLemmas.{list_with-body, message_with}
 
 -- ---- one frame
+
+id_size : (after : Option (List ℕ)) → IfSome after (λ id. length id ≡ 32) → (length (id_bytes after) ≡ 0) ⊎ (length (id_bytes after) ≡ 32)
+id_size None h = inl refl
+id_size (Some id) h = inr h
+
+list_length : (request : ListRequest) → FitsList request → IsListLength (1 + length (list_body request))
+list_length request h = elim (id_size request.after h.id_fits) [ inl none ↦ inl (omega (arith, none)) | inr all ↦ inr (omega (arith, all)) ]
+
+list_in_range : (request : ListRequest) → FitsList request → IsFrameLength (1 + length (list_body request))
+list_in_range request h = elim (list_length request h) [ inl short ↦ (omega arith, omega (arith, short)) | inr long ↦ (omega arith, omega (arith, long)) ]
 
 in_range_of : (m : MessageView) → FitsFrame m → IsFrameLength (1 + length (message_body m))
 in_range_of (Register body) h = h
 in_range_of (Lookup body) h = h
 in_range_of (Purge moment) h = (omega arith, omega arith)
 in_range_of (Remove kind id) h = (omega arith, omega (arith, h.1))
+in_range_of (message.List request) h = list_in_range request h
 
 length_of_kind : (m : MessageView) → FitsFrame m → IsLengthOf (message_kind m) (1 + length (message_body m))
-length_of_kind (Register body) h = (λ no. absurd (omega arith), λ no. absurd (omega arith))
-length_of_kind (Lookup body) h = (λ no. absurd (omega arith), λ no. absurd (omega arith))
-length_of_kind (Purge moment) h = (λ _. omega arith, λ no. absurd (omega arith))
-length_of_kind (Remove kind id) h = (λ no. absurd (omega arith), λ _. omega (arith, h.1))
+length_of_kind (Register body) h = (λ no. absurd (omega arith), (λ no. absurd (omega arith), λ no. absurd (omega arith)))
+length_of_kind (Lookup body) h = (λ no. absurd (omega arith), (λ no. absurd (omega arith), λ no. absurd (omega arith)))
+length_of_kind (Purge moment) h = (λ _. omega arith, (λ no. absurd (omega arith), λ no. absurd (omega arith)))
+length_of_kind (Remove kind id) h = (λ no. absurd (omega arith), (λ _. omega (arith, h.1), λ no. absurd (omega arith)))
+length_of_kind (message.List request) h = (λ no. absurd (omega arith), (λ no. absurd (omega arith), λ _. list_length request h))
 
 length-content : (m : MessageView) → length (message_kind m ∷ message_body m) ≡ 1 + length (message_body m)
 length-content m = omega arith
@@ -36,6 +51,7 @@ message_with-content (Register body) h = refl
 message_with-content (Lookup body) h = refl
 message_with-content (Purge moment) h = ap Purge (from_be_bytes-to_be_bytes_8 moment h)
 message_with-content (Remove kind id) h = refl
+message_with-content (message.List request) h = ap message.List (list_with-body request h)
 
 message_from_content : (m n : MessageView) → FitsFrame m → FitsFrame n → message_kind m ∷ message_body m ≡ message_kind n ∷ message_body n → m ≡ n
 message_from_content m n a b h =
@@ -57,6 +73,7 @@ kind_is_known (Register body) = (omega arith, omega arith)
 kind_is_known (Lookup body) = (omega arith, omega arith)
 kind_is_known (Purge moment) = (omega arith, omega arith)
 kind_is_known (Remove kind id) = (omega arith, omega arith)
+kind_is_known (message.List request) = (omega arith, omega arith)
 
 kind_at-frame : (m : MessageView) (rest : List ℕ) → frame_kind_at (message_frame m ++ rest) ≡ message_kind m
 kind_at-frame m rest = refl

@@ -2,7 +2,7 @@
 use Rattle.std.proofs.Common.{◌≡◌, ℕ, zero, suc, ◌+◌, ◌<◌, ◌≤◌, ◌⊎◌, inl, inr, List, [], ◌∷◌, ◌-◌, length, drop, slice_range, refl, sym, subst, arith}
 use Rattle.std.proofs.lemmas.List.{length-drop}
 use Rattle.std.proofs.lemmas.Bool.{cases_lt, cases_eq}
-use Rattle.session_core.specs.Frames.{MessageView, length_at, frame_kind_at, IsFrameLength, IsMessageKind, IsLengthOf, HasRightLength, Ending, Rest, BadLength, BadKind, FramesEndAs, AreFrames}
+use Rattle.session_core.specs.Frames.{MessageView, length_at, frame_kind_at, IsFrameLength, IsMessageKind, IsListLength, IsLengthOf, HasRightLength, Ending, Rest, BadLength, BadKind, FramesEndAs, AreFrames}
 use Rattle.session_core.specs.Front.{BeginsWithFrame}
 use Rattle.session_core.proofs.FrameLemmas.{AreBytes, take_below, drop_below, length-body_at, begins, message_with, message_with_is}
 use Rattle.session_core.proofs.Streams.{AreWholeFrames-none, AreWholeFrames-one, AreFrames-behind}
@@ -54,13 +54,35 @@ frame_length_cases n =
       | inr some ↦ elim (cases_lt 131073 n) [ inl high ↦ inr (λ h. omega (arith, h.1, high)) | inr fits ↦ inl (some, fits) ]
     ]
 
+list_length_cases : (len : ℕ) → IsListLength len ⊎ (¬ IsListLength len)
+list_length_cases len =
+    elim (cases_eq len 18) [
+      | inl short ↦ inl (inl short)
+      | inr not_short ↦ elim (cases_eq len 50) [
+        | inl long ↦ inl (inr long)
+        | inr not_long ↦ inr (λ h. elim h [ inl short ↦ not_short short | inr long ↦ not_long long ])
+      ]
+    ]
+
 length_of_cases : (kind len : ℕ) → IsLengthOf kind len ⊎ (¬ IsLengthOf kind len)
 length_of_cases kind len =
     elim (cases_eq kind 3) [
-      | inl three ↦ elim (cases_eq len 9) [ inl nine ↦ inl (λ _. nine, λ four. absurd (omega arith)) | inr other ↦ inr (λ h. other (h.0 three)) ]
+      | inl three ↦ elim (cases_eq len 9) [
+        | inl nine ↦ inl (λ _. nine, (λ four. absurd (omega (arith, three, four)), λ five. absurd (omega (arith, three, five))))
+        | inr other ↦ inr (λ h. other (h.0 three))
+      ]
       | inr not_three ↦ elim (cases_eq kind 4) [
-        | inl four ↦ elim (cases_eq len 34) [ inl size ↦ inl (λ three. absurd (not_three three), λ _. size) | inr other ↦ inr (λ h. other (h.1 four)) ]
-        | inr not_four ↦ inl (λ three. absurd (not_three three), λ four. absurd (not_four four))
+        | inl four ↦ elim (cases_eq len 34) [
+          | inl size ↦ inl (λ three. absurd (not_three three), (λ _. size, λ five. absurd (omega (arith, four, five))))
+          | inr other ↦ inr (λ h. other (h.1.0 four))
+        ]
+        | inr not_four ↦ elim (cases_eq kind 5) [
+          | inl five ↦ elim (list_length_cases len) [
+            | inl size ↦ inl (λ three. absurd (not_three three), (λ four. absurd (not_four four), λ _. size))
+            | inr other ↦ inr (λ h. other (h.1.1 five))
+          ]
+          | inr not_five ↦ inl (λ three. absurd (not_three three), (λ four. absurd (not_four four), λ five. absurd (not_five five)))
+        ]
       ]
     ]
 
@@ -81,7 +103,7 @@ kind_cases : (n : ℕ) → IsMessageKind n ⊎ (¬ IsMessageKind n)
 kind_cases n =
     elim (cases_lt n 1) [
       | inl low ↦ inr (λ h. omega (arith, h.0, low))
-      | inr some ↦ elim (cases_lt 4 n) [ inl high ↦ inr (λ h. omega (arith, h.1, high)) | inr known ↦ inl (some, known) ]
+      | inr some ↦ elim (cases_lt 5 n) [ inl high ↦ inr (λ h. omega (arith, h.1, high)) | inr known ↦ inl (some, known) ]
     ]
 
 decoding_whole : (fuel : ℕ) (bytes : List ℕ) → length bytes ≤ suc fuel → AreBytes bytes → ((rest : List ℕ) → length rest ≤ fuel → AreBytes rest → Decoding rest) → Decoding bytes

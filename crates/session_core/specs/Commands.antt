@@ -9,12 +9,13 @@ use Rattle.session_core.specs.Frames.{MessageView}
 use Rattle.session_core.specs.Reply.{ReplyView}
 use Rattle.session_core.specs.Service.{reply_to_register, reply_to_purge, reply_to_remove}
 
--- The kind of a command. A lookup is none.
+-- The kind of a command. A lookup is none, and neither is a list.
 abbrev pub command_kind : MessageView → Option CommandKind
 command_kind (message.Register body) = Some Register
 command_kind (message.Lookup body) = None
 command_kind (message.Purge moment) = Some Purge
 command_kind (message.Remove kind id) = Some Remove
+command_kind (message.List request) = None
 
 -- The reply to a command of this kind.
 abbrev pub reply_to_kind : CommandKind → Result Ack Code → ReplyView

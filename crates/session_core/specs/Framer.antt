@@ -4,6 +4,7 @@ use Rattle.session_core.specs.declared.error.FrameError.{FrameError}
 use Rattle.session_core.specs.declared.error.FrameError.TheVariants as error
 use Rattle.session_core.specs.declared.message.Message.{Message}
 use Rattle.session_core.specs.declared.message.Message.TheVariants.{Register, Lookup, Purge, Remove}
+use Rattle.session_core.specs.declared.message.Message.TheVariants as message
 use Rattle.session_core.specs.Frames.{MessageView, IsPartial, Ending, Rest, BadLength, BadKind, AreFrames}
 use Rattle.session_core.specs.Front.{IsFaultAt}
 
@@ -13,6 +14,7 @@ message_view (Register body) = Register body.items
 message_view (Lookup body) = Lookup body.items
 message_view (Purge moment) = Purge moment
 message_view (Remove kind id) = Remove kind id
+message_view (message.List request) = message.List request
 
 -- The messages of a list with the bytes of their bodies.
 abbrev pub message_views : {A : Type 0} → List (Message (Vec ℕ A)) → List MessageView

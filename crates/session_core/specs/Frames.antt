@@ -1,10 +1,12 @@
 -- A stream of frames. A frame is a length of four bytes, big-endian, and that number of bytes,
 -- which are a kind and a body.
-use Rattle.std.specs.Prelude.{◌≡◌, ℕ, ◌+◌, ◌^◌, ◌<◌, ◌≤◌, List, ◌∷◌, ◌++◌, length, take, slice_index}
+use Rattle.std.specs.Prelude.{◌≡◌, ℕ, ◌+◌, ◌^◌, ◌<◌, ◌≤◌, ◌⊎◌, List, [], ◌∷◌, ◌++◌, length, take, slice_index, Option, Some, None, IfSome}
 use Rattle.std.specs.List.{flat_map, AllByRecursion}
 use Rattle.std.specs.Int.{w32, w64, to_be_bytes, from_be_bytes}
 use Rattle.session_core.specs.declared.message.Message.{Message}
+use Rattle.session_core.specs.declared.list_request.ListRequest.{ListRequest}
 use Rattle.session_core.specs.declared.message.Message.TheVariants.{Register, Lookup, Purge, Remove}
+use Rattle.session_core.specs.declared.message.Message.TheVariants as message
 use Rattle.session_core.specs.declared.format.TheConstants.{MOST_LENGTH}
 
 -- A message with the bytes of its body.
@@ -17,6 +19,16 @@ message_kind (Register body) = 1
 message_kind (Lookup body) = 2
 message_kind (Purge moment) = 3
 message_kind (Remove kind id) = 4
+message_kind (message.List request) = 5
+
+-- The bytes of the id after which a page begins, if there is one.
+abbrev pub id_bytes : Option (List ℕ) → List ℕ
+id_bytes None = []
+id_bytes (Some id) = id
+
+-- The body of a list: the number of the type, both sides, and the id if there is one.
+abbrev pub list_body : ListRequest → List ℕ
+list_body request = request.kind ∷ (to_be_bytes w64 request.start ++ (to_be_bytes w64 request.end ++ id_bytes request.after))
 
 -- The body of a message.
 abbrev pub message_body : MessageView → List ℕ
@@ -24,6 +36,7 @@ message_body (Register body) = body
 message_body (Lookup body) = body
 message_body (Purge moment) = to_be_bytes w64 moment
 message_body (Remove kind id) = kind ∷ id
+message_body (message.List request) = list_body request
 
 -- The frame of a content: its length in four bytes, big-endian, and the content.
 abbrev pub frame_encoding : List ℕ → List ℕ
@@ -47,12 +60,23 @@ IsFrameLength len = (1 ≤ len) × (len ≤ MOST_LENGTH)
 
 -- The kind is one that a message may have.
 abbrev pub IsMessageKind : ℕ → Type 0
-IsMessageKind kind = (1 ≤ kind) × (kind ≤ 4)
+IsMessageKind kind = (1 ≤ kind) × (kind ≤ 5)
 
--- The length is one that a frame of this kind may have: all frames of purges have one length, and
--- so have all frames of removals.
+-- The length is one that a list's frame may have: with an id, or without.
+abbrev pub IsListLength : ℕ → Type 0
+IsListLength len = (len ≡ 18) ⊎ (len ≡ 50)
+
+-- The length is one that a frame of this kind may have: all frames of purges have one length, so
+-- have all frames of removals, and those of lists have two.
 abbrev pub IsLengthOf : ℕ → ℕ → Type 0
-IsLengthOf kind len = (kind ≡ 3 → len ≡ 9) × (kind ≡ 4 → len ≡ 34)
+IsLengthOf kind len = (kind ≡ 3 → len ≡ 9) × ((kind ≡ 4 → len ≡ 34) × (kind ≡ 5 → IsListLength len))
+
+-- The numbers of a list and its id fit their bytes.
+pub record FitsList (request : ListRequest) : Type 0 where
+  pub kind_fits : request.kind < 256
+  pub start_fits : request.start < 2 ^ 64
+  pub end_fits : request.end < 2 ^ 64
+  pub id_fits : IfSome request.after (λ id. length id ≡ 32)
 
 -- The frame of a message is not too long, and the message's numbers fit their bytes.
 abbrev pub FitsFrame : MessageView → Type 0
@@ -60,6 +84,7 @@ FitsFrame (Register body) = IsFrameLength (1 + length body)
 FitsFrame (Lookup body) = IsFrameLength (1 + length body)
 FitsFrame (Purge moment) = moment < 2 ^ 64
 FitsFrame (Remove kind id) = (kind < 256) × (length id ≡ 32)
+FitsFrame (message.List request) = FitsList request
 
 -- The bytes are the frames of these messages, one after the other, followed by the rest.
 pub record AreWholeFrames (bytes : List ℕ) (messages : List MessageView) (rest : List ℕ) : Type 0 where

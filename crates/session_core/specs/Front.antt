@@ -5,6 +5,7 @@ use Rattle.session_core.specs.declared.error.FrameError.{FrameError}
 use Rattle.session_core.specs.declared.error.FrameError.TheVariants as error
 use Rattle.session_core.specs.declared.message.Message.{Message}
 use Rattle.session_core.specs.declared.message.Message.TheVariants.{Register, Lookup, Purge, Remove}
+use Rattle.session_core.specs.declared.message.Message.TheVariants as message
 use Rattle.session_core.specs.Frames.{MessageView, message_body, message_frame, FitsFrame, IsPartial, HasBadLength, HasBadKind}
 
 -- A message with the bytes of its body, wherever the body is in memory.
@@ -13,6 +14,7 @@ message_at (Register body) = Register body.now
 message_at (Lookup body) = Lookup body.now
 message_at (Purge moment) = Purge moment
 message_at (Remove kind id) = Remove kind id
+message_at (message.List request) = message.List request
 
 -- The bytes begin with the frame of a message, which has `len` bytes.
 pub record BeginsWithFrame (bytes : List ℕ) (message : MessageView) (len : ℕ) : Type 0 where

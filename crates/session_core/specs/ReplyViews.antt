@@ -3,7 +3,7 @@ use Rattle.std.specs.Prelude.{◌≤◌, length}
 use Rattle.session_core.specs.declared.reply.Reply.{Reply}
 use Rattle.session_core.specs.declared.reply.Reply.TheVariants as reply
 use Rattle.session_core.specs.declared.service.TheConstants.{MOST_SEGMENTS}
-use Rattle.session_core.specs.Reply.{ReplyView, Registered, Found, Purged, Removed, Refused}
+use Rattle.session_core.specs.Reply.{ReplyView, Registered, Found, Purged, Removed, Listed, Refused}
 
 -- A reply as contracts see it.
 abbrev pub reply_view : Reply → ReplyView
@@ -11,6 +11,7 @@ reply_view (reply.Registered ack) = Registered ack
 reply_view (reply.Found kind segments) = Found kind segments.items
 reply_view (reply.Purged ack) = Purged ack
 reply_view (reply.Removed ack) = Removed ack
+reply_view (reply.Listed listing) = Listed listing.more listing.kind listing.segments.items
 reply_view (reply.Refused code) = Refused code.0
 
 -- The reply has at most 64 segments.
@@ -19,4 +20,5 @@ HasFewSegments (reply.Registered ack) = Unit {0}
 HasFewSegments (reply.Found kind segments) = length segments.items ≤ MOST_SEGMENTS
 HasFewSegments (reply.Purged ack) = Unit {0}
 HasFewSegments (reply.Removed ack) = Unit {0}
+HasFewSegments (reply.Listed listing) = length listing.segments.items ≤ MOST_SEGMENTS
 HasFewSegments (reply.Refused code) = Unit {0}

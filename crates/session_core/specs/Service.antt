@@ -6,8 +6,9 @@ use Rattle.seg_core.specs.declared.seg_type.SegType.{SegType}
 use Rattle.seg_core.specs.SegmentView.{SegmentView}
 use Rattle.session_core.specs.declared.service.Ack.{Ack}
 use Rattle.session_core.specs.declared.service.Code.{Code}
+use Rattle.session_core.specs.declared.service.Listing.{Listing}
 use Rattle.session_core.specs.Frames.{MessageView}
-use Rattle.session_core.specs.Reply.{ReplyView, Registered, Found, Purged, Removed, Refused, told_as}
+use Rattle.session_core.specs.Reply.{ReplyView, Registered, Found, Purged, Removed, Listed, Refused, told_as}
 use Rattle.session_core.specs.declared.reply.Form.{Form}
 use Rattle.session_core.specs.declared.reply.Form.TheVariants.{Frames}
 
@@ -30,6 +31,11 @@ reply_to_purge (Err code) = Refused code.0
 abbrev pub reply_to_remove : Result Ack Code → ReplyView
 reply_to_remove (Ok ack) = Removed ack
 reply_to_remove (Err code) = Refused code.0
+
+-- The reply to a list.
+abbrev pub reply_to_list : Result Listing Code → ReplyView
+reply_to_list (Ok listing) = Listed listing.more listing.kind listing.segments.items
+reply_to_list (Err code) = Refused code.0
 
 -- A message and the reply to it.
 pub record Exchange : Type 0 where

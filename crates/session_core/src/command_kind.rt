@@ -18,7 +18,7 @@ pub enum CommandKind {
 }
 
 impl CommandKind {
-    /// The kind of a command. A lookup has none.
+    /// The kind of a command. A lookup has none, and neither has a list.
     pub fn of(message: &Message<&[u8]>) -> Option<CommandKind>
         ensures { result ≡ command_kind (message_at message.now) }
     {
@@ -27,6 +27,7 @@ impl CommandKind {
             Message::Lookup(_) => None,
             Message::Purge(_) => Some(CommandKind::Purge),
             Message::Remove(_, _) => Some(CommandKind::Remove),
+            Message::List(_) => None,
         }
     }
 }

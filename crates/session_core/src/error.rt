@@ -10,8 +10,8 @@ pub enum FrameError {
     /// Memory for a frame was refused.
     #[error("out of memory")]
     NoMemory = 0,
-    /// The length of a frame is 0 or above 131,073, or is not that of a purge's or a removal's
-    /// frame.
+    /// The length of a frame is 0 or above 131,073, or is none that a purge's, a removal's or a
+    /// list's frame has.
     #[error("the length of a frame is out of range")]
     Length = 1,
     /// The kind of a frame is unknown.

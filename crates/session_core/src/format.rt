@@ -15,6 +15,8 @@ pub(crate) const LOOKUP: u8 = 2;
 pub(crate) const PURGE: u8 = 3;
 /// The kind of a removal.
 pub(crate) const REMOVE: u8 = 4;
+/// The kind of a list.
+pub(crate) const LIST: u8 = 5;
 
 /// The greatest length of a message's frame: its kind, and the most bytes of a registration.
 pub const MOST_LENGTH: usize = KIND_SIZE + MOST_REGISTERED_BYTES;
@@ -22,6 +24,11 @@ pub const MOST_LENGTH: usize = KIND_SIZE + MOST_REGISTERED_BYTES;
 pub(crate) const PURGE_LENGTH: usize = KIND_SIZE + 8;
 /// The length of a removal's frame: its kind, a type of one byte and an id of 32.
 pub(crate) const REMOVE_LENGTH: usize = KIND_SIZE + 1 + 32;
+/// The length of the frame of a list without an id: its kind, a type of one byte, and two sides of
+/// eight.
+pub(crate) const LIST_LENGTH: usize = KIND_SIZE + 1 + 2 * 8;
+/// The length of the frame of a list with an id of 32 bytes after them.
+pub(crate) const LIST_AFTER_LENGTH: usize = LIST_LENGTH + 32;
 
 /// The kind of a reply to a registration.
 pub(crate) const REGISTERED: u8 = 0x81;
@@ -31,6 +38,8 @@ pub(crate) const FOUND: u8 = 0x82;
 pub(crate) const PURGED: u8 = 0x83;
 /// The kind of a reply to a removal.
 pub(crate) const REMOVED: u8 = 0x84;
+/// The kind of a reply to a list.
+pub(crate) const LISTED: u8 = 0x85;
 /// The kind of a refusal.
 pub(crate) const REFUSED: u8 = 0xff;
 

@@ -121,5 +121,6 @@ fn message_copy(alloc: Global, message: Message<&[u8]>) -> Result<Message, Alloc
         Message::Lookup(body) => Message::Lookup(Vec::from_slice(alloc, body)?),
         Message::Purge(moment) => Message::Purge(moment),
         Message::Remove(kind, id) => Message::Remove(kind, id),
+        Message::List(request) => Message::List(request),
     })
 }

@@ -1,14 +1,16 @@
 //! Frames: a length of four bytes, big-endian, and this number of bytes, which are a kind and a
 //! body.
 
-ghost use Rattle.std.specs.Prelude.{◌≡◌, ◌+◌, length, IsTrue, ◌↔◌};
-ghost use Rattle.session_core.specs.Frames.{message_kind, message_body, IsFrameLength, IsMessageKind, IsLengthOf, FitsFrame};
+ghost use Rattle.std.specs.Prelude.{◌≡◌, ◌+◌, ◌⊎◌, length, IsTrue, ◌↔◌};
+ghost use Rattle.session_core.specs.Frames.{message_kind, message_body, id_bytes, list_body, IsFrameLength, IsMessageKind, IsListLength, IsLengthOf, FitsFrame, FitsList};
 ghost use Rattle.session_core.specs.Front.{message_at, IsFrontReading};
 
 use crate::error::FrameError;
 use crate::format::{
-    LENGTH_SIZE, LOOKUP, MOST_LENGTH, PURGE, PURGE_LENGTH, REGISTER, REMOVE, REMOVE_LENGTH,
+    LENGTH_SIZE, LIST, LIST_AFTER_LENGTH, LIST_LENGTH, LOOKUP, MOST_LENGTH, PURGE, PURGE_LENGTH,
+    REGISTER, REMOVE, REMOVE_LENGTH,
 };
+use crate::list_request::ListRequest;
 use crate::message::Message;
 use byteorder::{BigEndian, ByteOrder};
 
@@ -16,7 +18,7 @@ use byteorder::{BigEndian, ByteOrder};
 /// bytes are less than a frame.
 ///
 /// The length is checked once four bytes are there. Once five bytes are there, the kind is checked,
-/// and the length of a purge or a removal.
+/// and the length of a purge, a removal or a list.
 pub(crate) fn next_frame(bytes: &[u8]) -> Result<Option<(Message<&[u8]>, usize)>, FrameError>
     ensures { IsFrontReading bytes.now result }
 {
@@ -31,7 +33,7 @@ pub(crate) fn next_frame(bytes: &[u8]) -> Result<Option<(Message<&[u8]>, usize)>
         return Ok(None);
     }
     let kind = bytes[LENGTH_SIZE];
-    if kind < REGISTER || kind > REMOVE {
+    if kind < REGISTER || kind > LIST {
         return Err(FrameError::Kind);
     }
     if !is_length_of(kind, len) {
@@ -44,7 +46,7 @@ pub(crate) fn next_frame(bytes: &[u8]) -> Result<Option<(Message<&[u8]>, usize)>
     Ok(Some((message_of(kind, body), LENGTH_SIZE + len)))
 }
 
-/// Whether frames of this kind can have this length. Only purges and removals have a length of
+/// Whether frames of this kind can have this length. Only purges, removals and lists have lengths of
 /// their own.
 fn is_length_of(kind: u8, len: usize) -> bool
     ensures { IsTrue result ↔ IsLengthOf kind len }
@@ -52,6 +54,7 @@ fn is_length_of(kind: u8, len: usize) -> bool
     match kind {
         PURGE => len == PURGE_LENGTH,
         REMOVE => len == REMOVE_LENGTH,
+        LIST => len == LIST_LENGTH || len == LIST_AFTER_LENGTH,
         _ => true,
     }
 }
@@ -69,8 +72,34 @@ fn message_of(kind: u8, body: &[u8]) -> Message<&[u8]>
         REGISTER => Message::Register(body),
         LOOKUP => Message::Lookup(body),
         PURGE => Message::Purge(BigEndian::read_u64(body)),
-        _ => Message::Remove(body[0], id_of(&body[1..])),
+        REMOVE => Message::Remove(body[0], id_of(&body[1..])),
+        _ => Message::List(list_of(body)),
     }
+}
+
+/// The list with this body.
+fn list_of(body: &[u8]) -> ListRequest
+    requires { IsListLength (1 + length body.now) }
+    ensures body { list_body result ≡ body.now }
+    ensures fits { FitsList result }
+{
+    ListRequest {
+        kind: body[0],
+        start: BigEndian::read_u64(&body[1..9]),
+        end: BigEndian::read_u64(&body[9..17]),
+        after: after_of(&body[17..]),
+    }
+}
+
+/// The id at the end of a list's body, if there is one.
+fn after_of(bytes: &[u8]) -> Option<[u8; 32]>
+    requires { (length bytes.now ≡ 0) ⊎ (length bytes.now ≡ 32) }
+    ensures { id_bytes result ≡ bytes.now }
+{
+    if bytes.is_empty() {
+        return None;
+    }
+    Some(id_of(bytes))
 }
 
 /// An id, from its bytes.

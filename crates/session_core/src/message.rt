@@ -1,5 +1,7 @@
 //! The messages in frames.
 
+use crate::list_request::ListRequest;
+
 /// A message. The body of a registration or a lookup is owned by the caller of a `Framer`, or is a
 /// slice of the bytes that were read.
 #[derive(Debug, Drop, PartialEq)]
@@ -13,4 +15,6 @@ pub enum Message<B = Vec<u8>> {
     Purge(u64),
     /// Kind 4: the removal of a segment by its type, a byte that the service checks, and its id.
     Remove(u8, [u8; 32]),
+    /// Kind 5: a page of the segments of a type between two sides.
+    List(ListRequest),
 }

@@ -1,19 +1,19 @@
 //! Replies, and their frames.
 
-ghost use Rattle.std.specs.Prelude.{◌≡◌, ◌≤◌, ◌<◌, ◌++◌, ◌∷◌, ℕ, List, length, IfOk};
+ghost use Rattle.std.specs.Prelude.{◌≡◌, ◌+◌, ◌≤◌, ◌<◌, ◌++◌, ◌∷◌, ℕ, List, length, IfOk};
 ghost use Rattle.seg_core.specs.Registration.{typed_segments};
 ghost use Rattle.seg_core.specs.Encoding.{response_encoding};
 ghost use Rattle.session_core.specs.Commands.{reply_to_kind};
 ghost use Rattle.session_core.specs.Frames.{frame_encoding};
-ghost use Rattle.session_core.specs.Reply.{ack_encoding, reply_frame, HasReplySize, Found, Refused};
+ghost use Rattle.session_core.specs.Reply.{ack_encoding, more_byte, reply_frame, HasReplySize, Found, Listed, Refused};
 ghost use Rattle.session_core.specs.ReplyViews.{reply_view};
 
 use crate::command_kind::CommandKind;
 use crate::format::{
-    ACK_FRAME, ACK_LENGTH, FOUND, MOST_REPLY, PURGED, REFUSAL_FRAME, REFUSAL_LENGTH, REFUSED,
-    REGISTERED, REMOVED,
+    ACK_FRAME, ACK_LENGTH, FOUND, LISTED, MOST_REPLY, PURGED, REFUSAL_FRAME, REFUSAL_LENGTH,
+    REFUSED, REGISTERED, REMOVED,
 };
-use crate::service::{Ack, Code};
+use crate::service::{Ack, Code, Listing};
 use byteorder::{BigEndian, ByteOrder};
 use seg_core::{SegType, Segment, write_response_of};
 use std::alloc::{AllocError, Global};
@@ -38,6 +38,8 @@ pub enum Reply {
     Purged(Ack),
     /// A removal was accepted.
     Removed(Ack),
+    /// The page that a list found.
+    Listed(Listing),
     /// A message was refused.
     Refused(Code),
 }
@@ -100,7 +102,20 @@ pub(crate) fn found_head(response: usize) -> [u8; 5]
     head
 }
 
-/// The response to a lookup: a `SegmentsResponse` of segments of one type.
+/// The length, the kind and the byte that says whether more follows, before a page's response of
+/// this number of bytes.
+pub(crate) fn listed_head(more: bool, response: usize) -> [u8; 6]
+    requires { response + 1 < MOST_REPLY }
+    ensures { (body : List ℕ) → length body ≡ response → result ++ body ≡ frame_encoding (0x85 ∷ (more_byte more ∷ body)) }
+{
+    let mut head = [0; 6];
+    BigEndian::write_u32(&mut head, response as u32 + 2);
+    head[4] = LISTED;
+    head[5] = u8::from(more);
+    head
+}
+
+/// The response to a lookup or a list: a `SegmentsResponse` of segments of one type.
 pub(crate) fn response_of(
     alloc: Global,
     kind: SegType,
@@ -126,8 +141,21 @@ pub(crate) fn whole_frame(alloc: Global, reply: &Reply) -> Result<Vec<u8>, Alloc
         Reply::Found(kind, segments) => found_frame(alloc, *kind, segments),
         Reply::Purged(ack) => Vec::from_slice(alloc, &ack_frame(PURGED, *ack)),
         Reply::Removed(ack) => Vec::from_slice(alloc, &ack_frame(REMOVED, *ack)),
+        Reply::Listed(listing) => listed_frame(alloc, listing),
         Reply::Refused(code) => Vec::from_slice(alloc, &refusal_frame(*code)),
     }
+}
+
+/// The frame of a page.
+#[tactic(auto, unfolding(crate::specs::Reply::reply_frame))]
+fn listed_frame(alloc: Global, listing: &Listing) -> Result<Vec<u8>, AllocError>
+    requires { HasReplySize (Listed listing.now.more listing.now.kind listing.now.segments.items) }
+    ensures { IfOk result (λ frame. frame.items ≡ reply_frame (Listed listing.now.more listing.now.kind listing.now.segments.items)) }
+{
+    let response = response_of(alloc, listing.kind, &listing.segments)?;
+    let mut frame = Vec::from_slice(alloc, &listed_head(listing.more, response.len()))?;
+    frame.extend_from_slice(response.as_slice())?;
+    Ok(frame)
 }
 
 /// The frame of a response.

@@ -8,16 +8,17 @@ ghost use Rattle.session_core.specs.Commands.{command_kind, reply_to_kind};
 ghost use Rattle.session_core.specs.Frames.{MessageView};
 ghost use Rattle.session_core.specs.Front.{message_at};
 ghost use Rattle.session_core.specs.Reply.{ReplyView};
-ghost use Rattle.session_core.specs.Service.{reply_to_register, reply_to_lookup, reply_to_purge, reply_to_remove, AnswersBehind};
+ghost use Rattle.session_core.specs.Service.{reply_to_register, reply_to_lookup, reply_to_purge, reply_to_remove, reply_to_list, AnswersBehind};
 ghost use Rattle.session_core.specs.declared.command_kind.CommandKind.{CommandKind as KindOfCommand};
-ghost use Rattle.session_core.specs.declared.message.Message.TheVariants.{Register, Lookup, Purge, Remove};
+ghost use Rattle.session_core.specs.declared.message.Message.TheVariants.{Register, Lookup, Purge, Remove, List};
 
+use crate::list_request::ListRequest;
 use crate::message::Message;
 use path_db::Outcome;
 use seg_core::{SegType, Segment};
 use std::alloc::Global;
 
-/// The most segments of an answer to a lookup.
+/// The most segments of an answer to a lookup, and of a page.
 pub const MOST_SEGMENTS: usize = 64;
 
 /// The acknowledgement of a command: its place in the order of commands, counted from 0, and what
@@ -26,6 +27,15 @@ pub const MOST_SEGMENTS: usize = 64;
 pub struct Ack {
     pub place: u64,
     pub outcome: Outcome,
+}
+
+/// A page of the segments that a list asks for, which are of one type.
+#[derive(Drop)]
+pub struct Listing {
+    pub kind: SegType,
+    pub segments: Vec<Segment>,
+    /// Whether further segments follow those of the page.
+    pub more: bool,
 }
 
 /// The code of a refusal in a reply, one byte.
@@ -73,9 +83,15 @@ pub trait Service {
     fn remove(&mut self, kind: u8, id: &[u8; 32]) -> Result<Ack, Code>
         ensures { answers (state self.old) (Remove kind id.now) (reply_to_remove result) (state self.new) };
 
+    /// Answers a list: a page of segments of one type. The number of the type can be any byte.
+    fn list(&mut self, alloc: Global, request: &ListRequest) -> Result<Listing, Code>
+        ensures answers { answers (state self.old) (List request.now) (reply_to_list result) (state self.new) }
+        ensures few { IfOk result (λ listing. length listing.segments.items ≤ MOST_SEGMENTS) }
+        ensures whole { IfOk result (λ listing. AllByRecursion IsSegment listing.segments.items) };
+
     /// Takes a command ahead of its reply. `None` means that the service takes the message only
-    /// when all messages before it are answered, as each lookup. A refusal is no `None`: it is the
-    /// answer of `settle`.
+    /// when all messages before it are answered, as each lookup and each list. A refusal is no
+    /// `None`: it is the answer of `settle`.
     fn hand_in(&mut self, alloc: Global, message: Message<&[u8]>) -> Option<Self::UnderWay>
         ensures command { IfSome result (λ _. IsSome (command_kind (message_at message.entry))) }
         ensures known { IfSome result (λ under_way. is_for (state self.new) under_way (message_at message.entry)) }
@@ -114,6 +130,10 @@ impl<S: Service> Service for &mut S {
 
     fn remove(&mut self, kind: u8, id: &[u8; 32]) -> Result<Ack, Code> {
         (**self).remove(kind, id)
+    }
+
+    fn list(&mut self, alloc: Global, request: &ListRequest) -> Result<Listing, Code> {
+        (**self).list(alloc, request)
     }
 
     fn hand_in(&mut self, alloc: Global, message: Message<&[u8]>) -> Option<S::UnderWay> {

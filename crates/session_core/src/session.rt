@@ -179,5 +179,9 @@ fn answer<S: Service>(alloc: Global, service: &mut S, message: Message<&[u8]>) -
         },
         Message::Purge(moment) => reply_to(CommandKind::Purge, service.purge(moment)),
         Message::Remove(kind, id) => reply_to(CommandKind::Remove, service.remove(kind, &id)),
+        Message::List(request) => match service.list(alloc, &request) {
+            Ok(listing) => Reply::Listed(listing),
+            Err(code) => Reply::Refused(code),
+        },
     }
 }

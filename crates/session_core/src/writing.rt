@@ -2,13 +2,16 @@
 
 ghost use Rattle.std.specs.Prelude.{◌≡◌, ◌++◌, OnOk, IfOk, IfErr, string_bytes};
 ghost use Rattle.std.specs.Io.KnownBytes.{Appends};
-ghost use Rattle.session_core.specs.Reply.{HasReplySize, Found, reply_frame, told_as};
+ghost use Rattle.session_core.specs.Reply.{HasReplySize, Found, Listed, reply_frame, told_as};
 ghost use Rattle.session_core.specs.ReplyViews.{reply_view};
 ghost use Rattle.session_core.specs.Answered.{FailsToWrite, ReplyWriteFails};
 
 use crate::error::FrameError;
 use crate::format::{PURGED, REGISTERED, REMOVED};
-use crate::reply::{Form, Reply, ack_frame, found_head, refusal_frame, response_of, whole_frame};
+use crate::reply::{
+    Form, Reply, ack_frame, found_head, listed_head, refusal_frame, response_of, whole_frame,
+};
+use crate::service::Listing;
 use crate::sink::Sink;
 use seg_core::{SegType, Segment};
 use std::alloc::{AllocError, Global};
@@ -67,6 +70,7 @@ fn write_frame<W: Sink>(alloc: Global, writer: &mut W, reply: &Reply) -> Result<
         Reply::Found(kind, segments) => write_found(alloc, writer, *kind, segments),
         Reply::Purged(ack) => write_all(writer, &ack_frame(PURGED, *ack)),
         Reply::Removed(ack) => write_all(writer, &ack_frame(REMOVED, *ack)),
+        Reply::Listed(listing) => write_listed(alloc, writer, listing),
         Reply::Refused(code) => write_all(writer, &refusal_frame(*code)),
     }
 }
@@ -87,6 +91,20 @@ fn write_found<W: Sink>(
         return Err(FrameError::NoMemory);
     };
     write_both(writer, &found_head(response.len()), response.as_slice())
+}
+
+/// Writes the frame of a page.
+#[tactic(auto, unfolding(crate::specs::Reply::reply_frame))]
+fn write_listed<W: Sink>(alloc: Global, writer: &mut W, listing: &Listing) -> Result<(), FrameError>
+    requires { HasReplySize (Listed listing.now.more listing.now.kind listing.now.segments.items) }
+    ensures ok { OnOk result (Appends (W.contents writer.old) (W.contents writer.new) (reply_frame (Listed listing.now.more listing.now.kind listing.now.segments.items))) }
+    ensures err { IfErr result (FailsToWrite (W.contents writer.old) (W.contents writer.new) (reply_frame (Listed listing.now.more listing.now.kind listing.now.segments.items))) }
+{
+    let Ok(response) = response_of(alloc, listing.kind, &listing.segments) else {
+        return Err(FrameError::NoMemory);
+    };
+    let head = listed_head(listing.more, response.len());
+    write_both(writer, &head, response.as_slice())
 }
 
 /// Writes all bytes of two byte strings.
