@@ -38,6 +38,7 @@ const (
 	NoSession       Code = 0x61
 	Unsettled       Code = 0x62
 	NotAwaited      Code = 0x63
+	NoCommands      Code = 0x64
 )
 
 var texts = map[Code]string{
@@ -71,6 +72,7 @@ var texts = map[Code]string{
 	NoSession:       "the server has no room for the session, and has closed it",
 	Unsettled:       "the store stopped before the command was committed, which may be kept or lost",
 	NotAwaited:      "this side had ended, and the server waits no longer for the commit, which may come yet",
+	NoCommands:      "commands are not taken here, but lookups are",
 }
 
 // When it helps to send a request again; never after the others.
@@ -87,6 +89,7 @@ var again = map[Code]string{
 	NoSession:    "on a new connection, after a pause",
 	Unsettled:    "at another server, or after a restart",
 	NotAwaited:   "on a new connection, after a pause",
+	NoCommands:   "at another listener",
 }
 
 // Error says what the code means.

@@ -93,7 +93,8 @@ func TestRefusals(t *testing.T) {
 func TestEachCodeHasItsStatus(t *testing.T) {
 	for code, wanted := range map[byte]codes.Code{
 		0x01: codes.ResourceExhausted, 0x2a: codes.InvalidArgument, 0x31: codes.InvalidArgument, 0x33: codes.InvalidArgument, 0x51: codes.Unavailable,
-		0x52: codes.ResourceExhausted, 0x54: codes.FailedPrecondition, 0x61: codes.Unavailable, 0x62: codes.Unknown, 0x63: codes.Unknown, 0x99: codes.Internal,
+		0x52: codes.ResourceExhausted, 0x54: codes.FailedPrecondition, 0x61: codes.Unavailable, 0x62: codes.Unknown, 0x63: codes.Unknown,
+		0x64: codes.FailedPrecondition, 0x99: codes.Internal,
 	} {
 		address := fake(t, func(content []byte) []byte {
 			if content[0] == 1 {

@@ -73,6 +73,7 @@ class Code(IntEnum):
         "this side had ended, and the server waits no longer for the commit: it may come yet",
         "on a new connection, after a pause",
     )
+    NO_COMMANDS = 0x64, "commands are not taken here, but lookups are", "at another listener"
 
 
 # After these refusals a server has changed nothing, and the same request may succeed later.

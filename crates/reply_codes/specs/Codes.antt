@@ -31,6 +31,10 @@ not_awaited_code = 0x63
 abbrev pub future_code : ℕ
 future_code = 0x33
 
+-- The code of a command in a session that takes none.
+abbrev pub no_commands_code : ℕ
+no_commands_code = 0x64
+
 -- The code of a fault in the wire format of a message.
 abbrev pub wire_code : WireError → ℕ
 wire_code Truncated = 0x11

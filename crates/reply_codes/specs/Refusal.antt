@@ -1,8 +1,8 @@
 -- The code of each refusal.
 use Rattle.std.specs.Prelude.{ℕ}
 use Rattle.reply_codes.specs.declared.refusal.Refusal.{Refusal}
-use Rattle.reply_codes.specs.declared.refusal.Refusal.TheVariants.{NoMemory, Message, Check, Lookup, Submit, NoReader, Stopped, NotAwaited, Future}
-use Rattle.reply_codes.specs.Codes.{memory_code, reader_code, stopped_code, not_awaited_code, future_code, seg_code, check_code, lookup_code, submit_code}
+use Rattle.reply_codes.specs.declared.refusal.Refusal.TheVariants.{NoMemory, Message, Check, Lookup, Submit, NoReader, Stopped, NotAwaited, Future, NoCommands}
+use Rattle.reply_codes.specs.Codes.{memory_code, reader_code, stopped_code, not_awaited_code, future_code, no_commands_code, seg_code, check_code, lookup_code, submit_code}
 
 -- The code of a refusal, in one byte.
 abbrev pub refusal_code : Refusal → ℕ
@@ -15,3 +15,4 @@ refusal_code NoReader = reader_code
 refusal_code Stopped = stopped_code
 refusal_code NotAwaited = not_awaited_code
 refusal_code Future = future_code
+refusal_code NoCommands = no_commands_code

@@ -43,6 +43,9 @@ pub enum Refusal {
     /// The timestamp of a segment, or the moment of a purge, lies too far after now.
     #[error("a time lies too far in the future")]
     Future,
+    /// The session takes no commands.
+    #[error("commands are not taken here")]
+    NoCommands,
 }
 
 impl Refusal {
@@ -62,6 +65,7 @@ impl Refusal {
             Refusal::Stopped => 0x62,
             Refusal::NotAwaited => 0x63,
             Refusal::Future => 0x33,
+            Refusal::NoCommands => 0x64,
         })
     }
 }

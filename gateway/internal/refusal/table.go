@@ -45,4 +45,5 @@ var table = map[Code]Meaning{
 	0x61: {soon, "", "the server has no room for the session"},
 	0x62: {unsure, "", "the store stopped before the command was committed"},
 	0x63: {unsure, "", "the server waits no longer for the commit"},
+	0x64: {operator, "", "the server takes no commands here"},
 }
