@@ -6,6 +6,7 @@ use Rattle.seg_slots.specs.declared.error.SegError.{SegError}
 use Rattle.seg_core.specs.Registration.{registration_decoding}
 use Rattle.path_db.specs.Database.{RowView}
 use Rattle.session_core.specs.declared.message.Message.TheVariants.{Register, Lookup, Purge, Remove}
+use Rattle.session_core.specs.declared.message.Message.TheVariants as message
 use Rattle.session_core.specs.Frames.{MessageView}
 
 -- The last moment, in half seconds, that is not too far in the future, by a bound in seconds.
@@ -28,6 +29,7 @@ is_future bound now (Register body) = is_read_after (last_moment bound now) (reg
 is_future bound now (Lookup body) = false
 is_future bound now (Purge until) = nat_lt (last_moment bound now) until
 is_future bound now (Remove kind id) = false
+is_future bound now (message.List request) = false
 
 -- A message names a time: a registration that can be read, or a purge.
 abbrev pub names_time : MessageView → Bool
@@ -35,6 +37,7 @@ names_time (Register body) = is_ok (registration_decoding body)
 names_time (Lookup body) = false
 names_time (Purge until) = true
 names_time (Remove kind id) = false
+names_time (message.List request) = false
 
 -- Whether a message lies in the future is judged by the bound, if there is one, at the moment that
 -- the clock gave. The clock is asked for messages that name a time.

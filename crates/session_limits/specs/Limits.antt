@@ -3,12 +3,13 @@ use Rattle.std.specs.Prelude.{◌≡◌, ◌⊎◌, ℕ, Bool, true, false, Opti
 use Rattle.seg_core.specs.Registration.{registration_outline}
 use Rattle.group_core.specs.declared.submit_error.SubmitError.TheVariants.{Busy}
 use Rattle.session_core.specs.declared.message.Message.TheVariants.{Register, Lookup, Purge, Remove}
+use Rattle.session_core.specs.declared.message.Message.TheVariants as message
 use Rattle.session_core.specs.Commands.{command_kind}
 use Rattle.session_core.specs.Frames.{MessageView}
 use Rattle.session_core.specs.Reply.{ReplyView, Refused}
-use Rattle.reply_codes.specs.Codes.{memory_code, future_code, submit_code}
+use Rattle.reply_codes.specs.Codes.{memory_code, future_code, no_commands_code, submit_code}
 use Rattle.session_limits.specs.declared.limit.Limit.{Limit}
-use Rattle.session_limits.specs.declared.limit.Limit.TheVariants.{NoMemory, Future, NoRoom}
+use Rattle.session_limits.specs.declared.limit.Limit.TheVariants.{NoMemory, Future, NoRoom, NoCommands}
 use Rattle.session_limits.specs.declared.limited.Limited.{Limited}
 use Rattle.session_limits.specs.declared.limited.LimitedCommand.{LimitedCommand}
 use Rattle.session_limits.specs.Future.{IsJudged}
@@ -19,6 +20,8 @@ pub record LimitedView (S : Type 0) : Type 0 where
   pub future : Option ℕ
   -- Whether its commands need room, which does not change.
   pub shares : Bool
+  -- Whether its commands are taken, which does not change.
+  pub commands : Bool
   -- The moment at which the last message was answered for which the clock was asked, in half
   -- seconds since 1970.
   pub moment : ℕ
@@ -27,7 +30,7 @@ pub record LimitedView (S : Type 0) : Type 0 where
 
 -- A limited service, by the states of the service below.
 abbrev pub limited : {S C R X : Type 0} → (S → X) → Limited S C R → LimitedView X
-limited state l = record { future = l.future; shares = is_some l.rooms; moment = l.moment; inner = state l.inner }
+limited state l = record { future = l.future; shares = is_some l.rooms; commands = l.commands; moment = l.moment; inner = state l.inner }
 
 -- The limited service after a message that was judged at this moment, if the clock was asked.
 abbrev pub after_judging : {X : Type 0} → LimitedView X → Option ℕ → LimitedView X
@@ -41,6 +44,7 @@ abbrev pub limit_code : Limit → ℕ
 limit_code NoMemory = memory_code
 limit_code Future = future_code
 limit_code NoRoom = submit_code Busy
+limit_code NoCommands = no_commands_code
 
 -- A message that has to be read, by a bound, may be refused memory once its outline was read.
 abbrev pub MayLackMemory : Option ℕ → MessageView → Type 0
@@ -49,14 +53,19 @@ MayLackMemory (Some bound) (Register body) = IsOk (registration_outline body)
 MayLackMemory (Some bound) (Lookup body) = ⊥
 MayLackMemory (Some bound) (Purge until) = ⊥
 MayLackMemory (Some bound) (Remove kind id) = ⊥
+MayLackMemory (Some bound) (message.List request) = ⊥
 
--- Why a message is refused, or None where it goes on to the service below: it lies in the future.
--- Only a command that does not is refused for want of room, and only where room is shared.
-abbrev pub IsAdmission : Option ℕ → Bool → Option ℕ → MessageView → Option Limit → Type 0
-IsAdmission future shares moment message None = IsJudged future moment message false
-IsAdmission future shares moment message (Some NoMemory) = (moment ≡ None) × MayLackMemory future message
-IsAdmission future shares moment message (Some Future) = IsJudged future moment message true
-IsAdmission future shares moment message (Some NoRoom) = IsJudged future moment message false × ((shares ≡ true) × IsSome (command_kind message))
+-- Why a message is refused, or None where it goes on to the service below. A session that takes no
+-- commands refuses each one for that, and has no other refusal. Elsewhere a message is refused that
+-- lies in the future. Only a command that does not is refused for want of room, and only where room
+-- is shared.
+abbrev pub IsAdmission : Bool → Option ℕ → Bool → Option ℕ → MessageView → Option Limit → Type 0
+IsAdmission takes future shares moment message None = IsJudged future moment message false × (takes ≡ false → command_kind message ≡ None)
+IsAdmission takes future shares moment message (Some NoMemory) = (takes ≡ true) × ((moment ≡ None) × MayLackMemory future message)
+IsAdmission takes future shares moment message (Some Future) = (takes ≡ true) × IsJudged future moment message true
+IsAdmission takes future shares moment message (Some NoRoom) =
+    (takes ≡ true) × (IsJudged future moment message false × ((shares ≡ true) × IsSome (command_kind message)))
+IsAdmission takes future shares moment message (Some NoCommands) = (takes ≡ false) × ((moment ≡ None) × IsSome (command_kind message))
 
 -- ---- what is answered
 
@@ -64,7 +73,7 @@ IsAdmission future shares moment message (Some NoRoom) = IsJudged future moment 
 pub record IsRefusedAbove {X : Type 0} (old : LimitedView X) (message : MessageView) (reply : ReplyView) (new : LimitedView X) : Type 0 where
   pub moment : Option ℕ
   pub limit : Limit
-  pub admission : IsAdmission old.future old.shares moment message (Some limit)
+  pub admission : IsAdmission old.commands old.future old.shares moment message (Some limit)
   pub replied : reply ≡ Refused (limit_code limit)
   pub kept : new ≡ after_judging old moment
 
@@ -73,7 +82,7 @@ module _ {X : Type 0} (answers : X → MessageView → ReplyView → X → Type 
   -- The service below answered the message, which does not lie in the future.
   pub record IsAnsweredBelow (old : LimitedView X) (message : MessageView) (reply : ReplyView) (new : LimitedView X) : Type 0 where
     pub moment : Option ℕ
-    pub admission : IsAdmission old.future old.shares moment message None
+    pub admission : IsAdmission old.commands old.future old.shares moment message None
     pub answered : answers old.inner message reply new.inner
     pub kept : new ≡ record (after_judging old moment) { inner = new.inner }
 
@@ -85,8 +94,8 @@ module _ {X : Type 0} (answers : X → MessageView → ReplyView → X → Type 
 
 -- The service below has taken it, or it is refused.
 abbrev pub IsTaken : {X U : Type 0} → (X → U → MessageView → Type 0) → LimitedView X → Option ℕ → Result U Limit → MessageView → Type 0
-IsTaken is_for state moment (Ok under_way) message = IsAdmission state.future state.shares moment message None × is_for state.inner under_way message
-IsTaken is_for state moment (Err limit) message = IsAdmission state.future state.shares moment message (Some limit)
+IsTaken is_for state moment (Ok under_way) message = IsAdmission state.commands state.future state.shares moment message None × is_for state.inner under_way message
+IsTaken is_for state moment (Err limit) message = IsAdmission state.commands state.future state.shares moment message (Some limit)
 
 -- In this state it is known that this is under way for the message.
 abbrev pub IsLimitedFor : {X U : Type 0} → (X → U → MessageView → Type 0) → LimitedView X → LimitedCommand U → MessageView → Type 0

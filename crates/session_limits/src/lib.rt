@@ -1,8 +1,9 @@
 //! Limits of a session's messages, which are refused before a service below is asked.
 //!
-//! To the layer above, `Limited` is a service that answers as another one does, but for two limits:
-//! no time of a command lies too far in the future, and only so many sessions have commands under
-//! way at one time. `Rooms` is the number of these sessions, which threads share.
+//! To the layer above, `Limited` is a service that answers as another one does, but for three
+//! limits: a session may take no commands, no time of a command lies too far in the future, and only
+//! so many sessions have commands under way at one time. `Rooms` is the number of these sessions,
+//! which threads share.
 #![tactic(auto)]
 
 mod future;

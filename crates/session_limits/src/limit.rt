@@ -13,6 +13,8 @@ pub enum Limit {
     Future,
     /// As many sessions have commands under way as may have some.
     NoRoom,
+    /// The session takes no commands.
+    NoCommands,
 }
 
 impl Limit {
@@ -27,6 +29,7 @@ impl Limit {
             Limit::NoMemory => Refusal::NoMemory.code(),
             Limit::Future => Refusal::Future.code(),
             Limit::NoRoom => Refusal::Submit(SubmitError::Busy).code(),
+            Limit::NoCommands => Refusal::NoCommands.code(),
         }
     }
 }

@@ -5,7 +5,7 @@ ghost use Rattle.session_core.specs.Commands.{command_kind};
 ghost use Rattle.session_core.specs.Frames.{MessageView};
 ghost use Rattle.session_core.specs.Front.{message_at};
 ghost use Rattle.session_core.specs.declared.message.Message.TheVariants.{Register, Purge, Remove};
-ghost use Rattle.session_limits.specs.declared.limit.Limit.TheVariants.{Future};
+ghost use Rattle.session_limits.specs.declared.limit.Limit.TheVariants.{Future, NoCommands};
 ghost use Rattle.session_limits.specs.Limits.{limited, after_judging, IsAdmission, IsLimitedFor};
 
 use crate::future::{is_after, is_one_after};
@@ -13,7 +13,7 @@ use crate::limit::Limit;
 use crate::rooms::{Room, Rooms};
 use seg_core::{SegError, SegType, Segment, read_registration};
 use session_clock::Now;
-use session_core::{Ack, Code, Message, Service};
+use session_core::{Ack, Code, ListRequest, Listing, Message, Service};
 use std::alloc::Global;
 use std::time::Clock;
 
@@ -25,17 +25,20 @@ pub struct Limits<'a> {
     pub future: Option<u64>,
     /// Room for the sessions that have commands under way. `None` is room for all.
     pub rooms: Option<&'a Rooms>,
+    /// Whether commands are taken.
+    pub commands: bool,
 }
 
 /// Answers as another service does, but refuses some messages before that one is called:
 ///
+/// - each command, where commands are not taken;
 /// - a registration or a purge with a time too far in the future, where there is a bound;
 /// - a command of a session that has none under way, where there is no room for one more such
 ///   session. Room is awaited for 200 milliseconds, and not again until the session has had some. A
 ///   session keeps its room until none of its commands is under way.
 ///
-/// Where there is a bound, a registration is read here, too, and the clock is asked once for each
-/// that can be read, and for each purge.
+/// Where commands are taken and there is a bound, a registration is read here, too, and the clock is
+/// asked once for each that can be read, and for each purge.
 ///
 /// Where a message is refused here, the service below is the same value afterwards (the clauses
 /// `untouched`). Code that is generic in that service can show this only by not calling it, so that
@@ -47,6 +50,7 @@ pub struct Limited<'a, S, C, R> {
     rt: &'a R,
     future: Option<u64>,
     rooms: Option<&'a Rooms>,
+    commands: bool,
     /// The room of this session, while commands of it are under way.
     room: Option<Room<'a>>,
     /// Whether room was last awaited in vain.
@@ -80,7 +84,7 @@ impl<'a, S: Service, C: Now, R: Clock> Limited<'a, S, C, R> {
     pub fn new(inner: S, clock: C, limits: Limits<'a>, rt: &'a R) -> Limited<'a, S, C, R>
         ensures inner { result.inner ≡ inner }
         ensures view { limited S.state result
-            ≡ record { future = limits.entry.future; shares = is_some limits.entry.rooms; moment = 0; inner = S.state inner } }
+            ≡ record { future = limits.entry.future; shares = is_some limits.entry.rooms; commands = limits.entry.commands; moment = 0; inner = S.state inner } }
     {
         Limited {
             inner,
@@ -88,6 +92,7 @@ impl<'a, S: Service, C: Now, R: Clock> Limited<'a, S, C, R> {
             rt,
             future: limits.future,
             rooms: limits.rooms,
+            commands: limits.commands,
             room: None,
             is_short: false,
             under_way: 0,
@@ -107,6 +112,7 @@ impl<'a, S: Service, C: Now, R: Clock> Limited<'a, S, C, R> {
             rt: _,
             future: _,
             rooms: _,
+            commands: _,
             room: _room,
             is_short: _,
             under_way: _,
@@ -117,42 +123,52 @@ impl<'a, S: Service, C: Now, R: Clock> Limited<'a, S, C, R> {
 
     // ---- judging messages
 
-    /// Judges a registration, and takes room for it.
+    /// Judges a registration, and takes room for it, if commands are taken.
     fn admit_registration(&mut self, alloc: Global, body: &[u8]) -> Admission
-        ensures admission { IsAdmission self.old.future (is_some self.old.rooms) result.moment (Register body.now) result.limit }
+        ensures admission { IsAdmission self.old.commands self.old.future (is_some self.old.rooms) result.moment (Register body.now) result.limit }
         ensures clock { IfSome result.moment (λ moment. moment ≡ C.moment self.new.clock) }
         ensures same { limited S.state self.new ≡ limited S.state self.old }
         ensures untouched { self.new.inner ≡ self.old.inner }
     {
+        if !self.commands {
+            return not_taken();
+        }
         let judged = self.judge_registration(alloc, body);
         self.take_room(judged)
     }
 
-    /// Judges a purge, and takes room for it.
+    /// Judges a purge, and takes room for it, if commands are taken.
     fn admit_purge(&mut self, until: u64) -> Admission
-        ensures admission { IsAdmission self.old.future (is_some self.old.rooms) result.moment (Purge until) result.limit }
+        ensures admission { IsAdmission self.old.commands self.old.future (is_some self.old.rooms) result.moment (Purge until) result.limit }
         ensures clock { IfSome result.moment (λ moment. moment ≡ C.moment self.new.clock) }
         ensures same { limited S.state self.new ≡ limited S.state self.old }
         ensures untouched { self.new.inner ≡ self.old.inner }
     {
+        if !self.commands {
+            return not_taken();
+        }
         let judged = self.judge_purge(until);
         self.take_room(judged)
     }
 
-    /// Takes room for a removal.
+    /// Takes room for a removal, if commands are taken.
     fn admit_removal(&mut self, kind: u8, id: &[u8; 32]) -> Admission
-        ensures admission { IsAdmission self.old.future (is_some self.old.rooms) result.moment (Remove kind id.now) result.limit }
+        ensures admission { IsAdmission self.old.commands self.old.future (is_some self.old.rooms) result.moment (Remove kind id.now) result.limit }
         ensures clock { IfSome result.moment (λ moment. moment ≡ C.moment self.new.clock) }
         ensures same { limited S.state self.new ≡ limited S.state self.old }
         ensures untouched { self.new.inner ≡ self.old.inner }
     {
+        if !self.commands {
+            return not_taken();
+        }
         self.take_room(unjudged())
     }
 
     /// Judges the timestamps of a registration by the bound, if there is one. A registration that
     /// cannot be read is refused by the service below.
     fn judge_registration(&mut self, alloc: Global, body: &[u8]) -> Admission
-        ensures admission { IsAdmission self.old.future (is_some self.old.rooms) result.moment (Register body.now) result.limit }
+        requires { self.old.commands ≡ true }
+        ensures admission { IsAdmission self.old.commands self.old.future (is_some self.old.rooms) result.moment (Register body.now) result.limit }
         ensures clock { IfSome result.moment (λ moment. moment ≡ C.moment self.new.clock) }
         ensures same { limited S.state self.new ≡ limited S.state self.old }
         ensures untouched { self.new.inner ≡ self.old.inner }
@@ -175,7 +191,8 @@ impl<'a, S: Service, C: Now, R: Clock> Limited<'a, S, C, R> {
 
     /// Judges the moment of a purge by the bound, if there is one.
     fn judge_purge(&mut self, until: u64) -> Admission
-        ensures admission { IsAdmission self.old.future (is_some self.old.rooms) result.moment (Purge until) result.limit }
+        requires { self.old.commands ≡ true }
+        ensures admission { IsAdmission self.old.commands self.old.future (is_some self.old.rooms) result.moment (Purge until) result.limit }
         ensures clock { IfSome result.moment (λ moment. moment ≡ C.moment self.new.clock) }
         ensures same { limited S.state self.new ≡ limited S.state self.old }
         ensures untouched { self.new.inner ≡ self.old.inner }
@@ -189,9 +206,10 @@ impl<'a, S: Service, C: Now, R: Clock> Limited<'a, S, C, R> {
 
     /// Takes room for a command that was judged, if it is not refused and the session has none.
     fn take_room(&mut self, judged: Admission) -> Admission
+        requires { self.old.commands ≡ true }
         ensures admission { (message : MessageView) → IsSome (command_kind message)
-            → IsAdmission self.old.future (is_some self.old.rooms) judged.moment message judged.limit
-            → IsAdmission self.old.future (is_some self.old.rooms) result.moment message result.limit }
+            → IsAdmission self.old.commands self.old.future (is_some self.old.rooms) judged.moment message judged.limit
+            → IsAdmission self.old.commands self.old.future (is_some self.old.rooms) result.moment message result.limit }
         ensures moment { result.moment ≡ judged.moment }
         ensures clock { self.new.clock ≡ self.old.clock }
         ensures same { limited S.state self.new ≡ limited S.state self.old }
@@ -283,6 +301,17 @@ fn unjudged() -> Admission
     }
 }
 
+/// A command of a session that takes none.
+fn not_taken() -> Admission
+    ensures moment { result.moment ≡ None }
+    ensures limit { result.limit ≡ Some NoCommands }
+{
+    Admission {
+        moment: None,
+        limit: Some(Limit::NoCommands),
+    }
+}
+
 /// A message that was judged at a moment: whether it lies in the future.
 fn judged(now: u64, is_future: bool) -> Admission
     ensures moment { result.moment ≡ Some now }
@@ -325,6 +354,10 @@ impl<S: Service, C: Now, R: Clock> Service for Limited<'_, S, C, R> {
         self.inner.lookup(alloc, message)
     }
 
+    fn list(&mut self, alloc: Global, request: &ListRequest) -> Result<Listing, Code> {
+        self.inner.list(alloc, request)
+    }
+
     fn purge(&mut self, moment: u64) -> Result<Ack, Code> {
         let admission = self.admit_purge(moment);
         self.note_moment(admission.moment);
@@ -359,7 +392,7 @@ impl<S: Service, C: Now, R: Clock> Service for Limited<'_, S, C, R> {
     {
         let admission = match &message {
             Message::Register(body) => self.admit_registration(alloc, body),
-            Message::Lookup(_) => return None,
+            Message::Lookup(_) | Message::List(_) => return None,
             Message::Purge(until) => self.admit_purge(*until),
             Message::Remove(kind, id) => self.admit_removal(*kind, id),
         };
