@@ -10,4 +10,5 @@ kind_of_reply (reply.Registered ack) = kind.Registered
 kind_of_reply (reply.Found type segments) = kind.Found
 kind_of_reply (reply.Purged ack) = kind.Purged
 kind_of_reply (reply.Removed ack) = kind.Removed
+kind_of_reply (reply.Listed more type segments) = kind.Listed
 kind_of_reply (reply.Refused code) = kind.Refused code

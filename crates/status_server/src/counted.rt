@@ -1,9 +1,9 @@
 //! A service whose replies are counted.
 
 use crate::replies::Replies;
-use crate::reply_kind::{kind_to_command, kind_to_lookup};
+use crate::reply_kind::{kind_to_command, kind_to_list, kind_to_lookup};
 use seg_core::{SegType, Segment};
-use session_core::{Ack, Code, CommandKind, Message, Service};
+use session_core::{Ack, Code, CommandKind, ListRequest, Listing, Message, Service};
 use std::alloc::Global;
 
 /// Answers as another service does, and counts each reply.
@@ -63,6 +63,12 @@ impl<S: Service> Service for Counted<'_, S> {
     fn lookup(&mut self, alloc: Global, message: &[u8]) -> Result<(SegType, Vec<Segment>), Code> {
         let answered = self.service.lookup(alloc, message);
         self.replies.count(kind_to_lookup(&answered));
+        answered
+    }
+
+    fn list(&mut self, alloc: Global, request: &ListRequest) -> Result<Listing, Code> {
+        let answered = self.service.list(alloc, request);
+        self.replies.count(kind_to_list(&answered));
         answered
     }
 

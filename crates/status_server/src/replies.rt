@@ -18,6 +18,7 @@ pub struct Replies {
     found: AtomicU64,
     purged: AtomicU64,
     removed: AtomicU64,
+    listed: AtomicU64,
     /// The refusals, by their codes.
     refused: [AtomicU64; CODES],
 }
@@ -30,6 +31,7 @@ impl Replies {
             found: AtomicU64::new(0),
             purged: AtomicU64::new(0),
             removed: AtomicU64::new(0),
+            listed: AtomicU64::new(0),
             refused: array::from_fn(|_code| AtomicU64::new(0)),
         }
     }
@@ -52,6 +54,7 @@ impl Replies {
             ReplyKind::Found => &self.found,
             ReplyKind::Purged => &self.purged,
             ReplyKind::Removed => &self.removed,
+            ReplyKind::Listed => &self.listed,
             ReplyKind::Refused(code) => &self.refused[usize::from(code)],
         }
     }
