@@ -21,7 +21,7 @@ use Rattle.session_core.specs.Reply.{ReplyView, Registered, Purged, Removed}
 use Rattle.once_store.specs.Taking.{FitStore}
 use Rattle.group_core.specs.declared.submit_error.SubmitError.TheVariants as submit
 use Rattle.reply_codes.specs.declared.refusal.Refusal.{Refusal}
-use Rattle.reply_codes.specs.declared.refusal.Refusal.TheVariants.{NoMemory, Message, Check, Lookup, Submit, NoReader, Stopped, NotAwaited, Future}
+use Rattle.reply_codes.specs.declared.refusal.Refusal.TheVariants.{NoMemory, Message, Check, Lookup, Submit, NoReader, Stopped, NotAwaited, Future, NoCommands}
 use Rattle.reply_codes.specs.Codes.{submit_code}
 use Rattle.reply_codes.specs.Replies.{reply_to_command}
 use Rattle.cli_once.specs.Memory.{Served, Step, refused_step, fits_store, command_step, ack_of, after_command, checked_step, registration_step, removal_step, message_step, MayRunOut, Answers}
@@ -95,6 +95,7 @@ module _ (reply : Ack → ReplyView) (old : Served) (message : MessageView) (c :
   command_answered (Err Stopped) left may took = absurd took
   command_answered (Err NotAwaited) left may took = absurd took
   command_answered (Err Future) left may took = absurd took
+  command_answered (Err NoCommands) left may took = absurd took
 
 -- ---- which command a message is
 

@@ -8,7 +8,7 @@ use Rattle.once_store.specs.declared.error.TakeError.{TakeError}
 use Rattle.once_store.specs.declared.error.TakeError.TheVariants as take
 use Rattle.once_store.specs.Taking.{FitStore}
 use Rattle.reply_codes.specs.declared.refusal.Refusal.{Refusal}
-use Rattle.reply_codes.specs.declared.refusal.Refusal.TheVariants.{NoMemory, Message, Check, Lookup, Submit, NoReader, Stopped, NotAwaited, Future}
+use Rattle.reply_codes.specs.declared.refusal.Refusal.TheVariants.{NoMemory, Message, Check, Lookup, Submit, NoReader, Stopped, NotAwaited, Future, NoCommands}
 use Rattle.cli_once.specs.Memory.{Served, ack_of, after_command}
 
 -- The refusal that says why a store did not take a command.
@@ -44,3 +44,4 @@ MayAcknowledge old c (Err NoReader) new = ⊥
 MayAcknowledge old c (Err Stopped) new = ⊥
 MayAcknowledge old c (Err NotAwaited) new = ⊥
 MayAcknowledge old c (Err Future) new = ⊥
+MayAcknowledge old c (Err NoCommands) new = ⊥
