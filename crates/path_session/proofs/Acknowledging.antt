@@ -15,14 +15,16 @@ use Rattle.seg_lookup.specs.Query.{QueryView}
 use Rattle.seg_lookup.specs.Classification.{query_of}
 use Rattle.store_layout.specs.Opening.{StoreValue}
 use Rattle.command_log.specs.declared.rule.Claim.{Claim}
+use Rattle.session_core.specs.declared.list_request.ListRequest.{ListRequest}
 use Rattle.session_core.specs.declared.message.Message.TheVariants.{Register, Lookup, Purge, Remove}
+use Rattle.session_core.specs.declared.message.Message.TheVariants as message
 use Rattle.session_core.specs.declared.service.Ack.{Ack}
 use Rattle.session_core.specs.Frames.{MessageView}
 use Rattle.session_core.specs.Reply.{ReplyView, Registered, Purged, Removed, Refused}
 use Rattle.session_core.specs.Service.{Exchange, AreAnswered}
 use Rattle.reply_codes.specs.Codes.{memory_code, stopped_code, not_awaited_code, seg_code, check_code, lookup_code, submit_code}
 use Rattle.path_session.specs.Serving.{Serving, at_moment, with_left}
-use Rattle.path_session.specs.Answered.{IsRefusedWithCode, AnswersCommand, AnswersChecked, AnswersRegistration, AnswersRemoval, LooksUp, AnswersQuery, AnswersLookup, RegistrationLacksMemory, IsAnswered, HubAnswers}
+use Rattle.path_session.specs.Answered.{IsRefusedWithCode, AnswersCommand, AnswersChecked, AnswersRegistration, AnswersRemoval, LooksUp, AnswersQuery, AnswersLookup, ShowsPage, AnswersList, RegistrationLacksMemory, IsAnswered, HubAnswers}
 use Rattle.path_session.specs.Acknowledged.{ack_in, IsReadAs, Acknowledges, FirstIsClaimed, AreClaimed}
 
 module _ (opening : StoreValue (List RowView)) where
@@ -80,11 +82,21 @@ module _ (opening : StoreValue (List RowView)) (refused : Command → Bool) wher
   lookup_keeps body old (Ok ends) reply new a = query_keeps body old (query_of old.roster ends.0 ends.1) reply new a
   lookup_keeps body old (Err e) reply new a = refusal_keeps (seg_code e) old (Lookup body) reply new a
 
+  page_keeps : (request : ListRequest) (old : Serving) (query : QueryView) (after : Option (List ℕ)) (reply : ReplyView) (new : Serving) → ShowsPage opening old query after reply new → Keeps opening old.acknowledged (message.List request) (ack_in reply) new.acknowledged
+  page_keeps request old query after reply new (inl a) = subst (λ (x : ReplyView). Keeps opening old.acknowledged (message.List request) (ack_in x) new.acknowledged) (sym a.replied) (ap (λ (s : Serving). s.acknowledged) a.looked.kept)
+  page_keeps request old query after reply new (inr (inl a)) = subst (λ (x : ReplyView). Keeps opening old.acknowledged (message.List request) (ack_in x) new.acknowledged) (sym a.refused) (ap (λ (s : Serving). s.acknowledged) a.looked.kept)
+  page_keeps request old query after reply new (inr (inr a)) = subst (λ (x : ReplyView). Keeps opening old.acknowledged (message.List request) (ack_in x) new.acknowledged) (sym a.refused) (ap (λ (s : Serving). s.acknowledged) a.kept)
+
+  list_keeps : (request : ListRequest) (old : Serving) (read : Result SegType SegError) (reply : ReplyView) (new : Serving) → AnswersList opening old request read reply new → Keeps opening old.acknowledged (message.List request) (ack_in reply) new.acknowledged
+  list_keeps request old (Ok kind) reply new a = page_keeps request (at_moment old new.moment) (record { kind = kind; start = request.start; end = request.end }) request.after reply new a
+  list_keeps request old (Err e) reply new a = refusal_keeps (seg_code e) old (message.List request) reply new a
+
   memory_keeps : (old : Serving) (message : MessageView) (reply : ReplyView) (new : Serving) → RegistrationLacksMemory old message reply new → Keeps opening old.acknowledged message (ack_in reply) new.acknowledged
   memory_keeps old (Register body) reply new a = refusal_keeps memory_code old (Register body) reply new a.0
   memory_keeps old (Lookup body) reply new a = absurd a
   memory_keeps old (Purge moment) reply new a = absurd a
   memory_keeps old (Remove number id) reply new a = absurd a
+  memory_keeps old (message.List request) reply new a = absurd a
 
   -- one message
   pub answer_keeps : (old : Serving) (message : MessageView) (reply : ReplyView) (new : Serving) → HubAnswers opening refused old message reply new → Keeps opening old.acknowledged message (ack_in reply) new.acknowledged
@@ -94,6 +106,7 @@ module _ (opening : StoreValue (List RowView)) (refused : Command → Bool) wher
   answer_keeps old (Lookup body) reply new (inr a) = lookup_keeps body old (request_decoding body) reply new a
   answer_keeps old (Purge moment) reply new (inr a) = command_keeps (λ ack. Purged ack) (λ _. refl) (Purge moment) old (command.Purge moment) reply new refl a
   answer_keeps old (Remove number id) reply new (inr a) = removal_keeps number id old (type_of number) refl reply new a
+  answer_keeps old (message.List request) reply new (inr a) = list_keeps request old (type_of request.kind) reply new a
 
 -- of a service of whose answers each keeps the claim of its acknowledgement
 module _ {S : Type 0} (opening : StoreValue (List RowView)) (answers : S → MessageView → ReplyView → S → Type 0) (claims_of : S → List Claim)

@@ -14,6 +14,7 @@ use Rattle.store_layout.specs.Opening.{StoreValue}
 use Rattle.session_core.specs.declared.command_kind.CommandKind.{CommandKind}
 use Rattle.session_core.specs.declared.command_kind.CommandKind.TheVariants as kind
 use Rattle.session_core.specs.declared.message.Message.TheVariants.{Register, Lookup, Purge, Remove}
+use Rattle.session_core.specs.declared.message.Message.TheVariants as message
 use Rattle.session_core.specs.declared.service.Ack.{Ack}
 use Rattle.session_core.specs.declared.service.Code.{Code}
 use Rattle.session_core.specs.Commands.{command_kind, reply_to_kind}
@@ -47,6 +48,7 @@ command_answered opening refused taken old c (Err (refusal.Lookup e)) new took =
 command_answered opening refused taken old c (Err refusal.NoReader) new took = absurd took
 command_answered opening refused taken old c (Err refusal.NotAwaited) new took = inr (inr (inr (record { gone = took.gone; replied = (refl, took.same) })))
 command_answered opening refused taken old c (Err refusal.Future) new took = absurd took
+command_answered opening refused taken old c (Err refusal.NoCommands) new took = absurd took
 
 -- a wait that ended without a receipt is answered by its refusal
 pub wait_ended : (opening : StoreValue (List RowView)) (refused : Command → Bool) (old : Serving) (c : Command) (new : Serving) (e : HubError)
@@ -69,6 +71,7 @@ moment_stays opening refused old c (Err (refusal.Lookup e)) new took = absurd to
 moment_stays opening refused old c (Err refusal.NoReader) new took = absurd took
 moment_stays opening refused old c (Err refusal.NotAwaited) new took = ap (λ (s : Serving). s.moment) took.same
 moment_stays opening refused old c (Err refusal.Future) new took = absurd took
+moment_stays opening refused old c (Err refusal.NoCommands) new took = absurd took
 
 -- nor does the verifier change
 verdicts_kept : (opening : StoreValue (List RowView)) (refused : Command → Bool) (old : Serving) (c : Command) (result : Result Ack Refusal) (new : Serving) → IsCommandAnswered opening refused old c result new → new.verifies ≡ old.verifies
@@ -82,6 +85,7 @@ verdicts_kept opening refused old c (Err (refusal.Lookup e)) new took = absurd t
 verdicts_kept opening refused old c (Err refusal.NoReader) new took = absurd took
 verdicts_kept opening refused old c (Err refusal.NotAwaited) new took = ap (λ (s : Serving). s.verifies) took.same
 verdicts_kept opening refused old c (Err refusal.Future) new took = absurd took
+verdicts_kept opening refused old c (Err refusal.NoCommands) new took = absurd took
 
 -- a registration may be refused for memory
 is_memory : (e : SegError) → (e ≡ seg.NoMemory) ⊎ (e ≢ seg.NoMemory)
@@ -151,6 +155,7 @@ module _ (opening : StoreValue (List RowView)) (refused : Command → Bool) (old
   checked_refused body rows moment refusal.NoReader is known = absurd known
   checked_refused body rows moment refusal.NotAwaited is known = absurd known
   checked_refused body rows moment refusal.Future is known = absurd known
+  checked_refused body rows moment refusal.NoCommands is known = absurd known
 
   unread_message : (body : List ℕ) (e : SegError) → IsForUnread body (Err (refusal.Message e)) → (e ≡ seg.NoMemory) ⊎ (e ≢ seg.NoMemory) → HasRefused (λ ack. Registered ack) (Register body) (refusal.Message e) old
   unfolding IsAnswered
@@ -168,6 +173,7 @@ module _ (opening : StoreValue (List RowView)) (refused : Command → Bool) (old
   unread_refused body refusal.NoReader known = absurd known
   unread_refused body refusal.NotAwaited known = absurd known
   unread_refused body refusal.Future known = absurd known
+  unread_refused body refusal.NoCommands known = absurd known
 
   purge_refused : (until : ℕ) (refusal : Refusal) → IsForPurge refused until (Err refusal) → HasRefused (λ ack. Purged ack) (Purge until) refusal old
   unfolding IsAnswered
@@ -180,6 +186,7 @@ module _ (opening : StoreValue (List RowView)) (refused : Command → Bool) (old
   purge_refused until refusal.NoReader known = absurd known
   purge_refused until refusal.NotAwaited known = absurd known
   purge_refused until refusal.Future known = absurd known
+  purge_refused until refusal.NoCommands known = absurd known
 
   -- the type of a removal was read
   read_so : (number : ℕ) (id : List ℕ) (read : Result SegType SegError) (reply : ReplyView) → type_of number ≡ read → AnswersRemoval opening refused old id read reply old → HubAnswers opening refused old (Remove number id) reply old
@@ -197,6 +204,7 @@ module _ (opening : StoreValue (List RowView)) (refused : Command → Bool) (old
   removal_refused number id refusal.NoReader known = absurd known
   removal_refused number id refusal.NotAwaited known = absurd known
   removal_refused number id refusal.Future known = absurd known
+  removal_refused number id refusal.NoCommands known = absurd known
 
   -- ---- messages that were taken
 
@@ -236,6 +244,7 @@ module _ (opening : StoreValue (List RowView)) (refused : Command → Bool) (old
   settled under_way (Register body) result new known answered kind.Purge is = absurd (cc)
   settled under_way (Register body) result new known answered kind.Remove is = absurd (cc)
   settled under_way (Lookup body) result new known answered k is = absurd known
+  settled under_way (message.List request) result new known answered k is = absurd known
   settled under_way (Purge until) result new known answered kind.Purge is =
       purge_settled until under_way.handed result new known.1 (subst (λ (m : Option ℕ). AnswersTaken opening refused (after_check old m) under_way.handed result new) known.0 answered)
   settled under_way (Purge until) result new known answered kind.Register is = absurd (cc)

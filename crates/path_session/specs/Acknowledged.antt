@@ -8,6 +8,7 @@ use Rattle.path_db.specs.Database.{RowView}
 use Rattle.store_layout.specs.Opening.{StoreValue}
 use Rattle.command_log.specs.declared.rule.Claim.{Claim}
 use Rattle.session_core.specs.declared.message.Message.TheVariants.{Register, Lookup, Purge, Remove}
+use Rattle.session_core.specs.declared.message.Message.TheVariants as message
 use Rattle.session_core.specs.declared.service.Ack.{Ack}
 use Rattle.session_core.specs.Frames.{MessageView}
 use Rattle.session_core.specs.Reply as reply
@@ -20,6 +21,7 @@ ack_in (reply.Registered ack) = Some ack
 ack_in (reply.Found kind segments) = None
 ack_in (reply.Purged ack) = Some ack
 ack_in (reply.Removed ack) = Some ack
+ack_in (reply.Listed more kind segments) = None
 ack_in (reply.Refused code) = None
 
 -- A message is read as a registration of these segments.
@@ -40,6 +42,7 @@ IsReadAs (Register body) c = IsRegistrationOf body c
 IsReadAs (Lookup body) c = ⊥
 IsReadAs (Purge moment) c = c ≡ command.Purge moment
 IsReadAs (Remove number id) c = IsRemovalOf number id c
+IsReadAs (message.List request) c = ⊥
 
 -- At a hub that opened with this value.
 module _ (opening : StoreValue (List RowView)) where

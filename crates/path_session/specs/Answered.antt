@@ -15,15 +15,18 @@ use Rattle.seg_lookup.specs.declared.error.LookupError.{LookupError}
 use Rattle.seg_lookup.specs.Query.{QueryView}
 use Rattle.seg_lookup.specs.Classification.{query_of}
 use Rattle.seg_lookup.specs.Answer.{answer_to}
+use Rattle.seg_lookup.specs.Page.{answer_after, has_more}
 use Rattle.store_layout.specs.Opening.{StoreValue}
 use Rattle.group_core.specs.declared.submit_error.SubmitError.{SubmitError}
 use Rattle.logged_state.specs.ReceiptView.{ReceiptView}
 use Rattle.hub_readers.specs.Shown.{shown_after}
 use Rattle.hub_readers.specs.Sight.{place_after}
+use Rattle.session_core.specs.declared.list_request.ListRequest.{ListRequest}
 use Rattle.session_core.specs.declared.message.Message.TheVariants.{Register, Lookup, Purge, Remove}
+use Rattle.session_core.specs.declared.message.Message.TheVariants as message
 use Rattle.session_core.specs.declared.service.Ack.{Ack}
 use Rattle.session_core.specs.Frames.{MessageView}
-use Rattle.session_core.specs.Reply.{ReplyView, Registered, Found, Purged, Removed, Refused}
+use Rattle.session_core.specs.Reply.{ReplyView, Registered, Found, Purged, Removed, Listed, Refused}
 use Rattle.reply_codes.specs.Codes.{memory_code, reader_code, stopped_code, not_awaited_code, seg_code, check_code, lookup_code, submit_code}
 use Rattle.path_session.specs.Serving.{Serving, at_moment, with_left}
 
@@ -157,6 +160,41 @@ module _ (opening : StoreValue (List RowView)) where
   AnswersLookup old (Ok ends) reply new = AnswersQuery old (query_of old.roster ends.0 ends.1) reply new
   AnswersLookup old (Err e) reply new = IsRefusedWithCode (seg_code e) old reply new
 
+-- ---- lists
+
+module _ (opening : StoreValue (List RowView)) where
+  -- The page after an id, or the first one, that a query shows at a moment, of what a hub that opened
+  -- with this value shows after these groups.
+  abbrev pub page_of : List (List Command) → QueryView → Option (List ℕ) → ℕ → List RowView
+  page_of groups query after moment = answer_after (shown_after opening groups).db query after moment
+
+  -- Whether further rows follow that page.
+  abbrev pub has_more_of : List (List Command) → QueryView → Option (List ℕ) → ℕ → Bool
+  has_more_of groups query after moment = has_more (shown_after opening groups).db query after moment
+
+  -- The reply has the page that the query shows, of what the reader was shown, and whether further
+  -- segments follow.
+  pub record RepliesWithPage (old : Serving) (query : QueryView) (after : Option (List ℕ)) (reply : ReplyView) (new : Serving) : Type 0 where
+    pub looked : HasLooked opening old new
+    pub replied : reply ≡ Listed (has_more_of new.groups query after new.moment) query.kind (segments_of (page_of new.groups query after new.moment))
+
+  -- The page was refused memory.
+  pub record LacksPageMemory (old : Serving) (query : QueryView) (after : Option (List ℕ)) (reply : ReplyView) (new : Serving) : Type 0 where
+    pub looked : HasLooked opening old new
+    pub some : 1 ≤ length (page_of new.groups query after new.moment)
+    pub refused : reply ≡ Refused memory_code
+
+  -- A query is answered with a page, or refused for memory or for a reader.
+  abbrev pub ShowsPage : Serving → QueryView → Option (List ℕ) → ReplyView → Serving → Type 0
+  ShowsPage old query after reply new = RepliesWithPage old query after reply new ⊎ (LacksPageMemory old query after reply new ⊎ LacksReader old reply new)
+
+  -- The clock is asked for a list whose type was read, and the list is answered at the moment that
+  -- the clock gave.
+  abbrev pub AnswersList : Serving → ListRequest → Result SegType SegError → ReplyView → Serving → Type 0
+  AnswersList old request (Ok kind) reply new =
+      ShowsPage (at_moment old new.moment) (record { kind = kind; start = request.start; end = request.end }) request.after reply new
+  AnswersList old request (Err e) reply new = IsRefusedWithCode (seg_code e) old reply new
+
 -- ---- messages
 
 -- Memory may be refused where a registration is read, once its outline was read.
@@ -165,6 +203,7 @@ RegistrationLacksMemory old (Register body) reply new = IsRefusedWithCode memory
 RegistrationLacksMemory old (Lookup body) reply new = ⊥
 RegistrationLacksMemory old (Purge moment) reply new = ⊥
 RegistrationLacksMemory old (Remove kind id) reply new = ⊥
+RegistrationLacksMemory old (message.List request) reply new = ⊥
 
 -- At a hub that opened with this value, and of whose commands it is known which ones were refused.
 module _ (opening : StoreValue (List RowView)) (refused : Command → Bool) where
@@ -175,6 +214,7 @@ module _ (opening : StoreValue (List RowView)) (refused : Command → Bool) wher
   IsAnswered old (Lookup body) reply new = AnswersLookup opening old (request_decoding body) reply new
   IsAnswered old (Purge moment) reply new = AnswersCommand opening refused Purged old (command.Purge moment) reply new
   IsAnswered old (Remove kind id) reply new = AnswersRemoval opening refused old id (type_of kind) reply new
+  IsAnswered old (message.List request) reply new = AnswersList opening old request (type_of request.kind) reply new
 
   -- What a service over the hub may answer to a message, and what the service is then.
   abbrev pub HubAnswers : Serving → MessageView → ReplyView → Serving → Type 0

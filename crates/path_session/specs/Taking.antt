@@ -5,7 +5,7 @@ use Rattle.path_db.specs.declared.command.Command.{Command}
 use Rattle.store_layout.specs.Opening.{StoreValue}
 use Rattle.session_core.specs.declared.service.Ack.{Ack}
 use Rattle.reply_codes.specs.declared.refusal.Refusal.{Refusal}
-use Rattle.reply_codes.specs.declared.refusal.Refusal.TheVariants.{NoMemory, Message, Check, Lookup, Submit, NoReader, Stopped, NotAwaited, Future}
+use Rattle.reply_codes.specs.declared.refusal.Refusal.TheVariants.{NoMemory, Message, Check, Lookup, Submit, NoReader, Stopped, NotAwaited, Future, NoCommands}
 use Rattle.path_session.specs.Serving.{Serving, with_left}
 use Rattle.path_session.specs.Answered.{AcknowledgesCommit}
 
@@ -28,6 +28,7 @@ module _ (refused : Command → Bool) where
   RefusesTaking c NoReader = ⊥
   RefusesTaking c NotAwaited = ⊥
   RefusesTaking c Future = ⊥
+  RefusesTaking c NoCommands = ⊥
 
 -- The peer had left, and the wait for a commit was given up. Nothing else changed.
 pub record GivesUpWaiting (old new : Serving) : Type 0 where
@@ -48,3 +49,4 @@ module _ (opening : StoreValue (List RowView)) (refused : Command → Bool) wher
   IsCommandAnswered old c (Err (Lookup e)) new = ⊥
   IsCommandAnswered old c (Err NoReader) new = ⊥
   IsCommandAnswered old c (Err Future) new = ⊥
+  IsCommandAnswered old c (Err NoCommands) new = ⊥

@@ -12,12 +12,13 @@ use Rattle.store_layout.specs.Opening.{StoreValue}
 use Rattle.session_core.specs.declared.command_kind.CommandKind.{CommandKind}
 use Rattle.session_core.specs.declared.command_kind.CommandKind.TheVariants as kind
 use Rattle.session_core.specs.declared.message.Message.TheVariants.{Register, Lookup, Purge, Remove}
+use Rattle.session_core.specs.declared.message.Message.TheVariants as message
 use Rattle.session_core.specs.declared.service.Ack.{Ack}
 use Rattle.session_core.specs.Frames.{MessageView}
 use Rattle.session_core.specs.Reply as reply
 use Rattle.session_core.specs.Reply.{ReplyView}
 use Rattle.reply_codes.specs.declared.refusal.Refusal.{Refusal}
-use Rattle.reply_codes.specs.declared.refusal.Refusal.TheVariants.{NoMemory, Message, Check, Lookup as NoLookup, Submit, NoReader, Stopped, NotAwaited, Future}
+use Rattle.reply_codes.specs.declared.refusal.Refusal.TheVariants.{NoMemory, Message, Check, Lookup as NoLookup, Submit, NoReader, Stopped, NotAwaited, Future, NoCommands}
 use Rattle.path_session.specs.declared.under_way.HubUnderWay.{HubUnderWay}
 use Rattle.path_session.specs.Serving.{Serving, at_moment}
 use Rattle.path_session.specs.Taking.{IsCommandAnswered}
@@ -47,6 +48,7 @@ IsForUnread body (Err (NoLookup e)) = ⊥
 IsForUnread body (Err NoReader) = ⊥
 IsForUnread body (Err NotAwaited) = ⊥
 IsForUnread body (Err Future) = ⊥
+IsForUnread body (Err NoCommands) = ⊥
 
 -- Of the commands of the hub it is known which ones were refused.
 module _ (refused : Command → Bool) where
@@ -63,6 +65,7 @@ module _ (refused : Command → Bool) where
   IsForRows verifies rows moment (Err NoReader) = ⊥
   IsForRows verifies rows moment (Err NotAwaited) = ⊥
   IsForRows verifies rows moment (Err Future) = ⊥
+  IsForRows verifies rows moment (Err NoCommands) = ⊥
 
   -- A registration was read as these rows, which were checked.
   pub record IsForChecked (verifies : Verdicts) (body : List ℕ) (moment : ℕ) (handed : Result Command Refusal) : Type 0 where
@@ -87,6 +90,7 @@ module _ (refused : Command → Bool) where
   IsForPurge until (Err NoReader) = ⊥
   IsForPurge until (Err NotAwaited) = ⊥
   IsForPurge until (Err Future) = ⊥
+  IsForPurge until (Err NoCommands) = ⊥
 
   -- The type of a removal was read. This is its command, or the hub refused it; or the type was not
   -- read.
@@ -101,6 +105,7 @@ module _ (refused : Command → Bool) where
   IsForRemoval number id (Err NoReader) = ⊥
   IsForRemoval number id (Err NotAwaited) = ⊥
   IsForRemoval number id (Err Future) = ⊥
+  IsForRemoval number id (Err NoCommands) = ⊥
 
   -- By these verdicts on signatures, this is under way for the message.
   abbrev pub IsFor : {N : Type 0} → Verdicts → HubUnderWay N → MessageView → Type 0
@@ -108,6 +113,7 @@ module _ (refused : Command → Bool) where
   IsFor verifies under_way (Lookup body) = ⊥
   IsFor verifies under_way (Purge until) = (under_way.moment ≡ None) × IsForPurge until under_way.handed
   IsFor verifies under_way (Remove number id) = (under_way.moment ≡ None) × IsForRemoval number id under_way.handed
+  IsFor verifies under_way (message.List request) = ⊥
 
 -- ---- what is answered
 

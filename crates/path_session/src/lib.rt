@@ -1,9 +1,9 @@
 //! A session's service over a hub.
 //!
 //! To the layer above, `HubService` answers each message by the first refusal in its order, or else
-//! by the hub: a lookup by what is published, at the moment that the service's clock gave, and a
-//! command by the receipt that the service then keeps. A command can be taken ahead of its answer.
-//! The crate exports `session_core`, whose `serve` runs a session.
+//! by the hub: a lookup or a list by what is published, at the moment that the service's clock gave,
+//! and a command by the receipt that the service then keeps. A command can be taken ahead of its
+//! answer. The crate exports `session_core`, whose `serve` runs a session.
 #![tactic(auto)]
 
 mod refused;
@@ -13,8 +13,8 @@ mod under_way;
 pub use service::HubService;
 pub use session_clock::{Now, SystemNow};
 pub use session_core::{
-    Ack, Code, CommandKind, Fed, Form, FrameError, Framer, MOST_AHEAD, MOST_LENGTH, MOST_PIECE,
-    MOST_REPLY, MOST_SEGMENTS, Message, Outcome, Reply, Service, Source, laws, read_all, serve,
-    serve_in_lines,
+    Ack, Code, CommandKind, Fed, Form, FrameError, Framer, ListRequest, Listing, MOST_AHEAD,
+    MOST_LENGTH, MOST_PIECE, MOST_REPLY, MOST_SEGMENTS, Message, Outcome, Reply, Service, Source,
+    laws, read_all, serve, serve_in_lines,
 };
 pub use under_way::HubUnderWay;

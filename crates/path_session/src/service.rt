@@ -3,11 +3,11 @@
 ghost use Rattle.std.specs.Prelude.{◌≡◌, ◌≤◌, length, IfOk, IfErr, IfSome, IsSome, OnOk};
 ghost use Rattle.std.specs.List.{AllByRecursion};
 ghost use Rattle.seg_core.specs.Encoding.{IsSegment};
-ghost use Rattle.session_core.specs.declared.message.Message.TheVariants.{Lookup};
+ghost use Rattle.session_core.specs.declared.message.Message.TheVariants.{Lookup, List};
 ghost use Rattle.session_core.specs.declared.service.TheConstants.{MOST_SEGMENTS};
 ghost use Rattle.session_core.specs.Commands.{command_kind};
 ghost use Rattle.session_core.specs.Front.{message_at};
-ghost use Rattle.reply_codes.specs.Replies.{reply_to_query};
+ghost use Rattle.reply_codes.specs.Replies.{reply_to_query, reply_to_page};
 ghost use Rattle.path_session.specs.Serving.{beginning};
 ghost use Rattle.path_session.specs.Answered.{HubAnswers};
 ghost use Rattle.path_session.specs.Taking.{IsCommandAnswered, RefusesTaking};
@@ -17,15 +17,16 @@ ghost use Rattle.path_session.specs.Kept.{serving};
 use crate::refused::{coded, reader_refusal_of, refusal_of};
 use crate::under_way::HubUnderWay;
 use hub_readers::{HubReader, HubReceipt};
+use isd_as::IsdAs;
 use path_db::{Command, Registration};
 use path_hub::{Hub, HubClaim, HubName, LoggedList, Waiter};
 use reply_codes::Refusal;
 use sector_dev::Device;
 use seg_check::{Verifier, check_all};
 use seg_core::{SegType, Segment, read_registration, read_request};
-use seg_lookup::{Roster, classify};
+use seg_lookup::{Query, Roster, classify};
 use session_clock::Now;
-use session_core::{Ack, Code, Message, Service};
+use session_core::{Ack, Code, ListRequest, Listing, Message, Service};
 use std::alloc::Global;
 use std::sync::Wait;
 use std::time::Clock;
@@ -35,8 +36,8 @@ use std::time::Clock;
 /// claims of the commands that were acknowledged, too.
 ///
 /// The clock is asked once for each registration that was read, when the service takes it, and once
-/// for each lookup that was classified. Signatures are checked before the hub is called, so under
-/// no lock. Lookups wait for nobody. A command's commit is awaited until the peer has left.
+/// for each lookup that was classified and for each list of a type that there is. Signatures are checked before the hub is called, so under
+/// no lock. Lookups and lists wait for nobody. A command's commit is awaited until the peer has left.
 pub struct HubService<'a, D: Device, N: HubName, R: Wait + Clock, V: Verifier, C: Now, P: Waiter> {
     hub: &'a Hub<D, N, R>,
     reader: HubReader<N>,
@@ -254,6 +255,34 @@ impl<'a, D: Device, N: HubName, R: Wait + Clock, V: Verifier, C: Now, P: Waiter>
         let found = self.reader.lookup(&query, now).map_err(reader_refusal_of)?;
         Ok((query.kind, found))
     }
+
+    /// The page that a list asks for, of segments of one type.
+    #[tactic(auto, unfolding(crate::specs::Answered::IsAnswered))]
+    fn find_page(&mut self, request: &ListRequest) -> Result<Listing, Refusal>
+        ensures answers { HubAnswers N.opening N.refused (serving V.verifies P.has_left self.old)
+            (List request.now) (reply_to_page result) (serving V.verifies P.has_left self.new) }
+        ensures few { IfOk result (λ listing. length listing.segments.items ≤ MOST_SEGMENTS) }
+        ensures whole { IfOk result (λ listing. AllByRecursion IsSegment listing.segments.items) }
+        ensures clock { OnOk result (self.new.moment ≡ C.moment self.new.clock) }
+    {
+        let kind = SegType::from_number(u64::from(request.kind))?;
+        let query = Query {
+            kind,
+            start: IsdAs::from_u64(request.start),
+            end: IsdAs::from_u64(request.end),
+        };
+        let now = self.clock.now();
+        self.moment = now;
+        let page = self
+            .reader
+            .page(&query, request.after.as_ref(), now)
+            .map_err(reader_refusal_of)?;
+        Ok(Listing {
+            kind,
+            segments: page.segments,
+            more: page.more,
+        })
+    }
 }
 
 impl<D: Device, N: HubName, R: Wait + Clock, V: Verifier, C: Now, P: Waiter> Service
@@ -282,6 +311,10 @@ impl<D: Device, N: HubName, R: Wait + Clock, V: Verifier, C: Now, P: Waiter> Ser
         Ok(self.find(message)?)
     }
 
+    fn list(&mut self, _alloc: Global, request: &ListRequest) -> Result<Listing, Code> {
+        Ok(self.find_page(request)?)
+    }
+
     fn purge(&mut self, moment: u64) -> Result<Ack, Code> {
         let under_way = self.take_purge(moment);
         self.settle(under_way)
@@ -301,7 +334,7 @@ impl<D: Device, N: HubName, R: Wait + Clock, V: Verifier, C: Now, P: Waiter> Ser
     {
         match message {
             Message::Register(body) => Some(self.take_registration(alloc, body)),
-            Message::Lookup(_) => None,
+            Message::Lookup(_) | Message::List(_) => None,
             Message::Purge(moment) => Some(self.take_purge(moment)),
             Message::Remove(kind, id) => Some(self.take_removal(kind, &id)),
         }
