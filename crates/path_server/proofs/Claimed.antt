@@ -25,6 +25,6 @@ limited_keeps opening refused old message reply new (inr a) =
     subst (λ (r : ReplyView). Keeps opening old.inner.acknowledged message (ack_in r) new.inner.acknowledged) (sym a.replied) same
 
 -- how a limited session begins
-pub begins_so : (future limit : Option ℕ) (shares shared : Bool) (inner service : Serving) → future ≡ limit → shares ≡ shared → inner ≡ service
-    → limited_beginning future shares inner ≡ limited_beginning limit shared service
-begins_so future limit shares shared inner service bound room is = λ i. record { future = bound i; shares = room i; moment = 0; inner = is i }
+pub begins_so : (future limit : Option ℕ) (shares shared commands taken : Bool) (inner service : Serving) → future ≡ limit → shares ≡ shared → commands ≡ taken → inner ≡ service
+    → limited_beginning future shares commands inner ≡ limited_beginning limit shared taken service
+begins_so future limit shares shared commands taken inner service bound room takes is = λ i. record { future = bound i; shares = room i; commands = takes i; moment = 0; inner = is i }

@@ -15,13 +15,13 @@ use Rattle.session_limits.specs.Limits.{LimitedView, LimitedAnswers}
 use Rattle.paced_stream.specs.Connection.{IsConnectionServed}
 
 -- A limited service over a hub that has answered no message, by the bound of its times, and whether
--- its commands need room.
-abbrev pub limited_beginning : Option ℕ → Bool → Serving → LimitedView Serving
-limited_beginning future shares serving = record { future = future; shares = shares; moment = 0; inner = serving }
+-- its commands need room and are taken.
+abbrev pub limited_beginning : Option ℕ → Bool → Bool → Serving → LimitedView Serving
+limited_beginning future shares commands serving = record { future = future; shares = shares; commands = commands; moment = 0; inner = serving }
 
 -- A limited service over a hub served a session over a connection. The hub opened with this value,
 -- and of its commands it is known which ones were refused.
-pub record IsHubServed {T : Type 0} (opening : StoreValue (List RowView)) (refused : Command → Bool) (given taken : T → List ℕ) (is_at_end : T → Type 0) (future : Option ℕ) (shares : Bool) (roster : RosterView) (verifies : Verdicts) (left : Bool)
+pub record IsHubServed {T : Type 0} (opening : StoreValue (List RowView)) (refused : Command → Bool) (given taken : T → List ℕ) (is_at_end : T → Type 0) (future : Option ℕ) (shares commands : Bool) (roster : RosterView) (verifies : Verdicts) (left : Bool)
     (input input_left output output_left : T) (result : Result ℕ FrameError) (claims : List Claim) : Type 0 where
   -- The reader by which the service began.
   pub reader : Sight
@@ -29,7 +29,7 @@ pub record IsHubServed {T : Type 0} (opening : StoreValue (List RowView)) (refus
   pub last : LimitedView Serving
   -- The messages that the connection gave, the replies to them, and the bytes that it took.
   pub connection : IsConnectionServed (LimitedAnswers (HubAnswers opening refused)) given taken is_at_end
-      (limited_beginning future shares (beginning roster verifies reader left)) last input input_left output output_left result
+      (limited_beginning future shares commands (beginning roster verifies reader left)) last input input_left output output_left result
   -- The claims are those of the acknowledgements among the replies: each is of its message's
   -- command, at its place.
   pub acknowledged : AreClaimed opening connection.served.exchanges claims

@@ -1,6 +1,6 @@
 //! The session of one peer of a server.
 
-ghost use Rattle.std.specs.Prelude.{IfSome, is_some};
+ghost use Rattle.std.specs.Prelude.{true, IfSome, is_some};
 ghost use Rattle.path_server.specs.Attending.{IsHubServed};
 
 use crate::ends::{Circumstances, cause_of};
@@ -62,7 +62,7 @@ impl<L: OpenListener<Stream = TcpStream> + Drop, V: Verifier, O: Reports> Server
         output: T,
     ) -> Option<(Ended<T>, LoggedList<N>)>
         ensures { IfSome result (λ served. IsHubServed N.opening N.refused T.given T.taken T.is_at_end
-            self.now.options.now.future (is_some self.now.rooms) self.now.options.now.cores (V.verifies self.now.verifier.now) (P.has_left peer)
+            self.now.options.now.future (is_some self.now.rooms) true self.now.options.now.cores (V.verifies self.now.verifier.now) (P.has_left peer)
             input served.0.input output served.0.output served.0.replies served.1) }
     {
         let reader = hub.reader().ok()?;

@@ -1,6 +1,6 @@
 //! A server's work with a hub: it attends to each connection in a thread of its own.
 
-ghost use Rattle.std.specs.Prelude.{◌≡◌, false, is_some};
+ghost use Rattle.std.specs.Prelude.{◌≡◌, true, false, is_some};
 
 use crate::door::Door;
 use crate::ends::Ends;
@@ -109,10 +109,12 @@ impl<'a, L: OpenListener<Stream = TcpStream> + Drop, V: Verifier, O: Reports> Se
     pub(crate) fn limits(&self) -> Limits<'_>
         ensures future { result.future ≡ self.now.options.now.future }
         ensures rooms { is_some result.rooms ≡ is_some self.now.rooms }
+        ensures commands { result.commands ≡ true }
     {
         Limits {
             future: self.options.future,
             rooms: self.rooms.as_ref(),
+            commands: true,
         }
     }
 
