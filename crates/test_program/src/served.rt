@@ -4,7 +4,7 @@ use crate::parts::{Before, NO_PEERS, Part, Peers};
 use test_support::digits::{LOOKUP, REGISTER_2096};
 
 /// A frame of no kind.
-const NO_KIND: &str = "0000000105";
+const NO_KIND: &str = "0000000106";
 
 /// Three purges.
 const PURGES: &str =

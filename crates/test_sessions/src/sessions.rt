@@ -5,5 +5,6 @@ mod ahead;
 mod commands;
 mod framers;
 mod laws;
+mod lists;
 mod same;
 mod worked;

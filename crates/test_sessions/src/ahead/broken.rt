@@ -69,7 +69,7 @@ const BREAKS: [Break; 12] = [
     Break { name: "an end in a message", rest: "000000bd010a", room: ENOUGH, ended: READ },
     Break { name: "an empty frame", rest: "00000000", room: ENOUGH,
         ended: Err(FrameError::Length) },
-    Break { name: "a frame of no kind", rest: "0000000105", room: ENOUGH,
+    Break { name: "a frame of no kind", rest: "0000000106", room: ENOUGH,
         ended: Err(FrameError::Kind) },
     Break { name: "no byte is written", rest: "", room: 0, ended: WRITE },
     Break { name: "one byte is written", rest: "", room: 1, ended: WRITE },

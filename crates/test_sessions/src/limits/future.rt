@@ -47,6 +47,7 @@ impl Talk for Session<'_> {
         let limits = Limits {
             future: self.bound,
             rooms: None,
+            commands: true,
         };
         replied(hub, self.alloc, limits, self.moment, Patient, self.frames)
     }
@@ -238,6 +239,7 @@ impl Talk for OneByOne {
         let limits = Limits {
             future: Some(BOUND),
             rooms: None,
+            commands: true,
         };
         let mut limited = Limited::new(service, Counts::after(MADE - 22), limits, rt);
         let answers = [

@@ -43,6 +43,7 @@ impl Waiter for Leaves {
 const NO_LIMITS: Limits<'static> = Limits {
     future: None,
     rooms: None,
+    commands: true,
 };
 
 /// A session whose peer leaves while a sync is held, one that looks up meanwhile, and one that comes

@@ -105,6 +105,7 @@ impl Talk for Two {
         let limits = Limits {
             future: None,
             rooms: Some(&rooms),
+            commands: true,
         };
         let frame = joined(rt, alloc, &[REGISTER]);
         let lookup = joined(rt, alloc, &[LOOKUP]);

@@ -68,10 +68,10 @@ const LAST_READS: [LastRead; 8] = [
     LastRead { frame: "00000000", fault: FrameError::Length, size: 4, reads: 7 },
     LastRead { frame: "00000000", fault: FrameError::Length, size: 5, reads: 5 },
     LastRead { frame: "00000000", fault: FrameError::Length, size: 100, reads: 1 },
-    LastRead { frame: "0000000105", fault: FrameError::Kind, size: 1, reads: 26 },
-    LastRead { frame: "0000000105", fault: FrameError::Kind, size: 4, reads: 7 },
-    LastRead { frame: "0000000105", fault: FrameError::Kind, size: 5, reads: 6 },
-    LastRead { frame: "0000000105", fault: FrameError::Kind, size: 100, reads: 1 },
+    LastRead { frame: "0000000106", fault: FrameError::Kind, size: 1, reads: 26 },
+    LastRead { frame: "0000000106", fault: FrameError::Kind, size: 4, reads: 7 },
+    LastRead { frame: "0000000106", fault: FrameError::Kind, size: 5, reads: 6 },
+    LastRead { frame: "0000000106", fault: FrameError::Kind, size: 100, reads: 1 },
 ];
 
 /// Asserts how much is read up to a fault, and that nothing is read after it.
@@ -231,7 +231,7 @@ fn held_until_flushed(rt: HostRuntime) {
     assert_flushed(&rt, alloc, "", Ok(2));
     assert_flushed(&rt, alloc, "00", Err(FrameError::Read));
     assert_flushed(&rt, alloc, "00000000", Err(FrameError::Length));
-    assert_flushed(&rt, alloc, "0000000105", Err(FrameError::Kind));
+    assert_flushed(&rt, alloc, "0000000106", Err(FrameError::Kind));
 }
 
 /// Asserts what is flushed and what is held where the flush of this number fails. Each frame comes

@@ -3,8 +3,8 @@
 use crate::sessions::same::assert_same;
 use seg_core::{SegType, Segment};
 use session_core::{
-    Ack, Code, CommandKind, FrameError, MOST_AHEAD, Message, Outcome, Service, serve,
-    serve_in_lines,
+    Ack, Code, CommandKind, FrameError, ListRequest, Listing, MOST_AHEAD, Message, Outcome,
+    Service, serve, serve_in_lines,
 };
 use std::alloc::{AllocError, Global};
 use std::io;
@@ -13,7 +13,8 @@ use std::process::Abort;
 use std::test::Fail;
 
 /// A service that takes commands ahead, and notes its calls: `h` for a command that is handed in,
-/// `s` for one that is settled, `c` for one that is answered in one call, and `l` for a lookup.
+/// `s` for one that is settled, `c` for one that is answered in one call, and `l` for a lookup or
+/// a list.
 #[derive(Drop)]
 struct Desk {
     place: u64,
@@ -85,6 +86,11 @@ impl Service for Desk {
         Err(Code(0x29))
     }
 
+    fn list(&mut self, _alloc: Global, _request: &ListRequest) -> Result<Listing, Code> {
+        self.note(b'l');
+        Err(Code(0x26))
+    }
+
     /// Refuses each removal.
     fn hand_in(&mut self, _alloc: Global, message: Message<&[u8]>) -> Option<Result<u32, Code>> {
         let _kind = CommandKind::of(&message)?;
@@ -138,7 +144,7 @@ const NOT_FOUND: [u8; 6] = *b"\0\0\0\x02\xff\x26";
 const NOT_REMOVED: [u8; 6] = *b"\0\0\0\x02\xff\x29";
 
 /// A frame of a kind that no message has.
-const FAULTY: [u8; 5] = *b"\0\0\0\x01\x05";
+const FAULTY: [u8; 5] = *b"\0\0\0\x01\x06";
 
 /// A purge up to this moment.
 fn purge(moment: u8) -> [u8; 13] {

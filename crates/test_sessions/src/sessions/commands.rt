@@ -2,7 +2,7 @@
 
 use crate::sessions::same::assert_same;
 use seg_core::{SegType, Segment};
-use session_core::{Ack, Code, FrameError, Message, Outcome, Service, serve};
+use session_core::{Ack, Code, FrameError, ListRequest, Listing, Message, Outcome, Service, serve};
 use std::alloc::{AllocError, Global};
 use std::io::Read;
 use std::process::Abort;
@@ -63,6 +63,10 @@ impl Service for Counter {
             return Err(Code(0x29));
         }
         Ok(self.ack(u32::from(id[31]), 0))
+    }
+
+    fn list(&mut self, _alloc: Global, _request: &ListRequest) -> Result<Listing, Code> {
+        Err(Code(0x26))
     }
 
     fn hand_in(&mut self, _alloc: Global, _message: Message<&[u8]>) -> Option<()> {

@@ -102,13 +102,13 @@ fn byte_by_byte(rt: HostRuntime) -> Result<(), Fail> {
 }
 
 /// Frames with a fault that their last byte shows, and no earlier byte.
-const FAULTS: [(&[u8], FrameError); 13] = [
+const FAULTS: [(&[u8], FrameError); 20] = [
     (b"\0\0\0\0", FrameError::Length),
     (b"\0\x02\0\x02", FrameError::Length),
     (b"\xff\xff\xff\xff", FrameError::Length),
     (b"\0\0\0\x01\0", FrameError::Kind),
-    (b"\0\0\0\x01\x05", FrameError::Kind),
-    (b"\0\0\0\x22\x05", FrameError::Kind),
+    (b"\0\0\0\x01\x06", FrameError::Kind),
+    (b"\0\0\0\x22\x06", FrameError::Kind),
     (b"\0\x02\0\x01\xff", FrameError::Kind),
     (b"\0\0\0\x01\x03", FrameError::Length),
     (b"\0\0\0\x08\x03", FrameError::Length),
@@ -116,6 +116,13 @@ const FAULTS: [(&[u8], FrameError); 13] = [
     (b"\0\0\0\x21\x04", FrameError::Length),
     (b"\0\0\0\x23\x04", FrameError::Length),
     (b"\0\x02\0\x01\x04", FrameError::Length),
+    (b"\0\0\0\x01\x05", FrameError::Length),
+    (b"\0\0\0\x11\x05", FrameError::Length),
+    (b"\0\0\0\x13\x05", FrameError::Length),
+    (b"\0\0\0\x22\x05", FrameError::Length),
+    (b"\0\0\0\x31\x05", FrameError::Length),
+    (b"\0\0\0\x33\x05", FrameError::Length),
+    (b"\0\x02\0\x01\x05", FrameError::Length),
 ];
 
 /// Takes a frame byte by byte and two more pieces, and checks where the fault is reported, and that

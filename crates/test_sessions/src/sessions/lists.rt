@@ -1,0 +1,191 @@
+//! Frames of lists, and of the replies to them.
+
+use crate::sessions::same::assert_same;
+use seg_core::{SegType, Segment, read_segment};
+use session_core::{Ack, Code, FrameError, Framer, ListRequest, Listing, Message, Service, serve};
+use std::alloc::{AllocError, Global};
+use std::process::Abort;
+use std::test::Fail;
+use test_support::{ID, REGISTER, SEGMENT};
+
+/// Shows the worked segment to each list without an id, after which further segments follow, and no
+/// segment to the others.
+#[derive(Drop)]
+struct Shelf;
+
+impl Shelf {
+    /// The segments of a page.
+    fn segments(&self, alloc: Global, request: &ListRequest) -> Result<Vec<Segment>, Code> {
+        let mut segments = Vec::new(alloc);
+        if request.after.is_none() {
+            let segment = read_segment(alloc, &SEGMENT).map_err(|_| Code(0x01))?;
+            segments.push(segment).map_err(|_| Code(0x01))?;
+        }
+        Ok(segments)
+    }
+}
+
+impl Service for Shelf {
+    /// Nothing, as no message is taken ahead of its reply.
+    type UnderWay = ();
+
+    ghost State = { Unit {0} };
+
+    ghost state = { λ _. tt };
+
+    ghost answers = { λ _ _ _ _. Unit {0} };
+
+    ghost is_for = { λ _ _ _. ⊥ };
+
+    fn register(&mut self, _alloc: Global, _message: &[u8]) -> Result<Ack, Code> {
+        Err(Code(0x64))
+    }
+
+    fn lookup(&mut self, _alloc: Global, _message: &[u8]) -> Result<(SegType, Vec<Segment>), Code> {
+        Err(Code(0x26))
+    }
+
+    fn purge(&mut self, _moment: u64) -> Result<Ack, Code> {
+        Err(Code(0x64))
+    }
+
+    fn remove(&mut self, _kind: u8, _id: &[u8; 32]) -> Result<Ack, Code> {
+        Err(Code(0x64))
+    }
+
+    fn list(&mut self, alloc: Global, request: &ListRequest) -> Result<Listing, Code> {
+        let Ok(kind) = SegType::from_number(u64::from(request.kind)) else {
+            return Err(Code(0x29));
+        };
+        let segments = self.segments(alloc, request)?;
+        Ok(Listing {
+            kind,
+            segments,
+            more: request.after.is_none(),
+        })
+    }
+
+    fn hand_in(&mut self, _alloc: Global, _message: Message<&[u8]>) -> Option<()> {
+        None
+    }
+
+    /// Refuses, as nothing is ever under way.
+    fn settle(&mut self, _under_way: ()) -> Result<Ack, Code> {
+        Err(Code(0x2b))
+    }
+}
+
+/// A list of segments of this type from 1-ff00:0:110 to any AS of the ISD 2.
+const fn sides(kind: u8) -> ListRequest {
+    ListRequest {
+        kind,
+        start: 0x0001_ff00_0000_0110,
+        end: 0x0002_0000_0000_0000,
+        after: None,
+    }
+}
+
+/// The frame of that list, without its type.
+const SIDES: [u8; 16] = [
+    0x00, 0x01, 0xff, 0x00, 0x00, 0x00, 0x01, 0x10, // the start
+    0x00, 0x02, 0x00, 0x00, 0x00, 0x00, 0x00, 0x00, // the end
+];
+
+/// The frame of a list of this type, after an id if there is one.
+fn frame(alloc: Global, kind: u8, id: &[u8]) -> Result<Vec<u8>, AllocError> {
+    let len = if id.is_empty() { 0x12 } else { 0x32 };
+    let mut frame = Vec::from_slice(alloc, &[0, 0, 0, len, 0x05, kind])?;
+    frame.extend_from_slice(&SIDES)?;
+    frame.extend_from_slice(id)?;
+    Ok(frame)
+}
+
+/// Checks that bytes which come in two pieces are the frame of this list.
+fn assert_list(
+    rt: &impl Abort,
+    alloc: Global,
+    (front, rest): (&[u8], &[u8]),
+    wanted: ListRequest,
+) -> Result<(), Fail> {
+    let cut = front.len();
+    let mut framer = Framer::new(alloc);
+    let first = framer.feed(front)?;
+    let second = framer.feed(rest)?;
+    let (before, after) = (first.messages, second.messages);
+    let found = if before.is_empty() { after } else { before };
+    assert_same(
+        rt,
+        &found.as_slice(),
+        &[Message::List(wanted)].as_slice(),
+        &cut,
+    );
+    assert_same(rt, &(first.fault, second.fault), &(None, None), &cut);
+    Ok(())
+}
+
+// The two lengths of a list's frame give its numbers, however the frame is cut.
+#[test]
+fn frames_of_lists(rt: HostRuntime) -> Result<(), Fail> {
+    let alloc = rt.alloc();
+    for kind in [0, 1, 2, 3, 4, 255] {
+        let first = sides(kind);
+        let next = ListRequest {
+            after: Some(ID),
+            ..first
+        };
+        for (id, wanted) in [(&[][..], first), (&ID[..], next)] {
+            let bytes = frame(alloc, kind, id)?;
+            for cut in 0..=bytes.len() {
+                assert_list(&rt, alloc, bytes.as_slice().split_at(cut), wanted)?;
+            }
+        }
+    }
+    Ok(())
+}
+
+/// What a session of these bytes ends with, and what it writes.
+fn served(alloc: Global, input: &[u8]) -> (Result<u64, FrameError>, Vec<u8>) {
+    let mut output = Vec::new(alloc);
+    let mut reader = input;
+    let served = serve(alloc, &mut reader, &mut output, &mut Shelf, 9);
+    (served, output)
+}
+
+/// The reply with the worked segment: a length of 98, the kind, that more follows, and the response
+/// of 96 bytes, which is that of the worked registration.
+fn page(alloc: Global) -> Result<Vec<u8>, AllocError> {
+    let mut reply = Vec::from_slice(alloc, b"\0\0\0\x62\x85\x01")?;
+    reply.extend_from_slice(&REGISTER[5..])?;
+    Ok(reply)
+}
+
+// A page with a segment, a page without one, and the refusal of a type.
+#[test]
+fn replies_to_lists(rt: HostRuntime) -> Result<(), Fail> {
+    let alloc = rt.alloc();
+    let mut input = frame(alloc, 2, &[])?;
+    input.extend_from_slice(frame(alloc, 2, &ID)?.as_slice())?;
+    input.extend_from_slice(frame(alloc, 4, &[])?.as_slice())?;
+    let mut wanted = page(alloc)?;
+    wanted.extend_from_slice(b"\0\0\0\x02\x85\x00")?;
+    wanted.extend_from_slice(b"\0\0\0\x02\xff\x29")?;
+    let (served, output) = served(alloc, input.as_slice());
+    assert_same(&rt, &served, &Ok(3), &"three lists");
+    assert_same(&rt, &output, &wanted, &"three lists");
+    Ok(())
+}
+
+// A session whose input ends within the frame of a list has answered nothing.
+#[test]
+fn cut_lists(rt: HostRuntime) -> Result<(), Fail> {
+    let alloc = rt.alloc();
+    for id in [&[][..], &ID[..]] {
+        let bytes = frame(alloc, 2, id)?;
+        for cut in 1..bytes.len() {
+            let (served, output) = served(alloc, bytes.as_slice().split_at(cut).0);
+            assert_same(&rt, &served, &Err(FrameError::Read), &cut);
+            assert_same(&rt, &output.is_empty(), &true, &cut);
+        }
+    }
+    Ok(())
+}
