@@ -7,6 +7,7 @@
 #![tactic(auto)]
 
 mod future;
+pub mod laws;
 mod limit;
 mod limited;
 mod rooms;

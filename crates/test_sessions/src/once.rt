@@ -6,6 +6,7 @@ mod digits;
 mod frames;
 mod full_store;
 mod many_commands;
+mod pages;
 mod refused_memory;
 mod sessions;
 mod streams;

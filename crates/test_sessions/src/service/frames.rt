@@ -11,6 +11,20 @@ pub(crate) const INSERTED: &str = "000000198100000000000000000000000100000000000
 /// A response with no segments.
 pub(crate) const NONE_FOUND: &str = "0000000182";
 
+/// Lists all down segments, and the segments of a type that there isn't.
+pub(crate) const LIST: &str = "00000012050200000000000000000000000000000000";
+
+pub(crate) const LIST_NO_TYPE: &str = "00000012050400000000000000000000000000000000";
+
+/// What comes before the bytes of a segment in the reply to a lookup, and to a list after which no
+/// more follows.
+pub(crate) const FOUND_HEAD: &str = "0000006182";
+
+pub(crate) const LISTED_HEAD: &str = "000000628500";
+
+/// A page with no segments.
+pub(crate) const NONE_LISTED: &str = "000000028500";
+
 /// Registers no segments.
 pub(crate) const REGISTER_NONE: &str = "0000000101";
 

@@ -2,7 +2,8 @@
 
 use crate::service::clocks::Counts;
 use crate::service::frames::{
-    FOUND, INSERTED, LOOKUP, NONE_FOUND, PURGE, REGISTER, assert_replied, joined,
+    FOUND, FOUND_HEAD, INSERTED, LIST, LIST_NO_TYPE, LISTED_HEAD, LOOKUP, NONE_FOUND, NONE_LISTED,
+    PURGE, REGISTER, assert_replied, joined,
 };
 use crate::service::guests::{Talk, session, talked};
 use crate::service::stores::{cores, new_store};
@@ -15,29 +16,20 @@ use std::time::Clock;
 use test_support::EXPIRY;
 
 /// A session whose segment expires between two lookups. The clock gives a moment for the
-/// registration and for each lookup, and none for a purge, a removal, a registration that cannot be
-/// read, or a lookup that cannot be read or asks for nothing.
-const FRAMES: [&str; 8] = [
+/// registration, for each lookup and for each list, and none for a purge, a removal, a registration
+/// that cannot be read, a lookup that cannot be read or asks for nothing, or a list of no type.
+const FRAMES: [&str; 11] = [
     REGISTER,
     PURGE,
     "0000000301ffff",
     "0000000302ffff",
     "0000000102",
     "0000002204040000000000000000000000000000000000000000000000000000000000000000",
+    LIST_NO_TYPE,
     LOOKUP,
+    LIST,
     LOOKUP,
-];
-
-/// What is replied.
-const REPLIES: [&str; 8] = [
-    INSERTED,
-    "0000001983000000000000000100000000000000000000000000000000",
-    "00000002ff11",
-    "00000002ff11",
-    "00000002ff41",
-    "00000002ff29",
-    FOUND,
-    NONE_FOUND,
+    LIST,
 ];
 
 /// That session.
@@ -55,8 +47,8 @@ impl Talk for Expires {
         let roster = cores(rt, self.alloc);
         let frames = joined(rt, self.alloc, &FRAMES);
         let mut replies = Vec::new(self.alloc);
-        // The second lookup has the third moment.
-        let clock = Counts::after(EXPIRY - 3);
+        // The second lookup has the fourth moment.
+        let clock = Counts::after(EXPIRY - 4);
         session(
             hub,
             self.alloc,
@@ -73,5 +65,20 @@ impl Talk for Expires {
 fn row_expires_between_lookups(rt: HostRuntime) {
     let alloc = rt.alloc();
     let (_device, written) = talked(&rt, alloc, new_store(&rt, alloc), Expires { alloc });
-    assert_replied(&rt, alloc, written, &REPLIES);
+    let segment = FOUND.strip_prefix(FOUND_HEAD).unwrap_or("");
+    let replies = [
+        INSERTED,
+        "0000001983000000000000000100000000000000000000000000000000",
+        "00000002ff11",
+        "00000002ff11",
+        "00000002ff41",
+        "00000002ff29",
+        "00000002ff29",
+        FOUND,
+        LISTED_HEAD,
+        segment,
+        NONE_FOUND,
+        NONE_LISTED,
+    ];
+    assert_replied(&rt, alloc, written, &replies);
 }
