@@ -50,7 +50,7 @@ module _ {X : Type 0} (p : X → Bool) where
 -- ---- what holds of each element still does of those that are kept or taken
 
 module _ {X : Type 0} (P : X → Type 0) where
-  all_kept : (p : X → Bool) (xs : List X) → AllByRecursion P xs → AllByRecursion P (filter p xs)
+  pub all_kept : (p : X → Bool) (xs : List X) → AllByRecursion P xs → AllByRecursion P (filter p xs)
   all_kept p [] all = tt
   all_kept p (x ∷ xs) all = with_first (p x) x (filter p xs) all.0 (all_kept p xs all.1)
     where
@@ -58,7 +58,7 @@ module _ {X : Type 0} (P : X → Type 0) where
       with_first true x kept first rest = (first, rest)
       with_first false x kept first rest = rest
 
-  all_taken : (n : ℕ) (xs : List X) → AllByRecursion P xs → AllByRecursion P (take n xs)
+  pub all_taken : (n : ℕ) (xs : List X) → AllByRecursion P xs → AllByRecursion P (take n xs)
   all_taken zero xs all = tt
   all_taken (suc n) [] all = tt
   all_taken (suc n) (x ∷ xs) all = (all.0, all_taken n xs all.1)
@@ -66,7 +66,7 @@ module _ {X : Type 0} (P : X → Type 0) where
 abbrev AllAbove : RowView → List RowView → Type 0
 AllAbove row rows = AllByRecursion (λ later. key_order row later ≡ Less) rows
 
-kept_rise : (p : RowView → Bool) (rows : List RowView) → IsRising rows → IsRising (filter p rows)
+pub kept_rise : (p : RowView → Bool) (rows : List RowView) → IsRising rows → IsRising (filter p rows)
 kept_rise p [] rising = tt
 kept_rise p (row ∷ rows) rising = with_first (p row) row (filter p rows) (all_kept (λ later. key_order row later ≡ Less) p rows rising.0) (kept_rise p rows rising.1)
   where

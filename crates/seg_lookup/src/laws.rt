@@ -2,6 +2,7 @@
 //! that does nothing, so that the law is proved with the crate.
 
 ghost use Rattle.seg_lookup.specs.AnswerLaws.{AnswersAreShort, AnswersAreWanted, AnswersRise, AnswersAreComplete};
+ghost use Rattle.seg_lookup.specs.PageLaws.{FirstPageIsTheAnswer, PagesFollowEachOther, PagesAreComplete};
 ghost use Rattle.seg_lookup.specs.ClassificationLaws.{RostersHaveTheirCores, QueriesStartAtACore};
 
 /// A roster has just the ASes that it was made of.
@@ -32,4 +33,19 @@ pub fn answers_rise()
 /// Each row that matches and is valid is in the answer, or the answer is full of rows below it.
 pub fn answers_are_complete()
     ensures { AnswersAreComplete }
+{}
+
+/// The first page has the rows of the answer.
+pub fn first_page_is_the_answer()
+    ensures { FirstPageIsTheAnswer }
+{}
+
+/// After the rows of a page come those that are wanted after the id of its last row, and no others.
+pub fn pages_follow_each_other()
+    ensures { PagesFollowEachOther }
+{}
+
+/// Pages that follow each other have all wanted rows, each once.
+pub fn pages_are_complete()
+    ensures { PagesAreComplete }
 {}
