@@ -4,8 +4,8 @@
 //! and shows it. A reader enters the shown copy by a seat of its own, without a lock.
 //!
 //! To the layer above: `open_readers` makes the showcase of a hub, which publishes groups, and its
-//! 64 readers. `HubReader::lookup` answers from what is published, which is never older than what
-//! this reader was shown or has learnt.
+//! 64 readers. `HubReader::lookup` and `HubReader::page` answer from what is published, which is
+//! never older than what this reader was shown or has learnt.
 #![tactic(auto)]
 
 mod error;

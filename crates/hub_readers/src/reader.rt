@@ -2,12 +2,13 @@
 
 ghost use Rattle.std.specs.Prelude.{◌≡◌, ◌⊎◌, ◌≤◌, ◌<◌, None, length, max, IfOk, IfErr, IfSome, OnOk, OnErr};
 ghost use Rattle.std.specs.List.{AllByRecursion};
+ghost use Rattle.std.specs.Option.{option_copied};
 ghost use mathlib.Core.List.{IsPrefix};
 ghost use Rattle.seg_core.specs.Encoding.{IsSegment};
 ghost use Rattle.path_db.specs.Answer.{segments_of};
 ghost use Rattle.left_right.specs.Sides.{view};
 ghost use Rattle.hub_readers.specs.declared.error.ReaderError.TheVariants.{NoMemory, NoReader};
-ghost use Rattle.hub_readers.specs.Sight.{answer_after, place_after};
+ghost use Rattle.hub_readers.specs.Sight.{answer_after, shown_within, page_shown, more_shown, place_after};
 ghost use Rattle.hub_readers.specs.Learnt.{learnt};
 
 use crate::error::ReaderError;
@@ -18,7 +19,7 @@ use core::mem::replace_with;
 use left_right::reader::Reader;
 use logged_state::StateName;
 use seg_core::Segment;
-use seg_lookup::{ANSWER_LIMIT, Query, answer};
+use seg_lookup::{ANSWER_LIMIT, Page, Query, first_after};
 use std::alloc::AllocError;
 use std::marker::Model;
 
@@ -76,7 +77,73 @@ impl<N: StateName> HubReader<N> {
         ensures unshown { IfErr result (λ e. e ≡ NoReader → (self.new.groups ≡ self.old.groups) ⊎ (place_after N.opening self.new.groups < self.old.seen)) }
         ensures grows { self.old.seen ≤ self.new.seen }
     {
-        let Some(sight) = look_in(&mut self.seat, query, now) else {
+        self.look_for(query, None, now, ANSWER_LIMIT)
+    }
+
+    /// The first 64 segments that a query asks for, of those whose ids are above the given one, if
+    /// any, and whether further ones follow. The moment is in half seconds since 1970. A page is
+    /// answered as a lookup is: from what is published at one moment within the call, which is no
+    /// older than what this reader was shown before or has learnt, without a lock.
+    pub fn page(
+        &mut self,
+        query: &Query,
+        after: Option<&[u8; 32]>,
+        now: u64,
+    ) -> Result<Page, ReaderError>
+        ensures answer { IfOk result (λ page. page.segments.items
+            ≡ segments_of (page_shown N.opening self.new.groups query.now (option_copied after.entry) now)) }
+        ensures more { IfOk result (λ page. page.more ≡ more_shown N.opening self.new.groups query.now (option_copied after.entry) now) }
+        ensures few { IfOk result (λ page. length page.segments.items ≤ ANSWER_LIMIT) }
+        ensures whole { IfOk result (λ page. AllByRecursion IsSegment page.segments.items) }
+
+        // What is published has all groups that this reader was shown before, and its place is at
+        // least what the reader has seen.
+        ensures later { IsPrefix self.old.groups self.new.groups }
+        ensures fresh { OnOk result (self.old.seen ≤ place_after N.opening self.new.groups) }
+        ensures seen { OnOk result (self.new.seen ≡ place_after N.opening self.new.groups) }
+
+        // Memory is refused only for a page that is not empty, after the reader has looked.
+        // NoReader is returned only where the reader cannot look, or where what is published is
+        // older than what the reader has seen. What the reader has seen is then unchanged.
+        ensures why { IfErr result (λ e. (e ≡ NoMemory) ⊎ (e ≡ NoReader)) }
+        ensures memory { IfErr result (λ e. e ≡ NoMemory
+            → 1 ≤ length (page_shown N.opening self.new.groups query.now (option_copied after.entry) now)) }
+        ensures looked { IfErr result (λ e. e ≡ NoMemory → self.new.seen ≡ place_after N.opening self.new.groups) }
+        ensures kept { IfErr result (λ e. e ≡ NoReader → self.new.seen ≡ self.old.seen) }
+        ensures unshown { IfErr result (λ e. e ≡ NoReader → (self.new.groups ≡ self.old.groups) ⊎ (place_after N.opening self.new.groups < self.old.seen)) }
+        ensures grows { self.old.seen ≤ self.new.seen }
+    {
+        match self.look_for(query, after, now, ANSWER_LIMIT + 1) {
+            Ok(found) => Ok(Page::of(found)),
+            Err(refused) => Err(refused),
+        }
+    }
+
+    /// At most `limit` segments that a query asks for, of those whose ids are above the given one,
+    /// if any, as `lookup` answers them.
+    fn look_for(
+        &mut self,
+        query: &Query,
+        after: Option<&[u8; 32]>,
+        now: u64,
+        limit: usize,
+    ) -> Result<Vec<Segment>, ReaderError>
+        ensures answer { IfOk result (λ found. found.items
+            ≡ segments_of (shown_within limit N.opening self.new.groups query.now (option_copied after.entry) now)) }
+        ensures few { IfOk result (λ found. length found.items ≤ limit) }
+        ensures whole { IfOk result (λ found. AllByRecursion IsSegment found.items) }
+        ensures later { IsPrefix self.old.groups self.new.groups }
+        ensures fresh { OnOk result (self.old.seen ≤ place_after N.opening self.new.groups) }
+        ensures seen { OnOk result (self.new.seen ≡ place_after N.opening self.new.groups) }
+        ensures why { IfErr result (λ e. (e ≡ NoMemory) ⊎ (e ≡ NoReader)) }
+        ensures memory { IfErr result (λ e. e ≡ NoMemory
+            → 1 ≤ length (shown_within limit N.opening self.new.groups query.now (option_copied after.entry) now)) }
+        ensures looked { IfErr result (λ e. e ≡ NoMemory → self.new.seen ≡ place_after N.opening self.new.groups) }
+        ensures kept { IfErr result (λ e. e ≡ NoReader → self.new.seen ≡ self.old.seen) }
+        ensures unshown { IfErr result (λ e. e ≡ NoReader → (self.new.groups ≡ self.old.groups) ⊎ (place_after N.opening self.new.groups < self.old.seen)) }
+        ensures grows { self.old.seen ≤ self.new.seen }
+    {
+        let Some(sight) = look_in(&mut self.seat, query, after, now, limit) else {
             return Err(ReaderError::NoReader);
         };
         if sight.place < self.seen {
@@ -115,37 +182,52 @@ struct Found {
 }
 
 /// Looks at what is published, once.
-fn look_in<N: StateName>(seat: &mut HubSeat<N>, query: &Query, now: u64) -> Option<Found>
+fn look_in<N: StateName>(
+    seat: &mut HubSeat<N>,
+    query: &Query,
+    after: Option<&[u8; 32]>,
+    now: u64,
+    limit: usize,
+) -> Option<Found>
     ensures later { IsPrefix (view seat.old.place).groups (view seat.new.place).groups }
     ensures place { IfSome result (λ f. f.place ≡ place_after N.opening (view seat.new.place).groups) }
-    ensures found { IfSome result (λ f. IfOk f.found (λ found. found.items ≡ segments_of (answer_after N.opening (view seat.new.place).groups query.now now))) }
-    ensures few { IfSome result (λ f. IfOk f.found (λ found. length found.items ≤ ANSWER_LIMIT)) }
+    ensures found { IfSome result (λ f. IfOk f.found (λ found. found.items
+        ≡ segments_of (shown_within limit N.opening (view seat.new.place).groups query.now (option_copied after.entry) now))) }
+    ensures few { IfSome result (λ f. IfOk f.found (λ found. length found.items ≤ limit)) }
     ensures whole { IfSome result (λ f. IfOk f.found (λ found. AllByRecursion IsSegment found.items)) }
-    ensures memory { IfSome result (λ f. OnErr f.found (1 ≤ length (answer_after N.opening (view seat.new.place).groups query.now now))) }
+    ensures memory { IfSome result (λ f. OnErr f.found
+        (1 ≤ length (shown_within limit N.opening (view seat.new.place).groups query.now (option_copied after.entry) now))) }
     ensures gone { result ≡ None → (view seat.new.place).groups ≡ (view seat.old.place).groups }
 {
     replace_with(
         seat,
-        (query, now),
-        |seat, asked| look(seat, asked.0, asked.1),
+        (query, after, now, limit),
+        |seat, asked| look(seat, asked.0, asked.1, asked.2, asked.3),
     )
 }
 
 /// Looks at what is published from a seat, and returns the seat.
-fn look<N: StateName>(seat: HubSeat<N>, query: &Query, now: u64) -> (HubSeat<N>, Option<Found>)
+fn look<N: StateName>(
+    seat: HubSeat<N>,
+    query: &Query,
+    after: Option<&[u8; 32]>,
+    now: u64,
+    limit: usize,
+) -> (HubSeat<N>, Option<Found>)
     ensures later { IsPrefix (view seat.place).groups (view result.0.place).groups }
     ensures place { IfSome result.1 (λ f. f.place ≡ place_after N.opening (view result.0.place).groups) }
     ensures found { IfSome result.1 (λ f. IfOk f.found (λ found. found.items
-        ≡ segments_of (answer_after N.opening (view result.0.place).groups query.now now))) }
-    ensures few { IfSome result.1 (λ f. IfOk f.found (λ found. length found.items ≤ ANSWER_LIMIT)) }
+        ≡ segments_of (shown_within limit N.opening (view result.0.place).groups query.now (option_copied after.entry) now))) }
+    ensures few { IfSome result.1 (λ f. IfOk f.found (λ found. length found.items ≤ limit)) }
     ensures whole { IfSome result.1 (λ f. IfOk f.found (λ found. AllByRecursion IsSegment found.items)) }
-    ensures memory { IfSome result.1 (λ f. OnErr f.found (1 ≤ length (answer_after N.opening (view result.0.place).groups query.now now))) }
+    ensures memory { IfSome result.1 (λ f. OnErr f.found
+        (1 ≤ length (shown_within limit N.opening (view result.0.place).groups query.now (option_copied after.entry) now))) }
     ensures gone { result.1 ≡ None → (view result.0.place).groups ≡ (view seat.place).groups }
 {
     match seat.enter_as::<SeesAll<N>>() {
         Ok(reading) => {
             let published = reading.get();
-            let found = answer(published.db(), query, now);
+            let found = first_after(published.db(), query, after, now, limit);
             let place = published.place();
             (reading.leave(), Some(Found { found, place }))
         }
