@@ -5,5 +5,6 @@ mod answers;
 mod classes;
 mod filter;
 mod laws;
+mod pages;
 mod same;
 mod worked;

@@ -11,7 +11,7 @@ use std::process::Abort;
 use std::test::Fail;
 
 /// The query of a source and a destination.
-fn query_of(cores: &Roster, source: &str, destination: &str) -> Result<Query, Fail> {
+pub(crate) fn query_of(cores: &Roster, source: &str, destination: &str) -> Result<Query, Fail> {
     Ok(classify(cores, parse(source)?, parse(destination)?)?)
 }
 
@@ -137,14 +137,14 @@ fn types_are_apart(rt: HostRuntime) -> Result<(), Fail> {
 }
 
 /// The interfaces 1 to 65, in the order of the ids of the worked segment with each.
-const BY_ID: [u16; 65] = [
+pub(crate) const BY_ID: [u16; 65] = [
     7, 58, 31, 18, 38, 2, 44, 52, 26, 53, 17, 6, 5, 28, 32, 36, 37, 27, 40, 10, 12, 65, 22, 39, 24,
     63, 14, 35, 54, 15, 11, 45, 21, 47, 50, 64, 1, 56, 34, 51, 29, 9, 46, 23, 55, 49, 59, 61, 3,
     43, 42, 19, 57, 8, 60, 13, 48, 30, 16, 41, 62, 20, 33, 4, 25,
 ];
 
 /// The worked segment as a down segment with each of these interfaces.
-fn all_rows(alloc: Global) -> Result<PathDb, Fail> {
+pub(crate) fn all_rows(alloc: Global) -> Result<PathDb, Fail> {
     let mut db = PathDb::new(alloc);
     for egress in 1..=65 {
         register(alloc, &mut db, SegType::Down, &leaving_by(egress))?;
@@ -158,7 +158,7 @@ fn egress_of(segment: &Segment) -> Option<u16> {
 }
 
 /// Checks that segments leave their first AS by these interfaces.
-fn assert_left_by(rt: &impl Abort, segments: &[Segment], egresses: &[u16]) {
+pub(crate) fn assert_left_by(rt: &impl Abort, segments: &[Segment], egresses: &[u16]) {
     for (segment, egress) in segments.iter().zip(egresses) {
         assert_same(rt, &egress_of(segment), &Some(*egress), egress);
     }

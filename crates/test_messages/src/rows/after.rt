@@ -101,8 +101,7 @@ fn assert_shown(
     look: &Look,
 ) -> Result<(), Fail> {
     let (start, end) = (IsdAs::from_u64(look.start), IsdAs::from_u64(look.end));
-    let shown =
-        database.matching_after(look.kind, &look.id, start, end, look.moment, look.limit)?;
+    let shown = database.matching_after(look.kind, &look.id, start, end, look.moment, look.limit)?;
     let bytes = first_bytes(alloc, &shown)?;
     assert_eq!(rt; bytes.as_slice(), look.shown, "{look:?}");
     Ok(())
