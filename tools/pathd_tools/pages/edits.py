@@ -38,7 +38,7 @@ from pathd_tools.toolbox import parser
 
 PAGE = CRATES / "EDITS.md"
 KINDS = {"must-fail": "gate", "more-edits": "beside"}
-HEADER = "| edit | the wrong body | refused by | at |"
+NOT_REFUSED = "NO REFUSAL"
 
 # What the prover prints: a goal that no tactic proves, an error in a proof file, and the line of a function after both.
 GOAL = re.compile(r"(?:note: )?src/\S+:\d+:\d+: .*?\(`([\w:-]+)`(?:, [^)]*)?\)(.*)")
@@ -50,19 +50,16 @@ GONE = re.compile(r"has no field|is not in scope|has no `|was not admitted|that 
 
 @dataclass
 class Edit:
-    """A wrong body: its crate, its file, which kind of edit it is, the clause that has to refuse it, and what it does, in a phrase."""
+    """A wrong body: its crate, its file, which kind of edit it is, and the clause that has to refuse it."""
 
     path: Path
     function: str = ""
     clause: str | None = None
-    phrase: str = ""
 
     def __post_init__(self) -> None:
         text = self.path.read_text()
         if said := re.search(r"^clause: (\S+)(?: (\S+))?$", text, re.M):
             self.function, self.clause = said[1], said[2] or ""
-        said = re.search(r"^body: (.+)$", text, re.M)
-        self.phrase = said[1] if said else self.path.stem.replace("_", " ")
 
     @property
     def crate(self) -> str:
@@ -305,14 +302,14 @@ def show(edit: Edit, verdict: Verdict, ran: dict) -> bool:
 
 
 def rows_before() -> dict[tuple[str, str], list[str]]:
-    """The rows of the page as it is, by crate and edit."""
+    """The lines of the page as it is, by crate and edit: the edit, what refused it, and the commit."""
     found, crate = {}, ""
     for line in PAGE.read_text().splitlines() if PAGE.is_file() else []:
-        cells = [it.strip() for it in line.strip("| ").split(" | ")]
-        if head := re.match(r"\| \*\*`(\w+)`\*\* \|", line):
+        if head := re.match(r"\*\*`(\w+)`\*\*", line):
             crate = head[1]
-        elif line.startswith("| `"):
-            found[crate, cells[0].strip("`")] = [*cells, "", ""][:4]
+        elif re.match(r"[a-z_0-9]+(  |$)", line):
+            cells = re.split(r" {2,}", line.rstrip())
+            found[crate, cells[0]] = [*cells, "", ""][:3]
     return found
 
 
@@ -331,18 +328,16 @@ def without_phrase(text: str) -> str:
 
 
 def row(edit: Edit, before: dict) -> list[str]:
-    """The row of an edit: by its last try, or as the page has it where the edit is unchanged since then."""
-    cells = [f"`{edit.path.stem}`", edit.phrase]
+    """The line of an edit: by its last try, or as the page has it where the edit is unchanged since then."""
+    name = edit.path.stem
     if kept_at(edit).is_file():
         ran = json.loads(kept_at(edit).read_text())
         if ran["sum"] == edit.sum:
             verdict = judge(edit, ran)
             tried_at = ran["commit"] if is_unchanged(edit, ran["commit"]) else commit()
-            return [*cells, f"`{short(verdict.by)}`" if verdict.is_well else "**no refusal**", tried_at]
-    old = before.get((edit.crate, edit.path.stem))
-    if old and old[3] and is_unchanged(edit, old[3]):
-        return [*cells, *old[2:]]
-    return [*cells, "", ""]
+            return [name, short(verdict.by) if verdict.is_well else NOT_REFUSED, tried_at]
+    old = before.get((edit.crate, name))
+    return old if old and old[2] and is_unchanged(edit, old[2]) else [name, "", ""]
 
 
 def short(by: str) -> str:
@@ -352,7 +347,7 @@ def short(by: str) -> str:
 
 def dates(rows: list[list[str]]) -> str:
     """A sentence with the days of the commits of rows."""
-    named = sorted({it[3] for it in rows if it[3]})
+    named = sorted({it[2] for it in rows if it[2]})
     shown = ["git", "show", "--no-patch", "--format=%h %cd", "--date=format:%-d %B %Y", *named]
     days: dict[str, list[str]] = {}
     for line in subprocess.run(shown, cwd=TOP, capture_output=True, text=True, check=True).stdout.splitlines() if named else []:
@@ -363,11 +358,12 @@ def dates(rows: list[list[str]]) -> str:
 
 
 def table(found: dict[str, list[list[str]]]) -> str:
-    """A table of the rows of edits, by crate."""
-    text = f"\n{HEADER}\n|---|---|---|---|\n"
+    """The lines of edits, by crate, in columns."""
+    text = ""
     for crate, rows in found.items():
-        text += f"| **`{crate}`** | | | |\n"
-        text += "".join(f"| {' | '.join(it)} |\n".replace("|  ", "| ") for it in rows)
+        wide = [max(len(it[at]) for it in rows) for at in range(2)]
+        lines = [f"{name:{wide[0]}}  {by:{wide[1]}}  {at}".rstrip() for name, by, at in rows]
+        text += f"\n**`{crate}`**\n\n```\n" + "".join(it + "\n" for it in lines) + "```\n"
     return text
 
 
@@ -385,10 +381,10 @@ HEAD = """# Wrong bodies, and the clauses that refuse them
 
 <!-- written by tools/pathd-tools edits --write -->
 
-Each edit is a wrong body of one function. The column 'refused by' has the function and the clause
-whose goal the prover refuses; a function alone has one clause without a name. At '**no refusal**'
-no clause, invariant or check refused it. 'at' is the commit at which the edit was tried last, and
-is empty where no try of the edit as it is now was noted.
+Each line is an edit: a wrong body of one function, for what it does. Then come the function and the
+clause whose goal the prover refuses; a function alone has one clause without a name. The last
+column is the commit at which the edit was tried last. A line without both is of an edit that was
+not tried as it is now. The line `body:` of an edit's file says what it does in a phrase.
 """
 
 GATE = """
