@@ -28,7 +28,7 @@ GATEWAY_SETTINGS = $(DESTDIR)/etc/default/pathd-gateway
 
 PAGES = README.md CHANGELOG.md docs/CLI.md docs/PROTOCOL.md docs/STORE.md docs/POWER-CUT.md \
   docs/WATCHING.md docs/NETWORK.md docs/CAPACITY.md docs/LIMITS.md docs/GATEWAY.md docs/codes.csv docs/segments.proto \
-  docs/load.svg
+  docs/load.svg docs/place.svg docs/frame.svg docs/syncs.svg docs/states.svg docs/memory.svg
 TASKS = $(wildcard docs/operating/*.md)
 EXAMPLES = deploy/pathd.nft deploy/pathd.rules.yml deploy/grafana-dashboard.json \
   deploy/pathd.service.d/status.conf

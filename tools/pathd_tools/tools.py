@@ -18,6 +18,7 @@ PAGES = [
     Tool("codes", "pages.codes", "the pages, the crate and the clients have the codes of docs/codes.csv; --write"),
     Tool("metric-names", "pages.metric_names", "the alert rules, the dashboard and the pages have the names of the server's numbers"),
     Tool("installed", "pages.installed", "the pages as they are installed: each link leads to something, and no block needs the repository"),
+    Tool("pictures", "pages.pictures", "each picture of docs/ is that of its text in docs/pictures; --write"),
     Tool("edits", "pages.edits", "tries the wrong bodies of crates by the prover, in a copy of the repository"),
 ]
 
