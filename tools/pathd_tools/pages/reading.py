@@ -218,13 +218,14 @@ def reading_list() -> str:
     lookups = [it for it in in_reading_order([it for spec in LOOKUPS for it in starts_of(spec)]) if key(it) not in known]
     known |= {key(it) for it in lookups}
     served = [it for it in in_reading_order([it for spec in SERVED for it in starts_of(spec)]) if key(it) not in known]
-    rows = ["| file | what to read | lines |", "|---|---|---|"]
+    rows: list[tuple[int, str, str]] = []
     for name, those in [("what survives", survival), ("lookups too", lookups), ("a server too", served)]:
         for path, words in by_file(those):
-            names = "all that is quoted above" if path in (QUOTED, QUOTED_OF_SERVER) else ", ".join(f"`{it.name}`" for it in words)
-            rows.append(f"| `{path.relative_to(TOP)}` | {names} | {sum(it.lines for it in words)} |")
-        rows.append(f"| **{name}** | {len(those)} | **{sum(it.lines for it in those)}** |")
-    return "\n".join(rows)
+            names = "all that is quoted above" if path in (QUOTED, QUOTED_OF_SERVER) else " ".join(it.name for it in words)
+            rows.append((sum(it.lines for it in words), str(path.relative_to(TOP / "crates")), names))
+        rows.append((sum(it.lines for it in those), f"lines of {len(those)} definitions: {name}", ""))
+    wide = max(len(path) for _, path, _ in rows)
+    return "\n".join(["```", *(f"{lines:4}  {path:{wide}}  {names}".rstrip() for lines, path, names in rows), "```"])
 
 
 def by_file(those: list[Definition]) -> list[tuple[Path, list[Definition]]]:
