@@ -34,6 +34,16 @@ loop-reply-preserved-in_ok-write_reply g c =
       few = omega (arith, few);
     }
 
+pub loop-reply-preserved-in_ok-write_reply-2 : goal.loop-reply-preserved-in_ok-write_reply-2
+loop-reply-preserved-in_ok-write_reply-2 g c =
+    let first = rw c.in-Some.is at c.in_ok-reply.ensures.next in
+    let few = rw c.in-Some.is at c.in_ok-reply.ensures.few in
+    record {
+      answered = answered_next _ _ _ _ _ _ _ _ _ _ _ _ _ c.loop-reply.invariant.answered first _ _ c.in_ok-write_reply.ensures.ok c.saturating_add-sum.ensures;
+      ahead = c.in_ok-reply.ensures.ahead;
+      few = omega (arith, few);
+    }
+
 pub loop-reply-preserved : goal.loop-reply-preserved
 loop-reply-preserved g c =
     let first = rw c.in-Some.is at c.in_ok-reply.ensures.next in
