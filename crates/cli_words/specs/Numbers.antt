@@ -19,4 +19,5 @@ pub record HasPlainNumbers (rows : List Row) : Type 0 where
   pub idle : IsPlainNumber rows (codes "idle")
   pub future : IsPlainNumber rows (codes "future")
   pub spare : IsPlainNumber rows (codes "spare")
+  pub purge : IsPlainNumber rows (codes "purge")
   pub grace : IsPlainNumber rows (codes "grace")

@@ -73,6 +73,9 @@ pub const FUTURE: &str = "future";
 /// The name of its option with the number of seats that commands under way leave to others.
 pub const SPARE: &str = "spare";
 
+/// The name of its option with the seconds from one purge of the server's own to the next.
+pub const PURGE: &str = "purge";
+
 /// The most such seats: eight of a server's 64 are for commands.
 const MOST_SPARE: i64 = 56;
 
@@ -84,6 +87,9 @@ pub const GRACE: &str = "grace";
 
 /// The name of its flag that turns off the lines on standard error.
 pub const QUIET: &str = "quiet";
+
+/// The name of its flag by which the lines on standard error have their priorities.
+pub const LOG_PRIORITY: &str = "log-priority";
 
 /// The name of the argument with the path of a device's file.
 pub const DEVICE: &str = "device";
@@ -302,6 +308,7 @@ fn run_command<'a>(alloc: Global) -> Result<Command<'a>, AllocError>
         .arg(option(alloc, KEY, "HEX", KEY_HELP))?;
     let command = with_limits(alloc, command)?;
     let command = with_refusals(alloc, command)?;
+    let command = with_purges(alloc, command)?;
     with_end(alloc, command)
 }
 
@@ -337,6 +344,16 @@ fn with_refusals<'a>(alloc: Global, command: Command<'a>) -> Result<Command<'a>,
         )))
 }
 
+/// Gives the command that serves sessions the option for its own purges.
+fn with_purges<'a>(alloc: Global, command: Command<'a>) -> Result<Command<'a>, AllocError>
+    requires { (out-Command command).name.now ≡ codes "run" }
+    ensures { IfOk result (λ new. (out-Command new).name.now ≡ codes "run") }
+{
+    let purge =
+        "Drop expired segments each time after this number of seconds; 0 is never [default: 0]";
+    command.arg(option(alloc, PURGE, "SECONDS", purge).value_parser(value_parser!(u32)))
+}
+
 /// Gives the command that serves sessions the options for its end and its lines.
 fn with_end<'a>(alloc: Global, command: Command<'a>) -> Result<Command<'a>, AllocError>
     requires { (out-Command command).name.now ≡ codes "run" }
@@ -345,10 +362,12 @@ fn with_end<'a>(alloc: Global, command: Command<'a>) -> Result<Command<'a>, Allo
     let stop = "End once standard input has ended: no new session, and --grace for the open ones";
     let grace = "The seconds that open sessions have at such an end [default: 10]";
     let quiet = "Print nothing on standard error but why the program ends";
+    let priority = "Begin each line on standard error with its priority, as <3>, for a journal";
     command
         .arg(flag(alloc, STOP_ON_END_OF_INPUT, stop))?
         .arg(option(alloc, GRACE, "SECONDS", grace).value_parser(value_parser!(u32)))?
-        .arg(flag(alloc, QUIET, quiet))
+        .arg(flag(alloc, QUIET, quiet))?
+        .arg(flag(alloc, LOG_PRIORITY, priority))
 }
 
 /// The path of a device's file.

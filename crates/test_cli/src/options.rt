@@ -4,8 +4,8 @@
 use clap::error::ErrorKind;
 use cli_words::{
     CHECKPOINT, CORES, CommandLine, DEVICE, FORCE, FORMAT, FUTURE, GRACE, HEX, IDLE, JOURNAL, KEY,
-    LAYOUT, LISTEN, NEW, NOW, ONCE, PEER_SESSIONS, QUIET, RUN, SESSIONS, SHOW, SPARE, STATUS,
-    STATUS_LISTEN, STOP_ON_END_OF_INPUT, Subcommand, UPGRADE, read,
+    LAYOUT, LISTEN, LOG_PRIORITY, NEW, NOW, ONCE, PEER_SESSIONS, PURGE, QUIET, RUN, SESSIONS, SHOW,
+    SPARE, STATUS, STATUS_LISTEN, STOP_ON_END_OF_INPUT, Subcommand, UPGRADE, read,
 };
 use std::alloc::Global;
 use std::process::Abort;
@@ -39,10 +39,10 @@ struct Value {
 const ALL_OF_ONCE: &str = "once --cores 1-1,2-2 --now 5 --key 00ff --hex";
 
 const ALL_OF_RUN: &str =
-    "run --quiet --grace 4294967295 --stop-on-end-of-input --peer-sessions 18446744073709551615 --idle 4294967295 --future 4294967295 --spare 56 --sessions 18446744073709551615 --key 00 --cores 1-1 --status [::1]:1 --listen [::1]:0 d";
+    "run --quiet --grace 4294967295 --stop-on-end-of-input --peer-sessions 18446744073709551615 --idle 4294967295 --future 4294967295 --spare 56 --purge 4294967295 --log-priority --sessions 18446744073709551615 --key 00 --cores 1-1 --status [::1]:1 --listen [::1]:0 d";
 
 #[rattlefmt::skip]
-const VALUES: [Value; 36] = [
+const VALUES: [Value; 38] = [
     Value { line: ALL_OF_ONCE, command: ONCE, option: CORES, value: Some("1-1,2-2") },
     Value { line: ALL_OF_ONCE, command: ONCE, option: NOW, value: Some("5") },
     Value { line: ALL_OF_ONCE, command: ONCE, option: KEY, value: Some("00ff") },
@@ -71,6 +71,8 @@ const VALUES: [Value; 36] = [
     Value { line: ALL_OF_RUN, command: RUN, option: SPARE, value: Some("56") },
     Value { line: ALL_OF_RUN, command: RUN, option: CORES, value: Some("1-1") },
     Value { line: ALL_OF_RUN, command: RUN, option: KEY, value: Some("00") },
+    Value { line: ALL_OF_RUN, command: RUN, option: PURGE, value: Some("4294967295") },
+    Value { line: "run d --listen a", command: RUN, option: PURGE, value: None },
     Value { line: "run d --listen a", command: RUN, option: LISTEN, value: Some("a") },
     Value { line: "run d --listen a", command: RUN, option: STATUS_LISTEN, value: None },
     Value { line: "run d --listen a", command: RUN, option: SESSIONS, value: None },
@@ -114,7 +116,7 @@ struct Flag {
 }
 
 #[rattlefmt::skip]
-const FLAGS: [Flag; 12] = [
+const FLAGS: [Flag; 14] = [
     Flag { line: "once", command: ONCE, flag: HEX, is_given: false },
     Flag { line: ALL_OF_ONCE, command: ONCE, flag: HEX, is_given: true },
     Flag { line: "format d --checkpoint 2 --journal 516 --new", command: FORMAT, flag: NEW, is_given: true },
@@ -125,6 +127,8 @@ const FLAGS: [Flag; 12] = [
     Flag { line: "show d --layout", command: SHOW, flag: LAYOUT, is_given: true },
     Flag { line: "run d --listen a", command: RUN, flag: QUIET, is_given: false },
     Flag { line: ALL_OF_RUN, command: RUN, flag: QUIET, is_given: true },
+    Flag { line: "run d --listen a", command: RUN, flag: LOG_PRIORITY, is_given: false },
+    Flag { line: ALL_OF_RUN, command: RUN, flag: LOG_PRIORITY, is_given: true },
     Flag { line: "run d --listen a", command: RUN, flag: STOP_ON_END_OF_INPUT, is_given: false },
     Flag { line: ALL_OF_RUN, command: RUN, flag: STOP_ON_END_OF_INPUT, is_given: true },
 ];
