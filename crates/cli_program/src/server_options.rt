@@ -8,7 +8,7 @@ ghost use Rattle.cli_program.specs.Options.{IsKeyOf, IsNumberOf, limit_of, bound
 use crate::failure::Failure;
 use crate::options::{cores_in, key_in, u32_in, u64_in};
 use clap::ArgMatches;
-use cli_words::{FUTURE, GRACE, IDLE, PEER_SESSIONS, SESSIONS, SPARE};
+use cli_words::{FUTURE, GRACE, IDLE, PEER_SESSIONS, PURGE, SESSIONS, SPARE};
 use path_server::Options;
 use seg_lookup::Roster;
 use std::alloc::Global;
@@ -34,6 +34,8 @@ pub(crate) fn options_of<'a>(alloc: Global, words: &ArgMatches<'a>) -> Result<Op
     ensures future { IfOk result (λ options. (count : ℕ) × IsNumberOf (found_of words.now) (codes "future") 32 0 count
         × (options.future ≡ bound_of count)) }
     ensures spare { IfOk result (λ options. IsNumberOf (found_of words.now) (codes "spare") 32 8 options.spare) }
+    ensures purge { IfOk result (λ options. (count : ℕ) × IsNumberOf (found_of words.now) (codes "purge") 32 0 count
+        × (option_map as_nanos options.purge ≡ limit_of count)) }
     ensures grace { IfOk result (λ options. (count : ℕ) × IsNumberOf (found_of words.now) (codes "grace") 32 10 count
         × (as_nanos options.grace ≡ count * 1_000_000_000)) }
 {
@@ -47,11 +49,12 @@ pub(crate) fn options_of<'a>(alloc: Global, words: &ArgMatches<'a>) -> Result<Op
         idle: limit(u32_in(words, IDLE, IDLE_SECONDS)),
         future: bound(u32_in(words, FUTURE, 0)),
         spare: u64::from(u32_in(words, SPARE, SPARE_SEATS)),
+        purge: limit(u32_in(words, PURGE, 0)),
         grace: seconds(u32_in(words, GRACE, GRACE_SECONDS)),
     })
 }
 
-/// The time of this number of seconds, of which 0 is no limit.
+/// The time of this number of seconds, of which 0 is none.
 fn limit(count: u32) -> Option<Duration>
     ensures { option_map as_nanos result ≡ limit_of count }
 {

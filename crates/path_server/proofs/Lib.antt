@@ -1,1 +1,2 @@
 mod Claimed
+mod Purged

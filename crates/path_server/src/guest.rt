@@ -1,5 +1,7 @@
 //! The guests that the threads of a server attend to.
 
+use std::time::Duration;
+
 /// A guest that a thread attends to. The server keeps what the thread takes: the connection of a
 /// peer in the peer's seat, and the listener for requests of the numbers.
 #[derive(Clone, Copy)]
@@ -8,4 +10,6 @@ pub(crate) enum Guest {
     Session(usize),
     /// The peers that ask for the numbers.
     Status,
+    /// The server itself, which purges after each of these periods.
+    Purges(Duration),
 }

@@ -20,6 +20,8 @@ mod listeners;
 mod options;
 mod parting;
 mod peer_socket;
+mod purger;
+mod purging;
 mod reports;
 mod running;
 mod seats;

@@ -24,6 +24,9 @@ pub struct Options {
     /// The number of seats that sessions with commands under way leave to others, or 0 where they
     /// may have all seats.
     pub spare: u64,
+    /// The time from one purge that the server makes by itself to the next, or `None` where it makes
+    /// none. Each one is of the moment of the machine's clock.
+    pub purge: Option<Duration>,
     /// How long the sessions that are open may go on once the server is to end.
     pub grace: Duration,
 }

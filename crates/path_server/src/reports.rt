@@ -1,7 +1,7 @@
 //! The reports of a server while it runs.
 
 use crate::seats::MOST_SESSIONS;
-use path_hub::Actor;
+use path_hub::{Actor, HubError};
 use session_core::FrameError;
 use std::fmt;
 use std::fmt::{Display, Formatter};
@@ -48,6 +48,11 @@ pub enum Report {
         peer: Option<SocketAddr>,
         why: FrameError,
     },
+    /// A purge that the server made by itself was refused for this reason, and the one before was
+    /// not. The next one is made after the period of the options.
+    NotPurged(HubError),
+    /// A purge that the server made by itself was committed, and the one before was refused.
+    PurgedAgain,
     /// Memory was refused to this actor of the store, which tries again.
     NoMemory(Actor),
     /// Memory was given to this actor again.
@@ -101,6 +106,13 @@ impl Display for Report {
                 "an accept failed by error {error} of the system; the next one is made after {pause} ms"
             ),
             Report::Faulted { count, peer, why } => write_faulted(f, *count, peer.as_ref(), why),
+            Report::NotPurged(why) => {
+                write!(
+                    f,
+                    "the server's own purge was refused: {why}; it tries again"
+                )
+            }
+            Report::PurgedAgain => write!(f, "the server's own purge is done again"),
             Report::NoMemory(actor) => {
                 write!(f, "the {} has no memory, and tries again", name_of(*actor))
             }

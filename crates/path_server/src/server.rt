@@ -22,7 +22,7 @@ use std::alloc::Global;
 use std::net::{OpenListener, TcpStream};
 use std::sync::Wait;
 use std::sync::atomic::{AtomicBool, AtomicU64, Ordering};
-use std::time::{Clock, Instant};
+use std::time::{Clock, Duration, Instant};
 
 /// A server: where its peers arrive, the seats that they take, what each session is answered by,
 /// and what is counted of it.
@@ -57,6 +57,12 @@ pub(crate) struct Server<'a, L, V, O> {
     pub(crate) drains: AtomicU64,
     /// Whether the store was reported to have no epoch left.
     exhausted: AtomicBool,
+    /// Whether a thread was asked for that purges.
+    has_purger: AtomicBool,
+    /// Whether no thread was given for what is no session.
+    is_short: AtomicBool,
+    /// Whether the last purge of the server itself was refused.
+    pub(crate) no_purge: AtomicBool,
     /// Whether every thread that serves was reported to have begun.
     ready: AtomicBool,
     /// Whether no more peers are accepted.
@@ -98,6 +104,9 @@ impl<'a, L: OpenListener<Stream = TcpStream> + Drop, V: Verifier, O: Reports> Se
             begun,
             drains: AtomicU64::new(0),
             exhausted: AtomicBool::new(false),
+            has_purger: AtomicBool::new(false),
+            is_short: AtomicBool::new(false),
+            no_purge: AtomicBool::new(false),
             ready: AtomicBool::new(false),
             ending: AtomicBool::new(false),
             broken: AtomicBool::new(false),
@@ -139,22 +148,36 @@ impl<'a, L: OpenListener<Stream = TcpStream> + Drop, V: Verifier, O: Reports> Se
         if self.is_broken() {
             return Err(RunError::Net);
         }
-        if self.status.is_missed() {
+        if self.is_short() {
             return Err(RunError::NoMemory);
         }
         Ok(self.door.started())
     }
 
+    /// Whether no thread was given for what is no session.
+    fn is_short(&self) -> bool {
+        self.is_short.load(Ordering::SeqCst)
+    }
+
+    /// The period of the purges for which a thread must be asked, as it is once where there is one.
+    fn offered_purges(&self) -> Option<Duration> {
+        let period = self.options.purge?;
+        if self.has_purger.swap(true, Ordering::SeqCst) {
+            return None;
+        }
+        Some(period)
+    }
+
     /// Reports once that every thread that serves has begun.
     fn report_ready(&self) {
-        if !self.ready.swap(true, Ordering::SeqCst) && !self.status.is_missed() {
+        if !self.ready.swap(true, Ordering::SeqCst) && !self.is_short() {
             self.reports.report(Report::Ready);
         }
     }
 
     /// The number of the seat of the next peer, or `None` where no more are to come.
     fn next_session<R: Wait + Clock>(&self, rt: &R) -> Option<usize> {
-        if self.door.is_done() || self.status.is_missed() {
+        if self.door.is_done() || self.is_short() {
             return None;
         }
         let number = self.next_seated(rt)?;
@@ -177,6 +200,9 @@ impl<
         if self.status.offer(rt) {
             return Some(Guest::Status);
         }
+        if let Some(period) = self.offered_purges() {
+            return Some(Guest::Purges(period));
+        }
         self.report_ready();
         if let Some(number) = self.next_session(rt) {
             return Some(Guest::Session(number));
@@ -198,13 +224,14 @@ impl<
                     self.watch(hub, &listener);
                 }
             }
+            Guest::Purges(period) => self.purge(hub, period),
         }
     }
 
     fn miss<N: HubName>(&self, hub: &Hub<D, N, R>, guest: Guest) {
         match guest {
             Guest::Session(number) => self.miss_session(hub.handle(), number),
-            Guest::Status => self.status.miss(),
+            Guest::Status | Guest::Purges(_) => self.is_short.store(true, Ordering::SeqCst),
         }
     }
 

@@ -9,8 +9,6 @@ pub(crate) struct StatusListener<L> {
     listener: Mutex<Option<L>>,
     /// Whether a thread for the listener was asked for.
     is_offered: AtomicBool,
-    /// Whether no thread was given for the listener.
-    is_missed: AtomicBool,
 }
 
 impl<L: Drop> StatusListener<L> {
@@ -19,7 +17,6 @@ impl<L: Drop> StatusListener<L> {
         StatusListener {
             listener: Mutex::new(listener),
             is_offered: AtomicBool::new(false),
-            is_missed: AtomicBool::new(false),
         }
     }
 
@@ -31,15 +28,5 @@ impl<L: Drop> StatusListener<L> {
     /// Takes the listener.
     pub(crate) fn take<R: Wait>(&self, rt: &R) -> Option<L> {
         (*self.listener.lock(rt)).take()
-    }
-
-    /// Records that no thread was given for the listener.
-    pub(crate) fn miss(&self) {
-        self.is_missed.store(true, Ordering::SeqCst);
-    }
-
-    /// Whether no thread was given for the listener.
-    pub(crate) fn is_missed(&self) -> bool {
-        self.is_missed.load(Ordering::SeqCst)
     }
 }

@@ -11,6 +11,7 @@ mod leaving;
 mod pacing;
 mod page;
 mod peers;
+mod purging;
 mod refused;
 mod rows;
 mod seats;

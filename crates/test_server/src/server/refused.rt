@@ -36,6 +36,7 @@ fn has_threads<R: World>(rt: R, alloc: Global, status: Option<Broken>) -> bool {
         idle: None,
         future: None,
         spare: 0,
+        purge: None,
         grace: Duration::from_millis(100),
     };
     let counts = Counts::new();

@@ -51,6 +51,7 @@ pub(crate) struct Counts {
     stopped: AtomicU64,
     turned_away: AtomicU64,
     address_full: AtomicU64,
+    not_purged: AtomicU64,
     wants_end: AtomicBool,
 }
 
@@ -62,6 +63,7 @@ impl Counts {
             stopped: AtomicU64::new(0),
             turned_away: AtomicU64::new(0),
             address_full: AtomicU64::new(0),
+            not_purged: AtomicU64::new(0),
             wants_end: AtomicBool::new(false),
         }
     }
@@ -86,6 +88,11 @@ impl Counts {
         self.address_full.load(Ordering::SeqCst)
     }
 
+    /// How often it was reported that a purge of the server itself was refused.
+    pub(crate) fn not_purged(&self) -> u64 {
+        self.not_purged.load(Ordering::SeqCst)
+    }
+
     /// Asks the server to end.
     pub(crate) fn want_end(&self) {
         self.wants_end.store(true, Ordering::SeqCst);
@@ -106,6 +113,9 @@ impl Reports for Counts {
             }
             Report::AddressFull(count) => {
                 self.address_full.fetch_add(count, Ordering::SeqCst);
+            }
+            Report::NotPurged(_) => {
+                self.not_purged.fetch_add(1, Ordering::SeqCst);
             }
             _ => {}
         }
@@ -128,6 +138,7 @@ pub(crate) fn options(rt: &impl Abort, alloc: Global, sessions: u64) -> Options 
         idle: Some(Duration::from_secs(10)),
         future: None,
         spare: 0,
+        purge: None,
         grace: Duration::from_millis(100),
     }
 }

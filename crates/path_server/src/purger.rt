@@ -1,0 +1,51 @@
+//! Purges of the clock's moment, which no session asks for.
+
+ghost use Rattle.std.specs.Prelude.{◌≡◌, true, IfOk, OnErr, IfErr};
+ghost use Rattle.path_db.specs.declared.command.Command.TheVariants.{Purge};
+ghost use Rattle.path_hub.specs.Committed.{ReceiptShows, RefusesHandingIn, EndsWaiting};
+
+use hub_readers::HubReceipt;
+use path_db::Command;
+use path_hub::{Hub, HubClaim, HubError, HubName, Waiter};
+use path_session::Now;
+use sector_dev::Device;
+use std::sync::Wait;
+use std::time::Clock;
+
+/// Hands in purges at a hub, each of the moment that a clock gives then. The hub is private to it,
+/// and no method hands in anything else.
+#[derive(Drop)]
+pub(crate) struct Purger<'a, D: Device, N: HubName, R: Wait + Clock, C: Now> {
+    hub: &'a Hub<D, N, R>,
+    clock: C,
+}
+
+impl<'a, D: Device, N: HubName, R: Wait + Clock, C: Now> Purger<'a, D, N, R, C> {
+    /// A purger that has handed nothing in.
+    pub(crate) fn new(hub: &'a Hub<D, N, R>, clock: C) -> Purger<'a, D, N, R, C>
+        ensures { result.clock ≡ clock }
+    {
+        Purger { hub, clock }
+    }
+
+    /// Hands in a purge of the clock's moment, and waits until it is committed or refused, or the
+    /// waiter has left. Then the purge goes on.
+    #[tactic(auto, using(crate::proofs::Purged::ends_waiting))]
+    pub(crate) fn purge<W: Waiter>(&mut self, waiter: &mut W) -> Result<HubReceipt<N>, HubError>
+        ensures committed { IfOk result (ReceiptShows N.opening (Purge (C.moment self.new.clock))) }
+        ensures why { IfErr result (EndsWaiting (W.has_left waiter.new) (N.refused (Purge (C.moment self.new.clock)))) }
+    {
+        let claim = self.hand_in()?;
+        self.hub.settle_for(claim, waiter)
+    }
+
+    /// Hands in a purge of the clock's moment.
+    fn hand_in(&mut self) -> Result<HubClaim<N>, HubError>
+        ensures claim { IfOk result (λ claim. claim ≡ Purge (C.moment self.new.clock)) }
+        ensures why { IfErr result RefusesHandingIn }
+        ensures refused { OnErr result (N.refused (Purge (C.moment self.new.clock)) ≡ true) }
+    {
+        let until = self.clock.now();
+        self.hub.hand_in(Command::Purge(until))
+    }
+}

@@ -1,0 +1,130 @@
+//! A server that purges by itself.
+
+use crate::server::doors::nap;
+use crate::server::peers::{EMPTY_LOOKUP, NO_DESTINATION, Peer};
+use crate::server::rows::{FOUND, LOOKUP, REGISTERED, REGISTRATION};
+use crate::server::stores::{LEAST, assert_opens_to, failing, formatted, opened};
+use crate::server::worlds::{Clients, Counts, Outside, options, serve_clients};
+use path_server::Options;
+use std::alloc::Global;
+use std::io;
+use std::net::SocketAddr;
+use std::process::Abort;
+use std::test::Fail;
+use std::time::Duration;
+
+/// The period of the purges, in milliseconds.
+const PERIOD: u64 = 20;
+
+/// How often a peer waits for something to be reported: for half a minute.
+const MOST_NAPS: u64 = 6_000;
+
+/// The options of a server for one session that purges after each period.
+fn purging(rt: &impl Abort, alloc: Global, period: Duration) -> Options {
+    let mut options = options(rt, alloc, 1);
+    options.purge = Some(period);
+    options
+}
+
+/// Registers, and keeps its session open for some periods.
+struct Staying;
+
+impl Clients for Staying {
+    type Seen = [bool; 2];
+
+    fn meet<R: Outside>(&self, rt: R, alloc: Global, to: SocketAddr) -> io::Result<[bool; 2]> {
+        let mut peer = Peer::connect(rt, alloc, to)?;
+        let is_open = peer.asks(EMPTY_LOOKUP, NO_DESTINATION)?;
+        peer.send(REGISTRATION)?;
+        for _ in 0..PERIOD {
+            nap(&rt);
+        }
+        // The place of the registration is not known, as a purge may come before it.
+        let _is_first = peer.receives(REGISTERED)?;
+        let is_found = peer.asks(LOOKUP, FOUND)?;
+        Ok([is_open, is_found])
+    }
+}
+
+// Each purge takes a place of its own, and drops nothing that is valid.
+#[test]
+fn server_purges_by_itself(rt: HostRuntime) -> Result<(), Fail> {
+    let alloc = rt.alloc();
+    let device = formatted(&rt, alloc, LEAST);
+    let options = purging(&rt, alloc, Duration::from_millis(PERIOD));
+    let counts = Counts::new();
+    let (device, served, seen) = serve_clients(&rt, alloc, device, &options, &Staying, &counts);
+    assert_eq!(rt; served, Ok(1));
+    assert_eq!(rt; seen?, [true; 2]);
+    assert_eq!(rt; counts.not_purged(), 0);
+    let store = opened(&rt, alloc, device);
+    let place = store.place();
+    assert!(rt; place > 1);
+    let _device = assert_opens_to(&rt, alloc, store.into_device(), 1, place);
+    Ok(())
+}
+
+/// Registers once, and ends its session.
+struct Leaving;
+
+impl Clients for Leaving {
+    type Seen = bool;
+
+    fn meet<R: Outside>(&self, rt: R, alloc: Global, to: SocketAddr) -> io::Result<bool> {
+        Peer::connect(rt, alloc, to)?.asks(REGISTRATION, REGISTERED)
+    }
+}
+
+// The server ends before its first period does.
+#[test]
+fn end_does_not_wait_for_a_period(rt: HostRuntime) -> Result<(), Fail> {
+    let alloc = rt.alloc();
+    let device = formatted(&rt, alloc, LEAST);
+    let options = purging(&rt, alloc, Duration::from_secs(1_000_000));
+    let counts = Counts::new();
+    let (device, served, seen) = serve_clients(&rt, alloc, device, &options, &Leaving, &counts);
+    assert_eq!(rt; served, Ok(1));
+    assert_eq!(rt; seen?, true);
+    let _device = assert_opens_to(&rt, alloc, device, 1, 1);
+    Ok(())
+}
+
+/// Waits until a purge was refused, and for some more periods.
+#[derive(Drop)]
+struct Refused<'a> {
+    counts: &'a Counts,
+}
+
+impl Clients for Refused<'_> {
+    type Seen = bool;
+
+    fn meet<R: Outside>(&self, rt: R, alloc: Global, to: SocketAddr) -> io::Result<bool> {
+        let mut peer = Peer::connect(rt, alloc, to)?;
+        for _ in 0..MOST_NAPS {
+            if self.counts.not_purged() > 0 {
+                break;
+            }
+            nap(&rt);
+        }
+        for _ in 0..PERIOD {
+            nap(&rt);
+        }
+        peer.asks(EMPTY_LOOKUP, NO_DESTINATION)
+    }
+}
+
+// The device fails in the second purge. It is refused, as are those after it: one report says so.
+#[test]
+fn refused_purges_are_reported_once(rt: HostRuntime) -> Result<(), Fail> {
+    let alloc = rt.alloc();
+    let device = failing(&rt, alloc);
+    let options = purging(&rt, alloc, Duration::from_millis(PERIOD));
+    let counts = Counts::new();
+    let clients = Refused { counts: &counts };
+    let (_device, served, seen) = serve_clients(&rt, alloc, device, &options, &clients, &counts);
+    assert_eq!(rt; served, Ok(1));
+    assert_eq!(rt; seen?, true);
+    assert_eq!(rt; counts.not_purged(), 1);
+    assert_eq!(rt; counts.stopped(), 1);
+    Ok(())
+}
