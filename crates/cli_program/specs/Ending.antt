@@ -1,5 +1,5 @@
 -- How the program ends.
-use Rattle.std.specs.Prelude.{ℕ, List, ◌++◌, codes, Result, Ok, Err}
+use Rattle.std.specs.Prelude.{ℕ, List, ◌++◌, codes, Result, Ok, Err, if◌then◌else◌}
 use Rattle.cli_once.specs.Fault as session
 use Rattle.cli_once.specs.declared.error.Fault.TheVariants as session_fault
 use Rattle.cli_store.specs.Fault as store
@@ -8,6 +8,7 @@ use Rattle.path_server.specs.declared.error.RunError.TheVariants as server
 use Rattle.cli_program.specs.declared.ending.Done.{Done}
 use Rattle.cli_program.specs.declared.ending.Done.TheVariants.{Carried, Refused}
 use Rattle.cli_program.specs.declared.ending.Ended.{Ended}
+use Rattle.cli_program.specs.declared.ending.Failed.{Failed}
 use Rattle.cli_program.specs.declared.ending.Ended.TheVariants.{Session, Store, Net}
 
 -- The words that say why the program ends.
@@ -26,7 +27,7 @@ ended_of server.NoMemory = Session session_fault.Memory
 ended_of server.Net = Net
 
 -- The exit status of the program.
-abbrev pub program_status : Result Done Ended → ℕ
+abbrev pub program_status : Result Done Failed → ℕ
 program_status (Ok Carried) = 0
 program_status (Ok Refused) = 2
-program_status (Err ended) = 1
+program_status (Err failed) = if failed.is_lasting then 3 else 1

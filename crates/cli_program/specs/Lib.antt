@@ -1,4 +1,5 @@
 pub mod Ending
 pub mod Failures
 pub mod Options
+pub mod Priorities
 pub mod Serving

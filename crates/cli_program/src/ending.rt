@@ -78,15 +78,42 @@ impl From<RunError> for Ended {
     }
 }
 
+/// How the program ends where the words are not carried out.
+#[derive(Clone, Copy, Debug, PartialEq, Eq)]
+pub struct Failed {
+    /// Why it ends.
+    pub ended: Ended,
+    /// Whether a server that is started again ends so, too, until its words, its file or its store
+    /// are changed.
+    pub is_lasting: bool,
+    /// Whether the last line on standard error begins with its priority.
+    pub is_marked: bool,
+}
+
+impl From<Ended> for Failed {
+    ghost use Rattle.std.specs.Prelude.{false};
+
+    ghost from_gives = { λ why failed. failed ≡ record { ended = why; is_lasting = false; is_marked = false } };
+
+    fn from(ended: Ended) -> Failed {
+        Failed {
+            ended,
+            is_lasting: false,
+            is_marked: false,
+        }
+    }
+}
+
 /// The exit status of the program: 0 where the words are carried out, 1 where the program ended
-/// before that, and 2 where the words cannot be read.
-pub fn status_of(outcome: &Result<Done, Ended>) -> u8
+/// before that, 2 where the words cannot be read, and 3 where a server that is started again ends
+/// so, too.
+pub fn status_of(outcome: &Result<Done, Failed>) -> u8
     ensures status { result ≡ program_status outcome.now }
-    ensures most { result ≤ 2 }
+    ensures most { result ≤ 3 }
 {
     match outcome {
         Ok(Done::Carried) => 0,
         Ok(Done::Refused) => 2,
-        Err(_) => 1,
+        Err(failed) => { if failed.is_lasting { 3 } else { 1 } }
     }
 }

@@ -2,7 +2,7 @@
 
 ghost use Rattle.std.specs.Prelude.{◌≡◌};
 ghost use Rattle.std.specs.IoError.{error_kind};
-ghost use Rattle.cli_program.specs.Failures.{ended_by, or_memory};
+ghost use Rattle.cli_program.specs.Failures.{ended_by, is_lasting, is_lasting_fault, is_lasting_kind, or_memory};
 
 use crate::ending::Ended;
 use cli_once::Fault;
@@ -13,6 +13,7 @@ use path_server::RunError;
 use std::fmt::{Display, Formatter};
 use std::io::ErrorKind;
 use std::{fmt, io};
+use store_open::OpenError;
 
 /// Why the words of a command line are not carried out. The program prints this as a line on
 /// standard error before that of `Ended`.
@@ -20,6 +21,8 @@ use std::{fmt, io};
 pub(crate) enum Failure<'a> {
     /// A text of the core ASes is none.
     Core(&'a str, IaError),
+    /// A text of the core ASes stands for more than one AS.
+    AnyCore(&'a str),
     /// The key is none. Its text is not shown.
     Key,
     /// The text of an option is no socket address.
@@ -47,6 +50,7 @@ impl Failure<'_> {
     {
         match self {
             Failure::Core(_, error) => Ended::Session(Fault::Text(*error)),
+            Failure::AnyCore(_) => Ended::Session(Fault::Text(IaError::BadText)),
             Failure::Key => Ended::Session(Fault::Hex),
             Failure::Address(_, _) => Ended::Net,
             Failure::Listen(_, error) => or_for_memory(error, Ended::Net),
@@ -60,6 +64,36 @@ impl Failure<'_> {
     }
 }
 
+/// Whether a store that could not be opened for this reason cannot be opened later, unless it is
+/// changed: it is none, or is damaged.
+fn is_lasting_fault(fault: StoreFault) -> bool
+    ensures { result ≡ is_lasting_fault fault }
+{
+    match fault {
+        StoreFault::Open(OpenError::NotAStore | OpenError::Pair(_) | OpenError::Journal(_)) => true,
+        StoreFault::Open(OpenError::Device | OpenError::NoMemory)
+        | StoreFault::Format(_)
+        | StoreFault::Copy(_)
+        | StoreFault::Checkpoint(_)
+        | StoreFault::File
+        | StoreFault::Taken
+        | StoreFault::Declined
+        | StoreFault::Memory
+        | StoreFault::Output => false,
+    }
+}
+
+/// Whether the system refuses a file or an address by an error of this kind until an operator has
+/// changed something: there is none, or the program may not have it.
+fn is_lasting_kind(kind: ErrorKind) -> bool
+    ensures { result ≡ is_lasting_kind kind }
+{
+    matches!(
+        kind,
+        ErrorKind::NotFound | ErrorKind::PermissionDenied | ErrorKind::InvalidInput
+    )
+}
+
 /// How the program ends where the system refuses a file or an address: as for any other want of
 /// memory, or as for another refusal.
 fn or_for_memory(error: &io::Error, other: Ended) -> Ended
@@ -71,6 +105,22 @@ fn or_for_memory(error: &io::Error, other: Ended) -> Ended
     }
 }
 
+impl Failure<'_> {
+    /// Whether a server that is started again fails so, too, until its words, its file or its store
+    /// are changed.
+    pub(crate) fn is_lasting(&self) -> bool
+        ensures { result ≡ is_lasting self.now }
+    {
+        match self {
+            Failure::Core(_, _) | Failure::AnyCore(_) | Failure::Key | Failure::Address(_, _) =>
+                true,
+            Failure::File(_, error) | Failure::Listen(_, error) => is_lasting_kind(error.kind()),
+            Failure::Store(_, fault) => is_lasting_fault(*fault),
+            Failure::Server(_) | Failure::Session(_) | Failure::Memory | Failure::Output => false,
+        }
+    }
+}
+
 impl Display for Failure<'_> {
     fn fmt<W: fmt::Write>(&self, f: &mut Formatter<W>) -> fmt::Result {
         match self {
@@ -78,6 +128,7 @@ impl Display for Failure<'_> {
             Failure::Core(text, IaError::TooLarge) => {
                 write!(f, "--{CORES}: a number of '{text}' is too large")
             }
+            Failure::AnyCore(text) => write!(f, "--{CORES}: '{text}' is not one AS"),
             Failure::Key => write!(f, "--{KEY}: no hexadecimal text of at most 64 bytes"),
             Failure::Address(option, text) => {
                 write!(

@@ -13,6 +13,7 @@ mod lines;
 mod notices;
 mod options;
 mod output;
+mod priority;
 mod running;
 mod server_options;
 mod serving;
@@ -23,6 +24,6 @@ mod stores;
 mod system;
 mod waiting;
 
-pub use ending::{Done, Ended, status_of};
+pub use ending::{Done, Ended, Failed, status_of};
 pub use running::{carry_out, run};
 pub use system::System;

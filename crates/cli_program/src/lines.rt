@@ -1,5 +1,6 @@
 //! The lines of a server, which one thread prints and all others hand over.
 
+use crate::priority::{Priority, priority_of};
 use crate::waiting::{Line, Taken, Waiting};
 use std::alloc::{AllocError, Global};
 use std::sync::{Condvar, CondvarTimeouts, Mutex, Wait};
@@ -34,11 +35,13 @@ pub(crate) struct Lines {
     came: Condvar,
     /// Rung when a line is printed.
     printed: Condvar,
+    /// Whether each line begins with its priority.
+    is_marked: bool,
 }
 
 impl Lines {
-    /// No lines yet.
-    pub(crate) fn new(alloc: Global) -> Result<Lines, AllocError> {
+    /// No lines yet. Each will begin with its priority where `is_marked` says so.
+    pub(crate) fn new(alloc: Global, is_marked: bool) -> Result<Lines, AllocError> {
         let desk = Desk {
             waiting: Waiting::new(alloc)?,
             is_printing: false,
@@ -48,6 +51,7 @@ impl Lines {
             desk: Mutex::new(desk),
             came: Condvar::new(),
             printed: Condvar::new(),
+            is_marked,
         })
     }
 
@@ -100,20 +104,36 @@ impl Lines {
             let Some(taken) = self.next(rt) else {
                 return;
             };
-            print(rt, &taken);
+            print(rt, &taken, self.is_marked);
             self.note_printed(rt);
         }
     }
 }
 
 /// Prints a line, after one for those that were dropped before it.
-fn print<R: Eprint>(rt: &R, taken: &Taken) {
+fn print<R: Eprint>(rt: &R, taken: &Taken, is_marked: bool) {
     if taken.dropped > 0 {
-        let _ = eprintln!(rt; "pathd: {} lines were dropped", taken.dropped);
+        let mark = mark_of(Priority::Warning, is_marked);
+        let _ = eprintln!(rt; "{mark}pathd: {} lines were dropped", taken.dropped);
     }
+    let mark = mark_of(priority_of_line(&taken.line), is_marked);
     let _ = match &taken.line {
-        Line::Report(report) => eprintln!(rt; "pathd: {}", *report),
-        Line::Fault(fault) => eprintln!(rt; "pathd: {}", *fault),
-        Line::Text(text) => eprintln!(rt; "pathd: {}", text.as_str()),
+        Line::Report(report) => eprintln!(rt; "{mark}pathd: {}", *report),
+        Line::Fault(fault) => eprintln!(rt; "{mark}pathd: {}", *fault),
+        Line::Text(_, text) => eprintln!(rt; "{mark}pathd: {}", text.as_str()),
     };
+}
+
+/// The priority of a line.
+fn priority_of_line(line: &Line) -> Priority {
+    match line {
+        Line::Report(report) => priority_of(report),
+        Line::Fault(_) => Priority::Error,
+        Line::Text(priority, _) => *priority,
+    }
+}
+
+/// What a line of a priority begins with, which is nothing where lines have none.
+fn mark_of(priority: Priority, is_marked: bool) -> &'static str {
+    if is_marked { priority.mark() } else { "" }
 }

@@ -4,6 +4,7 @@ ghost use Rattle.std.specs.Prelude.{◌≡◌};
 
 use crate::input::read_to_the_end;
 use crate::lines::Lines;
+use crate::priority::Priority;
 use crate::signals::Signals;
 use crate::system::Host;
 use crate::waiting::Line;
@@ -33,18 +34,20 @@ pub(crate) struct Notices<R> {
 }
 
 impl<R: Host> Notices<R> {
-    /// Starts the thread that prints, unless the program should be quiet. Memory is refused where
-    /// no thread is given. `last_fault` is that of the store's file.
+    /// Starts the thread that prints, unless the program should be quiet. Each line begins with its
+    /// priority where `is_marked` says so. Memory is refused where no thread is given. `last_fault`
+    /// is that of the store's file.
     pub(crate) fn new(
         rt: &R,
         is_quiet: bool,
+        is_marked: bool,
         last_fault: &Arc<LastFault>,
     ) -> Result<Notices<R>, AllocError> {
         let alloc: Global = rt.alloc();
         let shared = Arc::new(
             alloc,
             Shared {
-                lines: Lines::new(alloc)?,
+                lines: Lines::new(alloc, is_marked)?,
                 signals: Signals::new(),
                 last_fault: Arc::try_clone(last_fault)?,
             },
@@ -71,10 +74,15 @@ impl<R: Host> Notices<R> {
     /// Has a line of the program's own printed, unless the program should be quiet. A line for
     /// which there was no memory is left out.
     pub(crate) fn say(&self, line: Result<String, AllocError>) {
+        self.say_as(Priority::Info, line);
+    }
+
+    /// The same, for a line of a priority.
+    pub(crate) fn say_as(&self, priority: Priority, line: Result<String, AllocError>) {
         if let Ok(text) = line
             && !self.is_quiet
         {
-            self.shared.lines.push(&self.rt, Line::Text(text));
+            self.shared.lines.push(&self.rt, Line::Text(priority, text));
         }
     }
 

@@ -21,9 +21,24 @@ pub(crate) fn cores_in<'a>(
         return Ok(Vec::new(alloc));
     };
     match cores_of(alloc, list) {
-        Ok(cores) => Ok(cores),
+        Ok(cores) => match wildcard_in(list) {
+            Some(text) => Err(Failure::AnyCore(text)),
+            None => Ok(cores),
+        },
         Err(fault) => Err(no_cores(list, fault)),
     }
+}
+
+/// The first text of a list with a part that is 0, which stands for more than one AS.
+fn wildcard_in(list: &str) -> Option<&str> {
+    for text in list.split(',') {
+        if let Ok(core) = parse(text) {
+            if core.has_zero_part() {
+                return Some(text);
+            }
+        }
+    }
+    None
 }
 
 /// Why a list has no core ASes: its first text that is no ISD-AS, or want of memory.

@@ -2,9 +2,10 @@
 
 ghost use Rattle.std.specs.Prelude.{◌≤◌};
 
-use crate::ending::{Done, Ended, status_of};
+use crate::ending::{Done, Ended, Failed, status_of};
 use crate::failure::Failure;
 use crate::output::Output;
+use crate::priority::Priority;
 use crate::serving::serve_file;
 use crate::session::answer;
 use crate::stores::{copy_file, format_file, show_file, status_of_file, upgrade_file};
@@ -12,22 +13,22 @@ use crate::system::System;
 use clap::Error;
 use clap::error::ErrorKind;
 use cli_once::Fault;
-use cli_words::{CommandLine, Subcommand, read};
+use cli_words::{CommandLine, LOG_PRIORITY, Subcommand, read};
 use std::env;
 use std::io::{IsTerminal, Read, Write};
 
-/// Runs the command line; prints why it failed; returns the status: 0, 1 or 2, as `status_of` says.
+/// Runs the command line; prints why it failed; returns the status: 0 to 3, as `status_of` says.
 /// No clause says what the words do. The contracts of the commands that it calls do.
 pub fn carry_out<
     R: System,
     I: Read + IsTerminal + Drop + Send + 'static,
     O: Write + IsTerminal + Drop,
 >(rt: &R, input: I, output: O) -> u8
-    ensures { result ≤ 2 }
+    ensures { result ≤ 3 }
 {
     let outcome = run(rt, input, output);
-    if let Err(ended) = &outcome {
-        let _ = eprintln!(rt; "{}", *ended);
+    if let Err(failed) = &outcome {
+        let _ = eprintln!(rt; "{}{}", mark_where(failed.is_marked), failed.ended);
     }
     status_of(&outcome)
 }
@@ -39,14 +40,17 @@ pub fn run<R: System, I: Read + IsTerminal + Drop + Send + 'static, O: Write + I
     rt: &R,
     input: I,
     output: O,
-) -> Result<Done, Ended> {
+) -> Result<Done, Failed> {
+    let no_memory = Failed::from(Ended::Session(Fault::Memory));
     let Ok(words) = env::args(rt) else {
-        return Err(Ended::Session(Fault::Memory));
+        return Err(no_memory);
     };
-    let words: Vec<String> = words.collect(rt.alloc()).map_err(|_| Fault::Memory)?;
+    let words: Vec<String> = words.collect(rt.alloc()).map_err(|_| no_memory)?;
     let line = match read(rt.alloc(), words.as_slice()) {
         Ok(line) => line,
-        Err(error) => return Ok(refuse(rt, &error)?),
+        Err(error) => {
+            return refuse(rt, &error).map_err(|fault| Failed::from(Ended::Session(fault)));
+        }
     };
     let is_terminal = input.is_terminal() && output.is_terminal();
     let mut output = Output::new(output);
@@ -54,8 +58,14 @@ pub fn run<R: System, I: Read + IsTerminal + Drop + Send + 'static, O: Write + I
     match outcome {
         Ok(()) => Ok(Done::Carried),
         Err(failure) => {
-            explain(rt, &failure, &output);
-            Err(failure.ended())
+            let is_server = line.subcommand == Subcommand::Run;
+            let is_marked = is_server && line.options.get_flag(LOG_PRIORITY);
+            explain(rt, &failure, &output, is_marked);
+            Err(Failed {
+                ended: failure.ended(),
+                is_lasting: is_server && failure.is_lasting(),
+                is_marked,
+            })
         }
     }
 }
@@ -83,11 +93,21 @@ fn dispatch<'a, R: System, I: Read + Drop + Send + 'static, O: Write>(
 
 /// Prints a line that says why the words are not carried out. A line that cannot be printed is left
 /// out.
-fn explain<O>(rt: &impl Eprint, failure: &Failure<'_>, output: &Output<O>) {
+fn explain<O>(rt: &impl Eprint, failure: &Failure<'_>, output: &Output<O>, is_marked: bool) {
+    let mark = mark_where(is_marked);
     let _ = match (failure, output.error()) {
-        (Failure::Output, Some(error)) => eprintln!(rt; "pathd: {}: {error}", *failure),
-        _ => eprintln!(rt; "pathd: {}", *failure),
+        (Failure::Output, Some(error)) => eprintln!(rt; "{mark}pathd: {}: {error}", *failure),
+        _ => eprintln!(rt; "{mark}pathd: {}", *failure),
     };
+}
+
+/// What a line of why the program ends begins with, where it has its priority.
+fn mark_where(is_marked: bool) -> &'static str {
+    if is_marked {
+        Priority::Error.mark()
+    } else {
+        ""
+    }
 }
 
 /// Prints what was wrong with the command line, or the help that it asked for.

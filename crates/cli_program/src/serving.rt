@@ -16,7 +16,7 @@ use crate::starting::{say_addresses, say_opened, say_overfull, say_without_cores
 use crate::stores::{device_over, path_of};
 use crate::system::{Host, System};
 use clap::ArgMatches;
-use cli_words::{CORES, QUIET, STOP_ON_END_OF_INPUT};
+use cli_words::{CORES, LOG_PRIORITY, QUIET, STOP_ON_END_OF_INPUT};
 use path_hub::Left;
 use path_server::{Listeners, Options, RunError, serve_store};
 use sector_dev::{Device, FileDevice, LastFault, PositionedFile, SystemFile};
@@ -62,7 +62,8 @@ fn serve_noted<'a, R: System, I: Read + Drop + Send + 'static, O: Write>(
     input: I,
     output: &mut O,
 ) -> Result<u64, Failure<'a>> {
-    let Ok(notices) = Notices::new(rt, words.get_flag(QUIET), &site.last_fault) else {
+    let (is_quiet, is_marked) = (words.get_flag(QUIET), words.get_flag(LOG_PRIORITY));
+    let Ok(notices) = Notices::new(rt, is_quiet, is_marked, &site.last_fault) else {
         return Err(Failure::Memory);
     };
     if words.get_str(CORES).is_none() {

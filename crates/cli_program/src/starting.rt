@@ -1,6 +1,7 @@
 //! The lines of a server that starts.
 
 use crate::notices::Notices;
+use crate::priority::Priority;
 use crate::system::Host;
 use ckpt_pair::area_room;
 use path_server::Listeners;
@@ -13,7 +14,7 @@ use store_open::Store;
 /// Says that no core AS is named.
 pub(crate) fn say_without_cores<R: Host>(alloc: Global, notices: &Notices<R>) {
     let line = "no --cores: lookups between two named ASes are refused by 0x43";
-    notices.say(line.to_string(alloc));
+    notices.say_as(Priority::Warning, line.to_string(alloc));
 }
 
 /// Says what the opening of a store has found, and how long it took.

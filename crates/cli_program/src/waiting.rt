@@ -4,6 +4,7 @@ ghost use Rattle.std.specs.VecDeque.{deque_capacity};
 ghost use Rattle.cli_program.specs.declared.waiting.TheConstants.{MOST_LINES};
 ghost use Rattle.std.specs.Prelude.{◌≡◌, ◌+◌, ◌-◌, ◌^◌, ◌≤◌, ◌<◌, [], ◌∷◌, ◌++◌, ◌↔◌, length, min, option_map, option_to_list, IfOk, MatchOption, IsTrue};
 
+use crate::priority::Priority;
 use path_server::Report;
 use sector_dev::FileFault;
 use std::alloc::{AllocError, Global};
@@ -19,8 +20,8 @@ pub(crate) enum Line {
     Report(Report),
     /// What failed in the store's file.
     Fault(FileFault),
-    /// A line of the program's own.
-    Text(String),
+    /// A line of the program's own, with its priority.
+    Text(Priority, String),
 }
 
 /// A line that no longer waits.

@@ -3,7 +3,7 @@
 //! has to fail for them.
 
 use cli_once::Fault;
-use cli_program::{Ended, status_of};
+use cli_program::{Ended, Failed, status_of};
 use cli_store::Fault as StoreFault;
 use path_server::RunError;
 use session_core::FrameError;
@@ -15,7 +15,7 @@ use store_open::{FormatError, OpenError, StoreError};
 fn assert_line(rt: &impl Abort, alloc: Global, ended: Ended, wanted: &str) {
     let line = ended.to_string(alloc).expect(rt, "no memory");
     assert_eq!(rt; line.as_str(), wanted);
-    assert_eq!(rt; status_of(&Err(ended)), 1, "{wanted}");
+    assert_eq!(rt; status_of(&Err(Failed::from(ended))), 1, "{wanted}");
 }
 
 /// The lines of faults of a store.
@@ -44,6 +44,17 @@ fn lines_of_ends(rt: HostRuntime) {
     assert_line(&rt, rt.alloc(), turns, "error: frame 5");
     let net = Ended::from(RunError::Net);
     assert_line(&rt, rt.alloc(), net, "error: net");
+}
+
+// A server that is started again fails in the same way.
+#[test]
+fn status_of_what_lasts(rt: HostRuntime) {
+    let failed = Failed {
+        ended: Ended::from(StoreFault::Open(OpenError::NotAStore)),
+        is_lasting: true,
+        is_marked: false,
+    };
+    assert_eq!(rt; status_of(&Err(failed)), 3);
 }
 
 #[test]

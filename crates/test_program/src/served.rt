@@ -89,6 +89,19 @@ const PARTS: &[Part] = &[
         )],
     },
     Part {
+        what: "lines with their priorities, and purges by itself",
+        before: Before::Nothing,
+        peers: Peers {
+            sessions: &[LOOKUP, NO_KIND],
+            together: 0,
+            silent: 0,
+        },
+        lines: &[(
+            "pathd run other --listen ADDR --sessions 2 --idle 60 --purge 4294967295 --log-priority",
+            &[],
+        )],
+    },
+    Part {
         what: "a key, and a peer that is silent",
         before: Before::Nothing,
         peers: Peers {

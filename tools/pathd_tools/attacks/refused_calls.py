@@ -94,6 +94,11 @@ def called(words: list[str], env: dict) -> tuple[int, bytes, bytes]:
 # Commands
 
 
+def statuses(command: str) -> set[int]:
+    """The statuses of a command that has failed: of a server also that of what a restart can't mend."""
+    return {1, 3} if command == "run" else {1}
+
+
 def try_command(program: str, store: Path, command: str, env: dict, kind: str, how: str, first: bytes | None) -> str:
     """Runs a command over a store, and answers what came of it."""
     words = [program, command, str(store)]
@@ -120,12 +125,12 @@ def try_command(program: str, store: Path, command: str, env: dict, kind: str, h
             raise Wrong("ends as if nothing had failed")
         return "passed"
     if kind in BESIDE:
-        return ended_beside(program, store, before, (status, out, err), wanted)
+        return ended_beside(program, store, command, before, (status, out, err), wanted)
     lines = {"error: open 2", "error: device 1", "error: format 3"}
     if kind == "memory":
         lines = {"error: memory", *NO_PATH} if OF_PATH in err else {"error: memory"}
     line = runs.last_line(err)
-    if status != 1 or not wanted[1].startswith(out) or line not in lines:
+    if status not in statuses(command) or not wanted[1].startswith(out) or line not in lines:
         raise Wrong(f"status {status}, {out!r}, {err!r}")
     if how in PASSING:
         raise Wrong(f"ends at an interrupted or shorter transfer: {err!r}")
@@ -134,11 +139,11 @@ def try_command(program: str, store: Path, command: str, env: dict, kind: str, h
     return line
 
 
-def ended_beside(program: str, store: Path, before: tuple | None, ended: tuple[int, bytes, bytes], wanted: tuple[int, bytes, bytes]) -> str:
+def ended_beside(program: str, store: Path, command: str, before: tuple | None, ended: tuple[int, bytes, bytes], wanted: tuple[int, bytes, bytes]) -> str:
     """What came of a refused call that isn't one of the store's file, where it ended a command."""
     status, out, err = ended
     line = runs.last_line(err)
-    if status != 1 or not wanted[1].startswith(out) or not BESIDE_LINES.fullmatch(line):
+    if status not in statuses(command) or not wanted[1].startswith(out) or not BESIDE_LINES.fullmatch(line):
         raise Wrong(f"status {status}, {out!r}, {err!r}")
     if before and called([program, "show", str(store)], {}) != before:
         raise Wrong("what was there isn't shown any more")
