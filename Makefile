@@ -32,7 +32,7 @@ PAGES = README.md CHANGELOG.md docs/CLI.md docs/PROTOCOL.md docs/STORE.md docs/P
 TASKS = $(wildcard docs/operating/*.md)
 EXAMPLES = deploy/pathd.nft deploy/pathd.rules.yml deploy/grafana-dashboard.json \
   deploy/pathd.service.d/status.conf
-UNIT_FILES = pathd.service pathd-failed@.service pathd-purge.service pathd-purge.timer
+UNIT_FILES = pathd.service pathd-failed@.service
 # The units and the man page name the paths of the default prefix.
 PLACED = sed 's|/usr/local/|$(PREFIX)/|g'
 # Of the pages that are installed, deploy/ and docs/ are other folders. What a link leads to that is

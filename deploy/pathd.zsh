@@ -71,9 +71,11 @@ _pathd() {
         '--idle[end a session whose peer is silent for so long]:SECONDS:' \
         '--future[refuse a time more than so long after now]:SECONDS:' \
         '--spare[seats for sessions without commands under way]:SEATS:' \
+        '--purge[drop expired segments each time after so long]:SECONDS:' \
         '--stop-on-end-of-input[end once standard input has ended]' \
         '--grace[how long open sessions have at such an end]:SECONDS:' \
         '--quiet[print only why the program ends]' \
+        '--log-priority[begin each line with its priority]' \
         '1:DEV:_files'
       ;;
     help)

@@ -1,16 +1,14 @@
 #!/usr/bin/env bash
 # Tries the steps of docs/operating and the units of deploy/ in a container of this machine's own
-# system, whose first process is systemd: installing, the unit's walls, purges by the timer, stops
-# and signals, statuses, a backup, a volume as DEV, a fault of that device, the firewall, and a
+# system, whose first process is systemd: installing, the unit's walls, purges, stops and signals,
+# statuses, a backup, a volume as DEV, a fault of that device, the firewall, and a
 # restart of the container. `tools/pathd-tools units-inside` has the list, and runs the blocks of
 # those pages as they are written.
 #
-#     tools/pathd-tools units [--short] [PROGRAM]
+#     tools/pathd-tools units [PROGRAM]
 #
-# PROGRAM is crates/pathd/out/pathd if left out, which `rt run` builds. With --short the timer's
-# times are seconds; without it they are its own, and the script waits six minutes for the second
-# purge. It has to be run as root, on Debian 12 with systemd-container, python3-protobuf,
-# protobuf-compiler, nftables, iproute2 and make
+# PROGRAM is crates/pathd/out/pathd if left out, which `rt run` builds. It has to be run as root, on
+# Debian 12 with systemd-container, python3-protobuf, protobuf-compiler, nftables, iproute2 and make
 # (tools/pathd-tools need says what is missing), and a free loop device, which nobody else may take
 # meanwhile.
 #
@@ -26,8 +24,6 @@ if [ "${1:-}" != --in-own-mounts ]; then
   exec unshare --mount --propagation private "${BASH_SOURCE[0]}" --in-own-mounts "$@"
 fi
 shift
-short=
-[ "${1:-}" = --short ] && { short=--short; shift; }
 program=$(realpath -m "${1:-$top/crates/pathd/out/pathd}")
 [ -x "$program" ] || { echo "no program: $program" >&2; exit 2; }
 
@@ -76,7 +72,7 @@ for unit in systemd-sysctl systemd-modules-load systemd-udevd systemd-udev-trigg
   ln -sf /dev/null "$root/etc/systemd/system/$unit.service"
 done
 
-# systemd-nspawn lets nobody write the kernel's settings. The unit writes one of them, drop_caches, and so they are opened once systemd has started.
+# systemd-nspawn lets nobody write the kernel's settings. 'After a fault' writes one of them, drop_caches, and so they are opened once systemd has started.
 cat >"$root/etc/systemd/system/open-settings.service" <<'END'
 [Service]
 Type=oneshot
@@ -127,7 +123,7 @@ boot() { # starts the container, and waits until it is up
 }
 
 boot
-inside tools/pathd-tools units-inside --loop "$loop" $short
+inside tools/pathd-tools units-inside --loop "$loop"
 # systemd-logind, which `systemctl reboot` would ask, is not there. With --keep-unit systemd-nspawn ends with the status 133 where the container restarts.
 inside systemctl start --no-block reboot.target
 status=0

@@ -1,7 +1,7 @@
 """Tries the steps of docs/operating on a system whose first process is systemd;
 tools/pathd-tools units starts it in a container.
 
-    tools/pathd-tools units-inside --loop DEVICE [--short]
+    tools/pathd-tools units-inside --loop DEVICE
     tools/pathd-tools units-inside --after-restart
 
 It installs programs, makes a user, formats stores and kills servers: it is for a container or a
@@ -32,7 +32,6 @@ STATE = Path("/var/lib/pathd-units.state")
 DROP_IN = Path("/etc/systemd/system/pathd.service.d")
 SETTINGS = Path("/etc/default/pathd")
 REPORT = Path("/etc/pathd/on-failure")
-TIMER_DROP_IN = Path("/etc/systemd/system/pathd-purge.timer.d")
 PORT = 30252
 NUMBERS_PORT = 30253
 CORE = 0x0001_FF00_0000_0110
@@ -264,7 +263,7 @@ def install() -> None:
     SETTINGS.write_text(text.replace("CORES=1-ff00:0:110", "CORES="))
     begun = time.time()
     STEPS.expect("without core ASes it doesn't start", run("systemctl", "start", "pathd").returncode != 0)
-    STEPS.expect("the journal says why", "CORES is not set in /etc/default/pathd" in journal("pathd", begun), journal("pathd", begun))
+    STEPS.expect("the journal says why", "--cores: '' is no ISD-AS" in journal("pathd", begun), journal("pathd", begun))
     must("systemctl", "stop", "pathd")
     SETTINGS.write_text(text)
     start()
@@ -294,7 +293,7 @@ def look_at_walls() -> None:
             STEPS.expect(f"{file} is {wanted}", (group / file).read_text().strip() == wanted)
         else:
             STEPS.leave_out(f"{file} of the unit", f"this hierarchy of cgroups has no controller {controller}")
-    for unit in ("pathd.service", "pathd-failed@.service", "pathd-purge.service", "pathd-purge.timer"):
+    for unit in ("pathd.service", "pathd-failed@.service"):
         done = run("systemd-analyze", "verify", TOP / "deploy" / unit)
         lines = [line for line in done.stderr.splitlines() if "pathd" in line]
         STEPS.expect(f"systemd-analyze verify prints nothing of {unit}", not lines, lines)
@@ -346,7 +345,7 @@ def stop_and_kill() -> None:
 
 
 def end_by_status() -> None:
-    """The status 1, after which the unit is started again; the status 2, after which it stays down; and too many starts."""
+    """The status 1, after which the unit is started again; the statuses 2 and 3, after which it stays down; and too many starts."""
     begun = time.time()
     with socket.create_server(("127.0.0.1", PORT)):
         run("systemctl", "reset-failed", "pathd")
@@ -362,6 +361,17 @@ def end_by_status() -> None:
     time.sleep(7)
     STEPS.expect("status 2, of words that can't be read: the unit stays down", (property_of("ActiveState"), property_of("ExecMainStatus"), property_of("NRestarts")) == ("failed", "2", "0"))
     take_away(words)
+    set_settings(STORE="/var/lib/pathd/none")
+    begun = time.time()
+    run("systemctl", "reset-failed", "pathd")
+    run("systemctl", "start", "pathd")
+    until(is_down)
+    time.sleep(7)
+    STEPS.expect("status 3, as there is no store: the unit stays down", (property_of("ActiveState"), property_of("ExecMainStatus"), property_of("NRestarts")) == ("failed", "3", "0"))
+    must("journalctl", "--sync")
+    said = run("journalctl", "-o", "cat", "--no-pager", "-u", "pathd", "-p", "err", "--since", f"@{begun:.3f}").stdout
+    STEPS.expect("the journal has the reason as an error", "cannot open /var/lib/pathd/none" in said and "error: device 1" in said, said)
+    set_settings()
     start_too_often()
 
 
@@ -398,35 +408,30 @@ def register_expiring(seconds: int, number: int) -> None:
     STEPS.expect(f"a row is taken that expires in {seconds} seconds", reply[0] == 0x81 and reply[9:13] == b"\0\0\0\1", reply.hex())
 
 
-def purge(is_short: bool) -> None:
-    """'Purging', as it is written, and the timer."""
-    # How long is waited at the most; on a busy machine the client alone takes seconds.
-    first, later = (30, 40) if is_short else (100, 340)
-    if is_short:
-        TIMER_DROP_IN.mkdir(exist_ok=True)
-        (TIMER_DROP_IN / "short.conf").write_text("[Timer]\nOnActiveSec=\nOnUnitActiveSec=\nOnActiveSec=2s\nOnUnitActiveSec=6s\nAccuracySec=100ms\n")
-    begun = time.time()
+def purged(counts: str) -> bool:
+    """Whether the block of 'Purging' prints these counts."""
     done = run_block("run", "Purging")
-    STEPS.expect("the block of 'Purging' runs, and its purge prints the counts", done.returncode == 0 and re.search(r"^place \d+: 0 inserted, 0 updated, 0 kept, 0 purged$", done.stdout, re.M) is not None, done.stdout + done.stderr)
-    STEPS.expect("the timer purges for the first time", until(lambda: "0 purged" in journal("pathd-purge", begun), first), journal("pathd-purge", begun))
-    done = run("systemctl", "show", "-p", "Result", "-p", "ExecMainStatus", "pathd-purge.service").stdout
-    STEPS.expect("the service of the purge ends with success", "Result=success" in done and "ExecMainStatus=0" in done, done)
+    return done.returncode == 0 and re.search(rf"^place \d+: 0 inserted, 0 updated, 0 kept, {counts}$", done.stdout, re.M) is not None
+
+
+def purge() -> None:
+    """'Purging', as it is written, and the server's own purges."""
+    STEPS.expect("the settings have the server purge each five minutes", "--purge 300" in (TOP / "deploy/pathd.default").read_text())
+    set_settings()
+    must("systemctl", "restart", "pathd")
+    STEPS.expect("the block of 'Purging' runs, and its purge prints the counts", until(is_up) and purged("0 purged"))
     register_expiring(3, 1)
-    STEPS.expect("the timer's next purge drops the row that has expired", until(lambda: "1 purged" in journal("pathd-purge", begun), later), journal("pathd-purge", begun))
-    if is_short:
-        must("systemctl", "stop", "pathd")
-        time.sleep(15)
-        begun = time.time()
-        start()
-        STEPS.expect("the timer goes on after the server was down at its moments", until(lambda: "0 purged" in journal("pathd-purge", begun), later), must("systemctl", "list-timers", "--no-pager", "--all"))
-    begun = time.time()
+    time.sleep(5)
+    STEPS.expect("without `--purge` a purge by hand drops the row that has expired", purged("1 purged"))
+    set_settings(OPTIONS="--purge 1")
+    must("systemctl", "restart", "pathd")
+    until(is_up)
     register_expiring(3, 2)
-    time.sleep(4)
-    must("systemctl", "start", "pathd-purge.service")
-    STEPS.expect("a purge by hand through the unit drops a row, too", "1 purged" in journal("pathd-purge", begun), journal("pathd-purge", begun))
-    rated = must("systemd-analyze", "security", "--no-pager", "pathd-purge.service").strip().splitlines()[-1]
-    print(f"   {rated}")
-    must("systemctl", "stop", "pathd-purge.timer")
+    time.sleep(10)
+    STEPS.expect("with `--purge 1` the server has dropped it before", purged("0 purged"))
+    set_settings()
+    must("systemctl", "restart", "pathd")
+    until(is_up)
 
 
 def back_up() -> None:
@@ -663,27 +668,10 @@ def limit_access() -> None:
         must("ip", "netns", "delete", name)
 
 
-def deny_settings() -> None:
-    """The line ExecStartPre=+ where the system's settings can't be written, as they can't in most containers."""
-    mounted = [line.split()[4] for line in Path("/proc/self/mountinfo").read_text().splitlines()]
-    if "/proc/sys" not in mounted:
-        STEPS.leave_out("a start where /proc/sys can't be written", "this is no container")
-        return
-    must("systemctl", "stop", "pathd")
-    must("mount", "-o", "remount,bind,ro", "/proc/sys")
-    begun = time.time()
-    is_started = run("systemctl", "start", "pathd").returncode == 0
-    text = journal("pathd", begun)
-    STEPS.expect("where /proc/sys can't be written the unit doesn't start", not is_started and "drop_caches" in text, text)
-    must("mount", "-o", "remount,bind,rw", "/proc/sys")
-    STEPS.expect("where it can be, it does by itself", until(is_up))
-
-
 def after_restart() -> None:
     """What the next start of the system finds: the unit is enabled."""
     STEPS.expect("after a restart of the system the unit is active by itself", until(is_up))
-    STEPS.expect("so is the timer", property_of("ActiveState", "pathd-purge.timer") == "active")
-    must("systemctl", "stop", "pathd-purge.timer", "pathd")
+    must("systemctl", "stop", "pathd")
     STEPS.expect("what was acknowledged before the restart is shown", pickle.loads(STATE.read_bytes()).has_all(shown()))
 
 
@@ -691,7 +679,6 @@ def main(words: list[str]) -> int:
     """Tries all steps."""
     parser = toolbox.parser(__doc__)
     parser.add_argument("--loop", help="a loop device that is free")
-    parser.add_argument("--short", action="store_true", help="the timer's times are seconds")
     parser.add_argument("--after-restart", action="store_true")
     parser.add_argument("--probe", help=argparse.SUPPRESS)
     parser.add_argument("--connections", type=int, help=argparse.SUPPRESS)
@@ -709,10 +696,9 @@ def main(words: list[str]) -> int:
         install()
         look_at_walls()
         fill_sessions()
-        deny_settings()
         stop_and_kill()
         end_by_status()
-        purge(options.short)
+        purge()
         back_up()
         watch()
         must("systemctl", "stop", "pathd")
