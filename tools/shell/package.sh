@@ -44,7 +44,7 @@ sh_inside() { # runs a line of the shell in the new system
 }
 
 make -C "$top" --silent deb PROGRAM="$program"
-version=0~$(date --utc --date="@$(git -C "$top" log -1 --format=%ct)" +%Y%m%d%H%M%S)
+version=$("$top/deploy/debian/version")
 deb=$top/out/pathd_${version}_$(dpkg --print-architecture).deb
 sum=$(sha256sum <"$deb")
 make -C "$top" --silent deb PROGRAM="$program" >/dev/null
