@@ -30,6 +30,7 @@ PAGES = README.md CHANGELOG.md docs/CLI.md docs/PROTOCOL.md docs/STORE.md docs/P
   docs/WATCHING.md docs/NETWORK.md docs/CAPACITY.md docs/LIMITS.md docs/GATEWAY.md docs/codes.csv docs/segments.proto \
   docs/load.svg docs/place.svg docs/frame.svg docs/syncs.svg docs/states.svg docs/memory.svg
 TASKS = $(wildcard docs/operating/*.md)
+PICTURES = docs/plots.png docs/plots-dark.png
 EXAMPLES = deploy/pathd.nft deploy/pathd.rules.yml deploy/grafana-dashboard.json \
   deploy/pathd.service.d/status.conf
 UNIT_FILES = pathd.service pathd-failed@.service
@@ -38,7 +39,7 @@ PLACED = sed 's|/usr/local/|$(PREFIX)/|g'
 # Of the pages that are installed, deploy/ and docs/ are other folders. What a link leads to that is
 # not installed is left out, and its text stays; a link's text may have two lines.
 nothing =
-NAMES = $(subst $(nothing) ,|,$(strip $(notdir $(PAGES) $(TASKS) $(EXAMPLES))))
+NAMES = $(subst $(nothing) ,|,$(strip $(notdir $(PAGES) $(TASKS) $(PICTURES) $(EXAMPLES))))
 LINKED = sed -zE 's!\]\(docs/!](!g; s!\]\(\.\./(\.\./)?(README|CHANGELOG)\.md!](\1\2.md!g; \
   s!\]\((\.\./)?((\.\./)?)deploy/([^)]*/)?!](\2examples/!g; \
   s!\]\(((\.\./|operating/|examples/|\.\./examples/)?($(NAMES))(\#[^)]*)?|\#[^)]*|https?:[^)]*)\)!]\x01\1\x02!g; \
@@ -71,6 +72,7 @@ install-pages:
 	for page in $(PAGES); do $(LINKED) $$page >$(DOC)/$${page##*/} || exit; done
 	for page in $(TASKS); do $(LINKED) $$page >$(DOC)/operating/$${page##*/} || exit; done
 	chmod 644 $(patsubst %,$(DOC)/%,$(notdir $(PAGES))) $(DOC)/operating/*.md
+	install -m 644 $(PICTURES) $(DOC)
 	install -m 644 $(EXAMPLES) $(DOC)/examples
 
 # The settings and the store stay.

@@ -28,6 +28,7 @@ PROGRAMS = [
     ("python3", "closed-handles PROGRAM"),
     ("python3", "terminal PROGRAM"),
     ("python3", "going-on PROGRAM"),
+    ("chromium gcc", "plots-shown PROGRAM"),
     ("strace python3", "server-calls PROGRAM"),
     ("root losetup", "block-device PROGRAM"),
     ("root ip nft wg haproxy stunnel openssl python3-protobuf", "network PROGRAM"),

@@ -100,6 +100,7 @@ THINGS = [
     program("nft", "nftables"),
     program("make", "make"),
     program("promtool", "prometheus"),
+    program("chromium", "chromium"),
     program("debootstrap", "debootstrap"),
     program("ip", "iproute2"),
     program("wg", "wireguard-tools"),

@@ -1,8 +1,9 @@
 //! The responses to a peer.
 
 ghost use Rattle.std.specs.Prelude.{◌≡◌, IfOk, string_bytes};
-ghost use Rattle.status_page.specs.Response.{page_head, response_text};
+ghost use Rattle.status_page.specs.Response.{page_head, response_text, plots_head, plots_response};
 
+use crate::plots::{plots, policy};
 use std::alloc::{AllocError, Global};
 
 /// The response to a question for the server's health, where commands are accepted.
@@ -13,11 +14,15 @@ pub const HEALTHY: &str =
 pub const STOPPED: &str =
     "HTTP/1.1 503 Service Unavailable\r\nContent-Type: text/plain\r\nContent-Length: 65\r\nConnection: close\r\n\r\nthe store has stopped: no command is accepted, and lookups go on\n";
 
+/// The response to a question whether commands are accepted, where a call of the device hangs.
+pub const HANGS: &str =
+    "HTTP/1.1 503 Service Unavailable\r\nContent-Type: text/plain\r\nContent-Length: 71\r\nConnection: close\r\n\r\na call of the device hangs: no command is committed, and lookups go on\n";
+
 /// The response to a request for another path.
 pub const NOT_FOUND: &str =
     "HTTP/1.1 404 Not Found\r\nContent-Length: 0\r\nConnection: close\r\n\r\n";
 
-/// The response to a request for the page by another method than GET.
+/// The response to a request for what is there by another method than GET.
 pub const NOT_ALLOWED: &str =
     "HTTP/1.1 405 Method Not Allowed\r\nAllow: GET\r\nContent-Length: 0\r\nConnection: close\r\n\r\n";
 
@@ -40,5 +45,25 @@ fn page_head(alloc: Global, len: usize) -> Result<String, AllocError>
 {
     format!(in alloc;
         "HTTP/1.1 200 OK\r\nContent-Type: text/plain; version=0.0.4\r\nContent-Length: {len}\r\nConnection: close\r\n\r\n"
+    )
+}
+
+/// The response that carries the page of plots.
+pub fn plots_response(alloc: Global) -> Result<String, AllocError>
+    ensures { IfOk result (λ text. string_bytes text ≡ plots_response) }
+{
+    let page = plots();
+    let head = plots_head(alloc, page.len())?;
+    format!(in alloc; "{head}{page}")
+}
+
+/// The head of the response that carries a page of plots of `len` bytes.
+#[tactic(auto, unfolding(crate::specs::Response::plots_head))]
+fn plots_head(alloc: Global, len: usize) -> Result<String, AllocError>
+    ensures { IfOk result (λ text. string_bytes text ≡ plots_head len) }
+{
+    let policy = policy();
+    format!(in alloc;
+        "HTTP/1.1 200 OK\r\nContent-Type: text/html; charset=utf-8\r\nContent-Security-Policy: {policy}\r\nX-Content-Type-Options: nosniff\r\nContent-Length: {len}\r\nConnection: close\r\n\r\n"
     )
 }

@@ -3,7 +3,8 @@
 //!
 //! To the layer above: `page` is the text of a state's numbers and of what the server has done, to
 //! the byte. `read_head` returns what the bytes of a peer ask for, by the grammar of HTTP/1.1.
-//! `response` is the response that carries a page.
+//! `response` is the response that carries a page, and `plots_response` the one that carries the
+//! page of plots, which draws these numbers in a browser.
 #![tactic(auto)]
 
 mod answers;
@@ -13,11 +14,14 @@ mod commits;
 mod counts;
 mod lines;
 mod phases;
+mod plots;
 mod request;
 mod sessions;
 mod text;
 
-pub use answers::{BAD_REQUEST, HEALTHY, NOT_ALLOWED, NOT_FOUND, STOPPED, response};
+pub use answers::{
+    BAD_REQUEST, HANGS, HEALTHY, NOT_ALLOWED, NOT_FOUND, STOPPED, plots_response, response,
+};
 pub use build::VERSION;
 pub use counts::{CallTime, CodeCount, Counts, EndCounts, RefusedCounts};
 pub use request::{Asked, read_head};

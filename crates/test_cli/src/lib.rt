@@ -1,8 +1,10 @@
 //! Tests of the command line: how its words are read, commands over a store whose device, output or
-//! memory fails, the page of a server's numbers, and the error line and the status with which the
-//! program ends. Whole command lines are in `test_program`.
+//! memory fails, the page of a server's numbers and what else its peers are answered, and the error
+//! line and the status with which the program ends. Whole command lines are in `test_program`.
 #![tactic(auto)]
 
+#[cfg(test)]
+mod answers;
 #[cfg(test)]
 mod asking;
 #[cfg(test)]

@@ -8,7 +8,7 @@ use store_loops::{CommitTimes, DeviceCall};
 
 /// A state that has committed five commands and has two rows, while a group is being written and a
 /// journal is sealed.
-const NUMBERS: Numbers = Numbers {
+pub(crate) const NUMBERS: Numbers = Numbers {
     place: 5,
     rows: 2,
     bytes: 186,
@@ -26,7 +26,7 @@ const NUMBERS: Numbers = Numbers {
 const TIMES: [u64; 4] = [700, 4_000, 5_000, 61_060_300];
 
 /// What the server has done, while a gate is being synced.
-fn counts() -> Counts {
+pub(crate) fn counts() -> Counts {
     let mut commits = CommitTimes::new();
     for time in TIMES {
         commits.add(time);

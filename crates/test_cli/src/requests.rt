@@ -3,7 +3,7 @@
 use status_page::{Asked, read_head};
 use std::test::Fail;
 
-const REQUESTS: [(&str, Asked); 17] = [
+const REQUESTS: [(&str, Asked); 27] = [
     ("GET /metrics HTTP/1.1\r\nHost: a\r\n\r\n", Asked::Page),
     ("GET /metrics HTTP/1.0\r\n\r\n", Asked::Page),
     ("GET /metrics HTTP/1.1\n\n", Asked::Page),
@@ -11,10 +11,20 @@ const REQUESTS: [(&str, Asked); 17] = [
     ("GET /healthz HTTP/1.0\r\n\r\n", Asked::Health),
     ("HEAD /healthz HTTP/1.1\r\n\r\n", Asked::OtherMethod),
     ("GET /health HTTP/1.1\r\n\r\n", Asked::OtherPath),
-    ("GET / HTTP/1.1\r\n\r\n", Asked::OtherPath),
+    ("GET / HTTP/1.1\r\nHost: a\r\n\r\n", Asked::Plots),
+    ("GET / HTTP/1.0\r\n\r\n", Asked::Plots),
+    ("HEAD / HTTP/1.1\r\n\r\n", Asked::OtherMethod),
+    ("GET // HTTP/1.1\r\n\r\n", Asked::OtherPath),
+    ("GET /? HTTP/1.1\r\n\r\n", Asked::OtherPath),
+    ("GET /livez HTTP/1.1\r\n\r\n", Asked::Alive),
+    ("POST /livez HTTP/1.1\r\n\r\n", Asked::OtherMethod),
+    ("GET /livez/ HTTP/1.1\r\n\r\n", Asked::OtherPath),
+    ("GET /readyz HTTP/1.1\r\n\r\n", Asked::Ready),
+    ("HEAD /readyz HTTP/1.1\r\n\r\n", Asked::OtherMethod),
+    ("GET /Readyz HTTP/1.1\r\n\r\n", Asked::OtherPath),
     ("GET /metrics/ HTTP/1.1\r\n\r\n", Asked::OtherPath),
     ("GET /metrics?a HTTP/1.1\r\n\r\n", Asked::OtherPath),
-    ("POST / HTTP/1.1\r\n\r\n", Asked::OtherPath),
+    ("POST / HTTP/1.1\r\n\r\n", Asked::OtherMethod),
     ("POST /metrics HTTP/1.1\r\n\r\n", Asked::OtherMethod),
     ("get /metrics HTTP/1.1\r\n\r\n", Asked::OtherMethod),
     ("", Asked::More),

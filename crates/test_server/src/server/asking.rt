@@ -1,5 +1,5 @@
-//! What a server's second listener answers to other requests than those of its numbers, and to
-//! peers that send nothing.
+//! What a server's second listener answers to requests that it refuses, and to peers that send
+//! nothing.
 
 use crate::server::peers::{EMPTY_LOOKUP, NO_DESTINATION, Peer};
 use crate::server::stores::{LEAST, assert_opens_to, formatted};
@@ -35,9 +35,15 @@ fn large_head(alloc: Global) -> io::Result<String> {
 }
 
 /// Requests, and the first line of the answer to each.
-const REQUESTS: [(&str, &str); 6] = [
-    ("GET / HTTP/1.1\r\n\r\n", "HTTP/1.1 404 Not Found"),
-    ("POST / HTTP/1.1\r\n\r\n", "HTTP/1.1 404 Not Found"),
+const REQUESTS: [(&str, &str); 9] = [
+    ("GET /index.html HTTP/1.1\r\n\r\n", "HTTP/1.1 404 Not Found"),
+    ("GET /metrics/ HTTP/1.1\r\n\r\n", "HTTP/1.1 404 Not Found"),
+    ("POST /ready HTTP/1.1\r\n\r\n", "HTTP/1.1 404 Not Found"),
+    ("POST / HTTP/1.1\r\n\r\n", "HTTP/1.1 405 Method Not Allowed"),
+    (
+        "HEAD /livez HTTP/1.1\r\n\r\n",
+        "HTTP/1.1 405 Method Not Allowed",
+    ),
     (
         "POST /metrics HTTP/1.1\r\nContent-Length: 4\r\n\r\nbody",
         "HTTP/1.1 405 Method Not Allowed",

@@ -24,6 +24,15 @@ pub(crate) const GET_NUMBERS: &str = "GET /metrics HTTP/1.1\r\nHost: localhost\r
 /// The request of the server's health.
 const GET_HEALTH: &str = "GET /healthz HTTP/1.1\r\nHost: localhost\r\n\r\n";
 
+/// The request that says that the server answers.
+const GET_ALIVE: &str = "GET /livez HTTP/1.1\r\nHost: localhost\r\n\r\n";
+
+/// The request that says whether the server takes commands.
+const GET_READY: &str = "GET /readyz HTTP/1.1\r\nHost: localhost\r\n\r\n";
+
+/// The request of the plots.
+const GET_PLOTS: &str = "GET / HTTP/1.1\r\nHost: localhost\r\n\r\n";
+
 /// A listener for requests of the numbers, and its address.
 pub(crate) fn listen_for_status<R: World>(rt: R) -> (Option<TcpListener>, SocketAddr) {
     let (listener, at) = listen(rt);
@@ -163,6 +172,7 @@ struct Held {
     call_is_shown: bool,
     command_is_pending: bool,
     is_healthy: bool,
+    is_ready: bool,
     is_acknowledged: bool,
     call_has_ended: bool,
 }
@@ -179,6 +189,7 @@ impl Clients for Waiting<'_> {
         let is_held = self.door.is_held_soon(&rt);
         let held = answer_to(rt, alloc, self.at, GET_NUMBERS);
         let health = answer_to(rt, alloc, self.at, GET_HEALTH);
+        let ready = answer_to(rt, alloc, self.at, GET_READY);
         self.door.open(&rt);
         let is_acknowledged = peer.receives(REGISTERED)?;
         let after = answer_to(rt, alloc, self.at, GET_NUMBERS)?;
@@ -190,6 +201,7 @@ impl Clients for Waiting<'_> {
             call_is_shown: held.contains(HELD_CALL) && !held.contains(NO_CALL),
             command_is_pending: held.contains("\npathd_commands_pending 1\n"),
             is_healthy: health?.as_str() == IS_HEALTHY,
+            is_ready: ready?.as_str() == IS_HEALTHY,
             is_acknowledged,
             call_has_ended: after.as_str().contains(NO_CALL),
         })
@@ -224,6 +236,7 @@ fn page_while_a_sync_is_held(rt: HostRuntime) -> Result<(), Fail> {
         call_is_shown: true,
         command_is_pending: true,
         is_healthy: true,
+        is_ready: true,
         is_acknowledged: true,
         call_has_ended: true,
     };
@@ -234,7 +247,36 @@ fn page_while_a_sync_is_held(rt: HostRuntime) -> Result<(), Fail> {
     Ok(())
 }
 
-/// Asks for the health before and after a fault of the device.
+/// Whether each of these requests has this answer.
+fn are_answered<R: Outside>(
+    rt: R,
+    alloc: Global,
+    at: SocketAddr,
+    answers: &[(&str, &str); 3],
+) -> io::Result<bool> {
+    for (request, wanted) in answers {
+        if answer_to(rt, alloc, at, *request)?.as_str() != *wanted {
+            return Ok(false);
+        }
+    }
+    Ok(true)
+}
+
+/// What is answered before a fault of the device.
+const BEFORE: [(&str, &str); 3] = [
+    (GET_HEALTH, IS_HEALTHY),
+    (GET_ALIVE, IS_HEALTHY),
+    (GET_READY, IS_HEALTHY),
+];
+
+/// What is answered after it.
+const AFTER: [(&str, &str); 3] = [
+    (GET_HEALTH, HAS_STOPPED),
+    (GET_ALIVE, IS_HEALTHY),
+    (GET_READY, HAS_STOPPED),
+];
+
+/// Asks how the server is before and after a fault of the device, and for the plots after it.
 #[derive(Drop)]
 struct Stopping {
     at: SocketAddr,
@@ -247,6 +289,7 @@ struct Stopped {
     is_healthy_before: bool,
     is_unknown: bool,
     has_stopped_after: bool,
+    plots_are_shown: bool,
 }
 
 impl Clients for Stopping {
@@ -255,14 +298,16 @@ impl Clients for Stopping {
     fn meet<R: Outside>(&self, rt: R, alloc: Global, to: SocketAddr) -> io::Result<Stopped> {
         let mut peer = Peer::connect(rt, alloc, to)?;
         let is_acknowledged = peer.asks(REGISTRATION, REGISTERED)?;
-        let before = answer_to(rt, alloc, self.at, GET_HEALTH)?;
+        let is_healthy_before = are_answered(rt, alloc, self.at, &BEFORE)?;
         let is_unknown = peer.asks(PURGE, "00000002ff62")?;
-        let after = answer_to(rt, alloc, self.at, GET_HEALTH)?;
+        let has_stopped_after = are_answered(rt, alloc, self.at, &AFTER)?;
+        let plots = answer_to(rt, alloc, self.at, GET_PLOTS)?;
         Ok(Stopped {
             is_acknowledged,
-            is_healthy_before: before.as_str() == IS_HEALTHY,
+            is_healthy_before,
             is_unknown,
-            has_stopped_after: after.as_str() == HAS_STOPPED,
+            has_stopped_after,
+            plots_are_shown: plots.as_str().ends_with("</html>\n"),
         })
     }
 }
@@ -284,6 +329,7 @@ fn health_before_and_after_a_fault(rt: HostRuntime) -> Result<(), Fail> {
         is_healthy_before: true,
         is_unknown: true,
         has_stopped_after: true,
+        plots_are_shown: true,
     };
     assert_eq!(rt; seen?, wanted);
     Ok(())
