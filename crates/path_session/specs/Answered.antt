@@ -186,7 +186,7 @@ module _ (opening : StoreValue (List RowView)) where
 
   -- A query is answered with a page, or refused for memory or for a reader.
   abbrev pub ShowsPage : Serving → QueryView → Option (List ℕ) → ReplyView → Serving → Type 0
-  ShowsPage old query after reply new = RepliesWithPage old query after reply new ⊎ (LacksPageMemory old query after reply new ⊎ LacksReader old reply new)
+  ShowsPage old query after reply new = RepliesWithPage old query after reply new ⊎ (LacksPageMemory old query after reply new ⊎ LacksReader opening old reply new)
 
   -- The clock is asked for a list whose type was read, and the list is answered at the moment that
   -- the clock gave.
