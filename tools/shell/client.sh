@@ -83,7 +83,7 @@ grep '^\$ ' "$top/clients/python/commands.txt" | while read -r _ words; do
   (cd "$work" && /usr/bin/python3 -B -m pathd_client --connect "$address" $words) || true
 done >"$work/out"
 diff -u "$top/clients/python/commands.txt" "$work/out" || differences=$((differences + 1))
-sessions=$((sessions + 7))
+sessions=$((sessions + $(grep -c '^\$ ' "$top/clients/python/commands.txt")))
 # Those on the page are among them, with what they print.
 sed -n '/^\$ .*-m pathd_client /,+1p' "$top/clients/python/README.md" | sed 's,/usr/bin/python3 -m pathd_client ,,' >"$work/shown"
 grep -vFxf "$top/clients/python/commands.txt" "$work/shown" && differences=$((differences + 1))

@@ -18,8 +18,10 @@ from .frames import MOST_REPLY, MOST_REQUEST, FrameBuffer, frame, read_frames
 from .isd_as import isd_as_text, parse_isd_as
 from .moments import half_seconds_of, moment_of
 from .queues import Bounds, WhenFull
-from .replies import Ack, Found, Refused, Reply, read_reply
-from .requests import MOST_ROWS, Command, Lookup, Purge, Register, Remove, Request
+from .replies import Ack, Found, Page, Refused, Reply, read_reply
+from .requests import (
+    MOST_ROWS, Command, List, Lookup, Purge, Query, Register, Remove, Request,
+)
 from .retries import DEFAULT_RETRY, NO_RETRY, Retry
 from .segments import (
     EXP_TIME, Hop, Row, SegmentType, expires_at, expiry, hops_of, made_at, make_segment, parse_path,
@@ -32,10 +34,11 @@ from .sessions import Session, run_session
 __all__ = [
     "DEFAULT_RETRY", "EXP_TIME", "MOST_REPLY", "MOST_REQUEST", "MOST_ROWS", "NO_RETRY",
     "PASSING_CODES", "UNSETTLED_CODES", "Ack", "Acknowledge", "Address", "AsyncSession", "Bounds",
-    "Code", "Command", "ConnectionEnded", "Found", "FrameBuffer", "FrameError", "Hop", "Lookup",
-    "NotAcknowledged", "OutcomeUnknown", "Purge", "QueueFull", "Refused", "Register", "Remove",
-    "Reply", "ReplyTimeout", "Request", "Retry", "Row", "SegmentType", "Servers", "Session",
-    "SessionError", "State", "TurnedAway", "WhenFull", "expires_at", "expiry", "frame",
+    "Code", "Command", "ConnectionEnded", "Found", "FrameBuffer", "FrameError", "Hop", "List",
+    "Lookup", "NotAcknowledged", "OutcomeUnknown", "Page", "Purge", "Query", "QueueFull", "Refused",
+    "Register", "Remove", "Reply", "ReplyTimeout", "Request", "Retry", "Row", "SegmentType",
+    "Servers", "Session", "SessionError", "State", "TurnedAway", "WhenFull", "expires_at", "expiry",
+    "frame",
     "half_seconds_of", "hops_of", "isd_as_text", "made_at", "make_segment", "moment_of",
     "parse_address", "parse_addresses", "parse_isd_as", "parse_path", "path_text", "read_frames",
     "read_reply", "run_session", "segment_id", "timestamp_of",

@@ -10,8 +10,8 @@ from itertools import islice
 from pathlib import Path
 
 from . import (
-    DEFAULT_RETRY, MOST_ROWS, Acknowledge, Lookup, Purge, Register, Remove, Request, Retry, Row,
-    SegmentType, Servers, Session, SessionError, make_segment, parse_addresses, parse_isd_as,
+    DEFAULT_RETRY, MOST_ROWS, Acknowledge, List, Lookup, Purge, Register, Remove, Request, Retry,
+    Row, SegmentType, Servers, Session, SessionError, make_segment, parse_addresses, parse_isd_as,
     parse_path,
 )
 from .printing import ask_servers, ask_session
@@ -81,6 +81,10 @@ def requests_of(options: argparse.Namespace) -> list[Request]:
             return list(registrations(rows))
         case "lookup":
             return [Lookup(parse_isd_as(options.source), parse_isd_as(options.destination))]
+        case "list":
+            sides = parse_isd_as(options.start), parse_isd_as(options.end)
+            after = None if options.after is None else bytes.fromhex(options.after)
+            return [List(type_of(options.type), *sides, after)]
         case "purge":
             return [purge_of(options.at)]
         case _:
@@ -101,7 +105,7 @@ def parser_of() -> argparse.ArgumentParser:
     """The words of the command line."""
     parser = argparse.ArgumentParser(
         prog="python -m pathd_client",
-        description="Asks a pathd server, or several, to register, look up, purge or remove "
+        description="Asks a pathd server, or several, to register, look up, list, purge or remove "
         "segments.",
     )
     parser.add_argument(
@@ -146,6 +150,18 @@ def add_commands(parser: argparse.ArgumentParser) -> None:
         "source", metavar="SOURCE", help="an ISD-AS, as 1-ff00:0:110; a part that is 0 is any"
     )
     lookup.add_argument("destination", metavar="DESTINATION")
+    listed = commands.add_parser("list", help="print all segments of a type, in pages")
+    listed.add_argument(
+        "--after", metavar="ID", help="those after an id, of 64 hexadecimal digits, alone"
+    )
+    listed.add_argument("type", metavar="TYPE", help="up, down or core")
+    listed.add_argument(
+        "start", metavar="START", nargs="?", default="0-0",
+        help="their first AS; a part that is 0 is any [%(default)s]",
+    )
+    listed.add_argument(
+        "end", metavar="END", nargs="?", default="0-0", help="their last AS [%(default)s]"
+    )
     purge = commands.add_parser("purge", help="drop the segments that have expired")
     purge.add_argument(
         "--at", metavar="T", default="now",

@@ -2,10 +2,10 @@
 from __future__ import annotations
 
 import sys
-from collections.abc import Iterable, Iterator
+from collections.abc import Callable, Iterable, Iterator
 
-from .replies import Found, Refused, Reply
-from .requests import Lookup, Request
+from .replies import Found, Page, Refused, Reply, next_of
+from .requests import List, Lookup, Query, Request
 from .segments import expiry, hops_of, path_text, segment_id, timestamp_of
 from .servers import Servers
 from .sessions import Session
@@ -14,10 +14,14 @@ from .sessions import Session
 def lines_of(reply: Reply) -> Iterator[str]:
     """What is printed of a reply: of a segment its type, its id, when it was made and when it
     expires, and its path."""
-    if not isinstance(reply, Found):
+    if isinstance(reply, Page):
+        rows = [(reply.type, segment) for segment in reply.segments]
+    elif isinstance(reply, Found):
+        rows = list(reply.rows)
+    else:
         yield str(reply)
         return
-    for kind, segment in reply.rows:
+    for kind, segment in rows:
         hops = hops_of(segment)
         times = f"{timestamp_of(segment)} {expiry(segment)}"
         yield f"{kind.name.lower()} {segment_id(hops).hex()} {times} {path_text(hops)}"
@@ -30,10 +34,28 @@ def print_reply(reply: Reply, before: str = "") -> bool:
     return not isinstance(reply, Refused)
 
 
+def ask_for(request: Query, ask: Callable[[Query], Reply]) -> bool:
+    """Prints the reply to a lookup, or to a list with those to all that follow it. Answers whether
+    none was refused."""
+    asked: Query | None = request
+    is_done = True
+    while asked is not None:
+        reply = ask(asked)
+        is_done = print_reply(reply)
+        asked = next_of(asked, reply)
+    return is_done
+
+
 def ask_session(session: Session, requests: Iterable[Request]) -> bool:
     """Prints the replies to requests, which go one after the other. Answers whether none was
     refused."""
-    return all([print_reply(session.ask(request)) for request in requests])
+    is_done = True
+    for request in requests:
+        if isinstance(request, (Lookup, List)):
+            is_done &= ask_for(request, session.ask)
+        else:
+            is_done &= print_reply(session.ask(request))
+    return is_done
 
 
 def ask_servers(servers: Servers, requests: Iterable[Request], within: float) -> bool:
@@ -41,8 +63,8 @@ def ask_servers(servers: Servers, requests: Iterable[Request], within: float) ->
     have not replied to all get as much time again. Answers whether none was refused."""
     is_done = True
     for request in requests:
-        if isinstance(request, Lookup):
-            is_done &= print_reply(servers.lookup(request))
+        if isinstance(request, (Lookup, List)):
+            is_done &= ask_for(request, servers.lookup)
             continue
         replies = servers.command(request)
         for address, reply in zip(servers.states, replies, strict=True):

@@ -11,8 +11,8 @@ from . import segments_pb2 as pb
 from .codes import PASSING_CODES, UNSETTLED_CODES, Code
 from .errors import FrameError
 from .frames import REFUSED, REPLY_BIT
-from .requests import Lookup, Request
-from .segments import Row, SegmentType, hops_of, path_text
+from .requests import List, Lookup, Request
+from .segments import Row, SegmentType, hops_of, path_text, segment_id
 
 ACK = struct.Struct(">QIIII")
 
@@ -45,12 +45,28 @@ class Found:
         return "\n".join(f"{kind.name.lower()} {path}" for kind, path in paths) or "nothing"
 
 
+@dataclass(frozen=True)
+class Page:
+    """The segments of a page of a list, 64 at most, and whether further ones follow them. Where
+    they do, the page has a last segment: `List.following` asks for what comes after it."""
+
+    type: SegmentType
+    segments: Sequence[pb.PathSegment]
+    more: bool
+
+    def __str__(self) -> str:
+        paths = [path_text(segment) for segment in self.segments]
+        lines = [f"{self.type.name.lower()} {path}" for path in paths]
+        return "\n".join(lines + ["and more"] * self.more) or "nothing"
+
+
 @dataclass(unsafe_hash=True)
 class Refused(Exception):
     """A request was refused. It changed nothing, unless `is_unsettled`.
 
     The code is a `Code`, or a plain number where this client knows no name for it. It is the reply
-    that `ask` answers, and the error that `register`, `look_up`, `purge` and `remove` raise.
+    that `ask` answers, and the error that `register`, `look_up`, `list`, `list_page`, `purge` and
+    `remove` raise.
     """
 
     code: Code | int
@@ -70,7 +86,7 @@ class Refused(Exception):
         return f"refused: {meaning}"
 
 
-Reply = Ack | Found | Refused
+Reply = Ack | Found | Page | Refused
 
 
 def ack_of(reply: Reply) -> Ack:
@@ -85,6 +101,20 @@ def rows_of(reply: Reply) -> Sequence[Row]:
     if isinstance(reply, Found):
         return reply.rows
     raise reply if isinstance(reply, Refused) else FrameError(f"no segments: {reply}")
+
+
+def page_of(reply: Reply) -> Page:
+    """The page that a reply to a list is. Raises the refusal."""
+    if isinstance(reply, Page):
+        return reply
+    raise reply if isinstance(reply, Refused) else FrameError(f"no page: {reply}")
+
+
+def next_of(asked: Request, reply: Reply) -> List | None:
+    """The list for the page that follows the reply to a list; None where no page does."""
+    if isinstance(asked, List) and isinstance(reply, Page) and reply.more:
+        return asked.following(reply.segments[-1])
+    return None
 
 
 def code_of(number: int) -> Code | int:
@@ -104,6 +134,8 @@ def read_reply(request: Request, content: bytes) -> Reply:
         raise FrameError(f"a reply of kind {kind:#04x} to '{request}'")
     if isinstance(request, Lookup):
         return Found(read_rows(body))
+    if isinstance(request, List):
+        return read_page(request, body)
     if len(body) != ACK.size:
         raise FrameError(f"an acknowledgement of {len(body)} bytes")
     return Ack(*ACK.unpack(body))
@@ -117,3 +149,25 @@ def read_rows(body: bytes) -> list[Row]:
     except (DecodeError, ValueError) as fault:
         raise FrameError(f"a reply with no segments: {fault}") from fault
     return [(kind, segment) for kind in kinds for segment in groups[kind].segments]
+
+
+def read_page(request: List, body: bytes) -> Page:
+    """The page that the body of the reply to a list has. A page that others follow has a last
+    segment, whose id comes after that of the request: so the pages of a list come to an end."""
+    if body[:1] not in (b"\0", b"\1"):
+        raise FrameError(f"no page in {len(body)} bytes")
+    rows = read_rows(body[1:])
+    page = Page(request.type, [segment for _, segment in rows], body[0] == 1)
+    if any(kind != request.type for kind, _ in rows):
+        raise FrameError(f"segments of another type in the reply to '{request}'")
+    if page.more and not goes_on(request, page.segments):
+        raise FrameError(f"a page that leads to no other in the reply to '{request}'")
+    return page
+
+
+def goes_on(request: List, segments: Sequence[pb.PathSegment]) -> bool:
+    """Whether a page of these segments has a last one, and its id comes after the request's."""
+    try:
+        return bool(segments) and segment_id(segments[-1]) > (request.after or b"")
+    except DecodeError:
+        return False

@@ -3,20 +3,26 @@ from __future__ import annotations
 
 import struct
 from collections.abc import Sequence
-from dataclasses import dataclass, field
+from dataclasses import dataclass, field, replace
 from datetime import datetime, timezone
 from typing import ClassVar
 
 from . import segments_pb2 as pb
 from .isd_as import isd_as_text
 from .moments import half_seconds_of
-from .segments import Row, SegmentType
+from .segments import Row, SegmentType, segment_id
 
 # The most segments of one registration.
 MOST_ROWS = 16
 
 ID_BYTES = 32
 MOST_NUMBER = 2**64 - 1
+
+
+def check_id(number: bytes) -> None:
+    """ValueError where an id has another number of bytes."""
+    if len(number) != ID_BYTES:
+        raise ValueError(f"an id has {ID_BYTES} bytes, and not {len(number)}")
 
 
 def check_number(number: int, name: str) -> None:
@@ -71,6 +77,39 @@ class Lookup:
 
 
 @dataclass(frozen=True)
+class List:
+    """Asks for a page of the segments of a type, whose first AS a start covers and whose last AS an
+    end covers: those whose ids come after one, or all, in the order of their ids. A part of a side
+    that is 0 covers every number."""
+
+    type: SegmentType
+    start: int = 0
+    end: int = 0
+    after: bytes | None = None
+    kind: ClassVar[int] = 5
+    is_repeatable: ClassVar[bool] = True
+
+    def __post_init__(self) -> None:
+        check_number(self.start, "the start")
+        check_number(self.end, "the end")
+        if self.after is not None:
+            check_id(self.after)
+
+    def following(self, last: pb.PathSegment) -> List:
+        """The request for the page after the one with this last segment."""
+        return replace(self, after=segment_id(last))
+
+    def body(self) -> bytes:
+        """The type in a byte, both sides in eight bytes each, and the id where there is one."""
+        return struct.pack(">BQQ", self.type, self.start, self.end) + (self.after or b"")
+
+    def __str__(self) -> str:
+        sides = f"{isd_as_text(self.start)} to {isd_as_text(self.end)}"
+        after = "" if self.after is None else f" after {self.after.hex()}"
+        return f"list {self.type.name.lower()} {sides}{after}"
+
+
+@dataclass(frozen=True)
 class Purge:
     """Drops the segments that have expired by a moment: `Purge.now()`, `Purge.at(moment)`, or by a
     number of half seconds since 1970, which needs its name."""
@@ -115,8 +154,7 @@ class Remove:
     is_repeatable: ClassVar[bool] = False
 
     def __post_init__(self) -> None:
-        if len(self.id) != ID_BYTES:
-            raise ValueError(f"an id has {ID_BYTES} bytes, and not {len(self.id)}")
+        check_id(self.id)
 
     def body(self) -> bytes:
         """The type in a byte, and the id."""
@@ -129,4 +167,5 @@ class Remove:
 # Each has the kind of its frame, whether it may be carried out twice, the bytes of its body, and a
 # line that says what it asks for.
 Command = Register | Purge | Remove
-Request = Command | Lookup
+Query = Lookup | List
+Request = Command | Query

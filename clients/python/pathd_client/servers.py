@@ -14,7 +14,7 @@ from .errors import NotAcknowledged, QueueFull, SessionError
 from .pools import Pool
 from .queues import Bounds, WhenFull
 from .replies import Refused, Reply
-from .requests import Command, Lookup
+from .requests import Command, Query
 from .retries import NO_RETRY, Retry
 from .senders import Sender, State
 from .sessions import Session
@@ -95,9 +95,9 @@ class Servers:
                 raise fault
             return list(delivery.replies)
 
-    def lookup(self, lookup: Lookup) -> Reply:
-        """Asks one server, the one that has answered last, and where that fails the next one, until
-        one answers. SessionError where none has in time."""
+    def lookup(self, lookup: Query) -> Reply:
+        """Asks one server a Lookup or a List, the one that has answered last, and where that fails
+        the next one, until one answers. SessionError where none has in time."""
         deadline = Deadline.after(self._within)
         for pause in self._retry.pauses():
             try:
@@ -150,7 +150,7 @@ class Servers:
         may_be = not self._has_ended and delivery.can_be_acknowledged(self._acknowledge)
         return is_acknowledged or not may_be
 
-    def _ask_each(self, lookup: Lookup, deadline: Deadline) -> Reply:
+    def _ask_each(self, lookup: Query, deadline: Deadline) -> Reply:
         """Asks the servers one after the other, until one answers. Each has an equal part of the
         time that those before it have left."""
         count = len(self._pools)

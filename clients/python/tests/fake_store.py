@@ -4,19 +4,22 @@ from __future__ import annotations
 import contextlib
 import socket
 import threading
-from collections.abc import Callable
+from collections.abc import Callable, Sequence
 
-from pathd_client import Address
+from pathd_client import Address, Register, Row, segment_id
 
 from .fake_server import PATIENCE, Peer, ack, refusal
 
 LOOKUP = 2
+LIST = 5
 
 Answer = Callable[[bytes], bytes | None]
 
 
 def acknowledges(content: bytes, place: int = 0) -> bytes:
     """Finds nothing, and acknowledges each command with this place."""
+    if content[0] == LIST:
+        return b"\x85\x00"
     return b"\x82" if content[0] == LOOKUP else ack(place, 0x80 | content[0])
 
 
@@ -27,6 +30,19 @@ def is_silent(_content: bytes) -> None:
 def refuses(code: int) -> Answer:
     """Refuses each request by a code."""
     return lambda _content: refusal(code)
+
+
+def lists(rows: Sequence[Row], size: int) -> Answer:
+    """Answers each list with pages of so many of these rows, which are in the order of their
+    keys."""
+
+    def answer(content: bytes) -> bytes:
+        after = content[18:]
+        of_type = [row for row in rows if row[0] == content[1]]
+        left = [row for row in of_type if segment_id(row[1]) > after]
+        return bytes([0x80 | LIST, len(left) > size]) + Register(left[:size]).body()
+
+    return answer
 
 
 def counts(place: int) -> Answer:
@@ -45,7 +61,7 @@ class FakeStore:
         self._is_up = is_up
         self._changed = threading.Condition()
         self._connections: list[socket.socket] = []
-        # The contents of the commands that came, in order, and how many lookups came.
+        # The contents of the commands that came, in order, and how many lookups and lists came.
         self.commands: list[bytes] = []
         self.lookups = 0
         self._listener = self._bound(0)
@@ -111,7 +127,7 @@ class FakeStore:
 
     def _note(self, content: bytes) -> None:
         with self._changed:
-            if content[0] == LOOKUP:
+            if content[0] in (LOOKUP, LIST):
                 self.lookups += 1
             else:
                 self.commands.append(content)

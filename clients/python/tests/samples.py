@@ -1,9 +1,11 @@
 """Requests that tests send."""
 from __future__ import annotations
 
+from collections.abc import Iterable
+
 from pathd_client import (
-    Lookup, Purge, Register, Remove, Retry, Row, SegmentType, make_segment, parse_isd_as,
-    parse_path,
+    List, Lookup, Purge, Register, Remove, Retry, Row, SegmentType, make_segment, parse_isd_as,
+    parse_path, segment_id,
 )
 
 # Few attempts, without a pause between.
@@ -11,6 +13,7 @@ QUICKLY = Retry(attempts=3, first_pause=0.0, longest_pause=0.0)
 
 PATH = "1-ff00:0:110 1>2 1-ff00:0:111"
 LOOKUP = Lookup(parse_isd_as("1-ff00:0:110"), parse_isd_as("1-ff00:0:111"))
+LIST = List(SegmentType.DOWN, LOOKUP.source, LOOKUP.destination)
 PURGE = Purge(half_seconds=5)
 REMOVE = Remove(SegmentType.DOWN, bytes(range(32)))
 
@@ -24,6 +27,11 @@ def row(number: int, size: int = 0) -> Row:
     segment = make_segment(hops, MADE)
     segment.as_entries[0].signed.signature = bytes(size)
     return SegmentType.DOWN, segment
+
+
+def in_order(rows: Iterable[Row]) -> list[Row]:
+    """Segments in the order of their keys."""
+    return sorted(rows, key=lambda it: (it[0], segment_id(it[1])))
 
 
 def registration(number: int) -> Register:

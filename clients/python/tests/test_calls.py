@@ -15,23 +15,23 @@ from datetime import datetime, timedelta, timezone
 from pathlib import Path
 
 from pathd_client import (
-    NO_RETRY, Ack, Address, AsyncSession, Code, ConnectionEnded, Lookup, OutcomeUnknown, Purge,
-    Refused, Register, Remove, ReplyTimeout, SegmentType, Session, SessionError, TurnedAway, frame,
-    half_seconds_of, moment_of,
+    NO_RETRY, Ack, Address, AsyncSession, Code, ConnectionEnded, FrameError, List, Lookup,
+    OutcomeUnknown, Page, Purge, Refused, Register, Remove, ReplyTimeout, Request, SegmentType,
+    Session, SessionError, TurnedAway, frame, half_seconds_of, moment_of, segment_id,
 )
 
 from .fake_server import (
     FakeServer, Peer, Script, ack, answers, closes, refusal, turns_away,
 )
-from .fake_store import FakeStore, acknowledges
-from .samples import LOOKUP, PURGE, QUICKLY, REMOVE, registration, row
+from .fake_store import FakeStore, acknowledges, lists
+from .samples import LIST, LOOKUP, PURGE, QUICKLY, REMOVE, in_order, registration, row
 
 ROW = row(0)
 NONE = Ack(0, 0, 0, 0, 0)
 EAST = timezone(timedelta(hours=2))
 
 
-def contents(*requests: Lookup | Purge | Register | Remove) -> list[bytes]:
+def contents(*requests: Request) -> list[bytes]:
     """The contents of the frames of these requests."""
     return [frame(request)[4:] for request in requests]
 
@@ -82,8 +82,10 @@ class Calls(unittest.TestCase):
             lambda session: session.look_up("1-0", "2-0"),
             lambda session: session.purge(),
             lambda session: session.remove(SegmentType.UP, bytes(32)),
+            lambda session: session.list_page(SegmentType.UP),
+            lambda session: list(session.list(SegmentType.UP)),
         ]
-        for code, call in zip((0x52, 0x43, 0x54, 0x62), calls, strict=True):
+        for code, call in zip((0x52, 0x43, 0x54, 0x62, 0x29, 0x55), calls, strict=True):
             with FakeServer(answers(refusal(code))) as server, Session(*server.address) as session:
                 with self.assertRaises(Refused) as caught:
                     call(session)
@@ -99,6 +101,73 @@ class Calls(unittest.TestCase):
         with Session(*address, retry=NO_RETRY) as session:
             with self.assertRaisesRegex(ConnectionEnded, f"no connection with {address}: "):
                 session.purge()
+
+
+class Lists(unittest.TestCase):
+    """Lists of a session, page by page."""
+
+    ROWS = in_order([row(number) for number in range(5)])
+    SEGMENTS = [segment for _, segment in ROWS]
+
+    def test_all_pages(self) -> None:
+        pages = [self.ROWS[:2], self.ROWS[2:4], self.ROWS[4:]]
+        replies = [bytes([0x85, len(it) == 2]) + Register(it).body() for it in pages]
+        lists = [LIST, LIST.following(self.SEGMENTS[1]), LIST.following(self.SEGMENTS[3])]
+        with FakeServer(answers(*replies)) as server, Session(*server.address) as session:
+            listed = session.list(SegmentType.DOWN, "1-ff00:0:110", LIST.end)
+            self.assertEqual(list(listed), self.SEGMENTS)
+        self.assertEqual(server.requests, [contents(*lists)])
+
+    def test_one_page(self) -> None:
+        for size in (1, 4, 5, 9):
+            with FakeStore(lists(self.ROWS, size)) as store, Session(*store.address) as session:
+                first = session.list_page(SegmentType.DOWN)
+                wanted = Page(SegmentType.DOWN, self.SEGMENTS[:size], size < 5)
+                self.assertEqual(first, wanted)
+                after = segment_id(self.SEGMENTS[2])
+                rest = session.list_page(SegmentType.DOWN, "1-0", 0, after=after)
+                self.assertEqual(rest.segments, self.SEGMENTS[3:][:size])
+                self.assertEqual(list(session.list(SegmentType.DOWN)), self.SEGMENTS)
+                self.assertEqual(list(session.list(SegmentType.UP)), [])
+
+    def test_pages_are_asked_for_as_they_are_needed(self) -> None:
+        with FakeStore(lists(self.ROWS, 2)) as store, Session(*store.address) as session:
+            listed = session.list(SegmentType.DOWN)
+            self.assertEqual(store.lookups, 0)
+            for number, segment in enumerate(self.SEGMENTS):
+                self.assertEqual(next(listed), segment)
+                self.assertEqual(store.lookups, 1 + number // 2)
+
+    def test_a_page_is_asked_for_again(self) -> None:
+        first, rest = (Register(it).body() for it in (self.ROWS[:2], self.ROWS[2:]))
+
+        def ends(peer: Peer) -> None:
+            peer.read()
+            peer.send(b"\x85\x01" + first)
+            peer.read()
+
+        again = answers(refusal(0x51), b"\x85\x00" + rest)
+        with FakeServer(ends, again) as server, Session(*server.address, retry=QUICKLY) as session:
+            self.assertEqual(list(session.list(SegmentType.DOWN)), self.SEGMENTS)
+        following = List(SegmentType.DOWN).following(self.SEGMENTS[1])
+        sent = [contents(List(SegmentType.DOWN), following), contents(following, following)]
+        self.assertEqual(server.requests, sent)
+
+    def test_pages_that_would_never_end(self) -> None:
+        for body in (b"", Register(self.ROWS[:1]).body()):
+            with FakeStore(lambda _content: b"\x85\x01" + body) as store:
+                with Session(*store.address) as session, self.assertRaises(FrameError):
+                    list(session.list(SegmentType.DOWN))
+
+    def test_what_is_no_side(self) -> None:
+        session = Session("127.0.0.1", 1)
+        for side in list[int | str](["1", -1, 1 << 64]):
+            with self.assertRaises(ValueError):
+                session.list_page(SegmentType.UP, side)
+            with self.assertRaises(ValueError):
+                next(session.list(SegmentType.UP, 0, side))
+        with self.assertRaises(ValueError):
+            session.list_page(SegmentType.UP, after=bytes(31))
 
 
 class TlsProxy:
@@ -228,6 +297,22 @@ class Tasks(unittest.IsolatedAsyncioTestCase):
                     await session.remove(REMOVE.type, REMOVE.id)
         self.assertEqual(caught.exception.code, Code.FULL)
         self.assertEqual(server.requests, [contents(registration(0), LOOKUP, PURGE, REMOVE)])
+
+    async def test_lists(self) -> None:
+        rows = in_order([row(number) for number in range(5)])
+        segments = [segment for _, segment in rows]
+        with FakeStore(lists(rows, 2)) as store:
+            async with AsyncSession(*store.address) as session:
+                listed = [it async for it in session.list(SegmentType.DOWN, "1-0", LIST.end)]
+                self.assertEqual(listed, segments)
+                after = segment_id(segments[0])
+                page = await session.list_page(SegmentType.DOWN, after=after)
+                self.assertEqual(page, Page(SegmentType.DOWN, segments[1:3], True))
+                store.answer = lambda content: refusal(0x29)
+                with self.assertRaises(Refused):
+                    await session.list_page(SegmentType.DOWN)
+                with self.assertRaises(Refused):
+                    await anext(session.list(SegmentType.DOWN))
 
     async def test_a_cancelled_task_keeps_its_place(self) -> None:
         def script(peer: Peer) -> None:

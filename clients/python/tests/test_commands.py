@@ -7,11 +7,13 @@ import tempfile
 import unittest
 from pathlib import Path
 
-from pathd_client import Register, SegmentType, frame, make_segment, parse_path
+from pathd_client import (
+    Register, SegmentType, frame, make_segment, parse_path, segment_id,
+)
 
 from .fake_server import FakeServer, ack, answers, closes, refusal
-from .fake_store import FakeStore, counts
-from .samples import MADE, PATH, PURGE, REMOVE
+from .fake_store import FakeStore, counts, lists
+from .samples import LIST, MADE, PATH, PURGE, REMOVE, in_order, row
 
 FOLDER = Path(__file__).resolve().parents[1]
 DOWN = (SegmentType.DOWN, make_segment(parse_path(PATH), MADE))
@@ -59,6 +61,32 @@ class Commands(unittest.TestCase):
         identity = "8adcea68dc57cbbe68da7142af88b68a9d27a590e1d5157c53c2bb2c762345ff"
         self.assertEqual((status, printed), (0, f"down {identity} {MADE} 8000043200 {PATH}\n"))
 
+    def test_list(self) -> None:
+        rows = in_order([row(number) for number in range(5)])
+        identities = [segment_id(segment).hex() for _, segment in rows]
+        with FakeStore(lists(rows, 2)) as store:
+            to = ["--connect", str(store.address)]
+            status, printed, _ = run(*to, "list", "down")
+            self.assertEqual(status, 0)
+            begun = [line.split()[:2] for line in printed.splitlines()]
+            self.assertEqual(begun, [["down", it] for it in identities])
+            self.assertEqual((store.lookups, run(*to, "list", "up")), (3, (0, "", "")))
+            status, printed, _ = run(*to, "list", "--after", identities[3], "down")
+            self.assertEqual([line.split()[1] for line in printed.splitlines()], identities[4:])
+        (line,) = printed.splitlines()
+        self.assertEqual(line.split(" ", 4)[2:4], [str(MADE), "8000043200"])
+        with FakeServer(answers(refusal(0x29))) as server:
+            refused = run(*at(server), "list", "down", "1-ff00:0:110", "1-ff00:0:111")
+        self.assertEqual(refused, (1, "refused: there is no such type of segment\n", ""))
+        self.assertEqual(server.requests, [[frame(LIST)[4:]]])
+
+    def test_list_of_several_servers(self) -> None:
+        rows = in_order([row(number) for number in range(5)])
+        with FakeStore(lists(rows, 2), is_up=False) as away, FakeStore(lists(rows, 2)) as up:
+            to = ["--connect", f"{away.address},{up.address}"]
+            status, printed, _ = run(*to, "list", "down")
+        self.assertEqual((status, len(printed.splitlines()), up.lookups), (0, 5, 3))
+
     def test_purge_and_remove(self) -> None:
         with FakeServer(answers(ack(0, 0x83)), answers(ack(1, 0x84))) as server:
             self.assertEqual(run(*at(server), "purge", "--at", "5")[0], 0)
@@ -104,6 +132,8 @@ class Commands(unittest.TestCase):
         wrong: list[list[str]] = [
             ["remove", "sideways", "00" * 32], ["remove", "up", "00"], ["remove", "up", "zz"],
             ["lookup", "1", "1-1"], ["purge", "--at", "-1"], ["purge", "--at", "x"],
+            ["list"], ["list", "sideways"], ["list", "up", "1"], ["list", "up", "1-1", "x"],
+            ["list", "--after", "00", "up"], ["list", "--after", "zz", "up"],
             ["purge", "--at", "2026-11-27T12:00:00"], ["register"],
             ["--connect", "nowhere", "purge"], ["--attempts", "0", "purge"], ["store"], [],
             ["--connect", ":1", "purge"], ["--connect", "a:1,a:1", "purge"],

@@ -5,13 +5,13 @@ import io
 import unittest
 
 from pathd_client import (
-    MOST_REPLY, MOST_REQUEST, Ack, Code, Found, FrameBuffer, FrameError, Lookup, Purge, Refused,
-    Register, Remove, SegmentType, frame, make_segment, parse_path, read_frames, read_reply,
-    segment_id,
+    MOST_REPLY, MOST_REQUEST, Ack, Code, Found, FrameBuffer, FrameError, List, Lookup, Page, Purge,
+    Refused, Register, Remove, SegmentType, frame, make_segment, parse_isd_as, parse_path,
+    read_frames, read_reply, segment_id,
 )
 
 from .fake_server import ack, framed, refusal
-from .samples import LOOKUP, PURGE, REMOVE, row
+from .samples import LIST, LOOKUP, PURGE, REMOVE, row
 
 ID = "8adcea68dc57cbbe68da7142af88b68a9d27a590e1d5157c53c2bb2c762345ff"
 HOPS = parse_path("1-ff00:0:110 1>2 1-ff00:0:111")
@@ -33,6 +33,17 @@ class Requests(unittest.TestCase):
         request = Remove(SegmentType.DOWN, segment_id(HOPS))
         self.assertEqual(frame(request), bytes.fromhex("00000022 04 02" + ID))
 
+    def test_list(self) -> None:
+        sides = "0001ff0000000110 0001ff0000000111"
+        self.assertEqual(frame(LIST), bytes.fromhex("00000012 05 02" + sides))
+        after = List(LIST.type, LIST.start, LIST.end, segment_id(HOPS))
+        self.assertEqual(frame(after), bytes.fromhex("00000032 05 02" + sides + ID))
+        self.assertEqual(LIST.following(make_segment(HOPS, 0)), after)
+        of_isd = List(SegmentType.CORE, parse_isd_as("2-0"), parse_isd_as("0-5"))
+        wanted = "00000012 05 03 0002000000000000 0000000000000005"
+        self.assertEqual(frame(of_isd), bytes.fromhex(wanted))
+        self.assertEqual(frame(List(SegmentType.UP)), bytes.fromhex("00000012 05 01" + "00" * 16))
+
     def test_register(self) -> None:
         made = frame(Register([(SegmentType.DOWN, make_segment(HOPS, 1_700_000_000))]))
         # The worked segment has another segment id and other MACs, of the same sizes.
@@ -45,10 +56,16 @@ class Requests(unittest.TestCase):
                 Purge(half_seconds=number)
             with self.assertRaises(ValueError):
                 Lookup(0, number)
+            with self.assertRaises(ValueError):
+                List(SegmentType.UP, number)
+            with self.assertRaises(ValueError):
+                List(SegmentType.UP, 0, number)
 
     def test_ids_have_32_bytes(self) -> None:
         with self.assertRaises(ValueError):
             Remove(SegmentType.UP, bytes(31))
+        with self.assertRaises(ValueError):
+            List(SegmentType.UP, after=b"")
 
     def test_bytes_are_bounded(self) -> None:
         empty = len(frame(Register([row(0, 100_000)]))) - 100_000
@@ -71,6 +88,20 @@ class Replies(unittest.TestCase):
         found = read_reply(LOOKUP, b"\x82" + registered.body())
         self.assertEqual(found, Found(registered.rows))
 
+    def test_pages(self) -> None:
+        empty = Page(SegmentType.DOWN, [], False)
+        self.assertEqual(read_reply(LIST, b"\x85\x00"), empty)
+        self.assertEqual(str(empty), "nothing")
+        segment = make_segment(HOPS, 1_700_000_000)
+        worked = segment.SerializeToString()
+        self.assertEqual(len(worked), 0x58)
+        body = bytes.fromhex("0a5e 0802 125a 0a58") + worked
+        for more in (False, True):
+            page = read_reply(LIST, bytes([0x85, more]) + body)
+            self.assertEqual(page, Page(SegmentType.DOWN, [segment], more))
+            lines = "down 1-ff00:0:110 1>2 1-ff00:0:111" + "\nand more" * more
+            self.assertEqual(str(page), lines)
+
     def test_refusals(self) -> None:
         reply = read_reply(LOOKUP, refusal(0x43))
         self.assertEqual(reply, Refused(Code.NO_CORE))
@@ -83,6 +114,23 @@ class Replies(unittest.TestCase):
         for content in (b"\x82\x0a", b"\x82\x0a\x02\x08\x07"):
             with self.assertRaises(FrameError):
                 read_reply(LOOKUP, content)
+
+    def test_what_is_no_page(self) -> None:
+        kind, segment = row(0)
+        down = Register([(kind, segment)]).body()
+        for content in (b"\x85", b"\x85\x02", b"\x82", ack(0), b"\x85\x00\x0a", b"\x85\x01"):
+            with self.assertRaises(FrameError):
+                read_reply(LIST, content)
+        with self.assertRaises(FrameError):
+            read_reply(List(SegmentType.UP), b"\x85\x00" + down)
+        # Pages after this one would never end.
+        after = List(kind, after=segment_id(segment))
+        self.assertEqual(read_reply(after, b"\x85\x00" + down), Page(kind, [segment], False))
+        with self.assertRaises(FrameError):
+            read_reply(after, b"\x85\x01" + down)
+        segment.as_entries[1].signed.header_and_body = b"\xff"
+        with self.assertRaises(FrameError):
+            read_reply(List(kind), b"\x85\x01" + Register([(kind, segment)]).body())
 
 
 class Streams(unittest.TestCase):

@@ -3,18 +3,22 @@ from __future__ import annotations
 
 import os
 import re
+import socket
 import subprocess
 import tempfile
 import time
 import unittest
+from collections.abc import Sequence
 from pathlib import Path
 
 from pathd_client import (
-    Ack, Acknowledge, Code, Found, Lookup, Purge, Refused, Register, Remove, Request, Retry,
-    SegmentType, Servers, Session, TurnedAway, hops_of, run_session, segment_id,
+    MOST_ROWS, Ack, Acknowledge, Code, Found, List, Lookup, Page, Purge, Refused, Register, Remove,
+    Request, Retry, Row, SegmentType, Servers, Session, TurnedAway, frame, hops_of, make_segment,
+    parse_path, read_frames, run_session, segment_id,
 )
+from pathd_client.segments_pb2 import PathSegment
 
-from .samples import LOOKUP, QUICKLY, large_registration, registration, row
+from .samples import LIST, LOOKUP, MADE, QUICKLY, in_order, large_registration, registration, row
 
 PROGRAM = os.environ.get("PATHD", "")
 CORES = "1-ff00:0:110"
@@ -140,6 +144,88 @@ class Sessions(unittest.TestCase):
                 session.close()
 
 
+def rows_of_type(kind: SegmentType, count: int, end: str = "1-ff00:0:111") -> list[Row]:
+    """Segments of a type between two ASes, in the order of their keys."""
+    paths = [parse_path(f"1-ff00:0:110 {number + 1}>2 {end}") for number in range(count)]
+    return in_order((kind, make_segment(path, MADE)) for path in paths)
+
+
+def registrations(rows: Sequence[Row]) -> list[Register]:
+    """The registrations of these segments."""
+    return [Register(rows[at : at + MOST_ROWS]) for at in range(0, len(rows), MOST_ROWS)]
+
+
+@unittest.skipUnless(PROGRAM, "PATHD names no program")
+class Lists(unittest.TestCase):
+    """Lists of a server, which has more segments between two ASes than one page."""
+
+    def test_pages(self) -> None:
+        up, down = rows_of_type(SegmentType.UP, 64), rows_of_type(SegmentType.DOWN, 150)
+        core = rows_of_type(SegmentType.CORE, 65) + rows_of_type(SegmentType.CORE, 1, "2-7")
+        rows = [*up, *down, *core]
+        with Server() as server, server.session() as session:
+            session.pipeline(registrations(rows))
+            for kind, wanted in [
+                (SegmentType.UP, up), (SegmentType.DOWN, down), (SegmentType.CORE, in_order(core)),
+            ]:
+                segments = [segment for _, segment in wanted]
+                self.assertEqual(list(session.list(kind)), segments)
+                page = Page(kind, segments[:64], len(wanted) > 64)
+                self.assertEqual(session.list_page(kind), page)
+            self.check_sides(session, down)
+            self.check_ids(session, [segment for _, segment in down])
+
+    def check_sides(self, session: Session, down: list[Row]) -> None:
+        """A lookup finds the first page, and a part of a side that is 0 covers every number."""
+        found = session.ask(LOOKUP)
+        self.assertEqual(found, Found(down[:64]))
+        self.assertEqual(session.ask(LIST), Page(LIST.type, [it for _, it in down[:64]], True))
+        for start, end, count in [
+            ("1-0", "0-ff00:0:111", 150), ("0-0", "1-ff00:0:111", 150), ("2-0", "0-0", 0),
+            ("1-ff00:0:111", "1-ff00:0:110", 0), ("1-ff00:0:110", "1-ff00:0:112", 0),
+        ]:
+            listed = session.list(SegmentType.DOWN, start, end)
+            self.assertEqual(sum(1 for _ in listed), count, (start, end))
+        self.assertEqual(sum(1 for _ in session.list(SegmentType.CORE, "0-0", "2-0")), 1)
+
+    def check_ids(self, session: Session, segments: Sequence[PathSegment]) -> None:
+        """A page begins after any id, that of a segment or not."""
+        for number in (0, 63, 64, 85, 86, 149):
+            identity = segment_id(segments[number])
+            rest = segments[number + 1 :]
+            below = (int.from_bytes(identity, "big") - 1).to_bytes(32, "big")
+            page = session.list_page(SegmentType.DOWN, after=identity)
+            self.assertEqual(page, Page(SegmentType.DOWN, rest[:64], len(rest) > 64))
+            page = session.list_page(SegmentType.DOWN, after=below)
+            self.assertEqual(page.segments, [segments[number], *rest][:64])
+        first = session.list_page(SegmentType.DOWN, after=bytes(32))
+        self.assertEqual(first.segments, segments[:64])
+        none = session.list_page(SegmentType.DOWN, after=b"\xff" * 32)
+        self.assertEqual(none, Page(SegmentType.DOWN, [], False))
+
+    def test_rows_that_go_and_come_between_pages(self) -> None:
+        rows = rows_of_type(SegmentType.DOWN, 130)
+        segments = [segment for _, segment in rows]
+        with Server() as server, server.session() as session:
+            session.pipeline(registrations(rows[1:]))
+            listed = session.list(SegmentType.DOWN)
+            first = [next(listed) for _ in range(64)]
+            # The last of the page goes, and one comes before it.
+            session.remove(SegmentType.DOWN, segment_id(segments[64]))
+            session.register(rows[:1])
+            self.assertEqual([*first, *listed], segments[1:])
+
+    def test_other_types_are_refused(self) -> None:
+        # No client sends these: the byte of the type is changed in the frame.
+        frames = [frame(LIST)[:5] + bytes([kind]) + frame(LIST)[6:] for kind in (0, 4, 255)]
+        with Server() as server, socket.create_connection(("127.0.0.1", server.port)) as raw:
+            raw.settimeout(PATIENCE)
+            raw.sendall(b"".join(frames) + frame(LOOKUP))
+            raw.shutdown(socket.SHUT_WR)
+            replies = list(read_frames(raw.makefile("rb")))
+        self.assertEqual(replies, [b"\xff\x29"] * 3 + [b"\x82"])
+
+
 @unittest.skipUnless(PROGRAM, "PATHD names no program")
 class Several(unittest.TestCase):
     """Servers that get the same commands."""
@@ -178,6 +264,15 @@ class Once(unittest.TestCase):
         replies = run_session([PROGRAM, "once", "--cores", CORES], requests)
         wanted = [Ack(0, 1, 0, 0, 0), Found([row(0)]), Ack(1, 0, 0, 0, 1), Found([])]
         self.assertEqual(replies, wanted)
+
+    def test_pages(self) -> None:
+        rows = rows_of_type(SegmentType.DOWN, 65)
+        requests: list[Request] = [*registrations(rows)]
+        requests += [LIST, LIST.following(rows[63][1]), List(SegmentType.CORE)]
+        replies = run_session([PROGRAM, "once", "--cores", CORES], requests)
+        segments = [segment for _, segment in rows]
+        pages = [Page(LIST.type, segments[:64], True), Page(LIST.type, segments[64:], False)]
+        self.assertEqual(replies[5:], [*pages, Page(SegmentType.CORE, [], False)])
 
 
 if __name__ == "__main__":
