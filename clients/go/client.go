@@ -13,8 +13,8 @@ import (
 type ClientOptions struct {
 	// How connections are made.
 	Dialer Dialer
-	// How many sessions there are at most for lookups, and for commands [1 and 1]. Replies come in the
-	// order of the requests, and a command's waits for the device.
+	// How many sessions there are at most for lookups and lists, and for commands [1 and 1]. Replies come
+	// in the order of the requests, and a command's waits for the device.
 	Lookups, Commands int
 	// How many requests may be under way in a session [64]. Others wait until there is room.
 	Window int
@@ -123,9 +123,9 @@ func (c *Client) command(ctx context.Context, kind Kind, body []byte) (Ack, erro
 
 // Ask answers the body of the reply to a request, whose own body is sent as it is.
 func (c *Client) Ask(ctx context.Context, kind Kind, body []byte) ([]byte, error) {
-	sessions := c.commands
-	if kind == KindLookup {
-		sessions = c.lookups
+	sessions := c.lookups
+	if kind.isCommand() {
+		sessions = c.commands
 	}
 	var between pauses
 	for attempt := 1; ; attempt++ {

@@ -12,6 +12,8 @@
 //	..
 //	found, err := client.Lookup(ctx, source, destination)
 //
+// A lookup finds 64 segments at most; Client.List gives all of a type, in pages.
+//
 // # Errors
 //
 // A request that the server refused is a Code. A call without a reply is a *SessionError, which says

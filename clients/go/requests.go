@@ -12,14 +12,20 @@ import (
 type Kind byte
 
 // The kinds of requests. The body of a registration is a SegmentsRegistrationRequest, that of a lookup
-// a SegmentsRequest, that of a purge its moment in 8 bytes, and that of a removal a type in a byte and
-// an id.
+// a SegmentsRequest, that of a purge its moment in 8 bytes, that of a removal a type in a byte and an
+// id, and that of a list is made by ListBody.
 const (
 	KindRegister Kind = 1
 	KindLookup   Kind = 2
 	KindPurge    Kind = 3
 	KindRemove   Kind = 4
+	KindList     Kind = 5
 )
+
+// isCommand answers whether a request changes what there is, and waits for the device.
+func (k Kind) isCommand() bool {
+	return k != KindLookup && k != KindList
+}
 
 // The kinds as bytes, what the kind of a reply has in addition, and the kind of a refusal.
 const (
@@ -57,6 +63,11 @@ func ReadAck(body []byte) (Ack, error) {
 	return Ack{binary.BigEndian.Uint64(body), number(8), number(12), number(16), number(20)}, nil
 }
 
+// isReply answers whether the content of a frame that is no refusal is a reply to a request of a kind.
+func isReply(kind byte, content []byte) bool {
+	return content[0] == replied|kind && (!Kind(kind).isCommand() || len(content) == 1+ackSize)
+}
+
 func registrationBody(segments *pb.SegmentsRegistrationRequest) ([]byte, error) {
 	return proto.MarshalOptions{Deterministic: true}.Marshal(segments)
 }
@@ -71,4 +82,15 @@ func purgeBody(moment Moment) []byte {
 
 func removalBody(kind pb.SegmentType, id [32]byte) []byte {
 	return append([]byte{byte(kind)}, id[:]...)
+}
+
+// ListBody answers the body of a list: the type in a byte, the start and the end in 8 bytes each, and
+// then the id after which the page begins, where there is one.
+func ListBody(kind pb.SegmentType, start, end IsdAs, after *[32]byte) []byte {
+	body := binary.BigEndian.AppendUint64([]byte{byte(kind)}, uint64(start))
+	body = binary.BigEndian.AppendUint64(body, uint64(end))
+	if after != nil {
+		body = append(body, after[:]...)
+	}
+	return body
 }

@@ -126,12 +126,20 @@ func (s *Servers) Lookup(ctx context.Context, source, destination IsdAs) (*pb.Se
 	if err != nil {
 		return nil, err
 	}
+	if body, err = s.query(ctx, KindLookup, body); err != nil {
+		return nil, err
+	}
 	found := new(pb.SegmentsResponse)
+	return found, proto.Unmarshal(body, found)
+}
+
+// query answers the body of the reply to a lookup or a list.
+func (s *Servers) query(ctx context.Context, kind Kind, body []byte) ([]byte, error) {
 	for {
-		body, err := s.askEach(ctx, body)
+		reply, err := s.askEach(ctx, kind, body)
 		var code Code
 		if err == nil {
-			return found, proto.Unmarshal(body, found)
+			return reply, nil
 		}
 		_, isBounded := ctx.Deadline()
 		if !isBounded || errors.As(err, &code) && !isSentAgain(code) {
@@ -210,13 +218,13 @@ func (s *Servers) put(d *delivery) error {
 
 // askEach asks the servers one after the other, until one answers the body of a reply. Each has an
 // equal part of the time that those before it have left.
-func (s *Servers) askEach(ctx context.Context, body []byte) (reply []byte, err error) {
+func (s *Servers) askEach(ctx context.Context, kind Kind, body []byte) (reply []byte, err error) {
 	s.lock.Lock()
 	first := s.first
 	s.lock.Unlock()
 	for tried := range s.lookups {
 		number := (first + tried) % len(s.lookups)
-		if reply, err = s.askOne(ctx, number, len(s.lookups)-tried, body); err == nil {
+		if reply, err = s.askOne(ctx, number, len(s.lookups)-tried, kind, body); err == nil {
 			s.lock.Lock()
 			s.first = number
 			s.lock.Unlock()
@@ -231,7 +239,7 @@ func (s *Servers) askEach(ctx context.Context, body []byte) (reply []byte, err e
 }
 
 // askOne asks a server that is the first of so many which may still be asked.
-func (s *Servers) askOne(ctx context.Context, number, left int, body []byte) ([]byte, error) {
+func (s *Servers) askOne(ctx context.Context, number, left int, kind Kind, body []byte) ([]byte, error) {
 	part := s.options.Timeout
 	if deadline, isBounded := ctx.Deadline(); isBounded && time.Until(deadline)/time.Duration(left) < part {
 		part = time.Until(deadline) / time.Duration(left)
@@ -242,7 +250,7 @@ func (s *Servers) askOne(ctx context.Context, number, left int, body []byte) ([]
 	if err != nil {
 		return nil, err
 	}
-	reply, err := session.ask(ctx, lookup, body)
+	reply, err := session.ask(ctx, byte(kind), body)
 	if errors.Is(err, context.DeadlineExceeded) {
 		session.fail(ErrStuck) // the next call connects anew
 	}

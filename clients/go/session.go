@@ -264,8 +264,7 @@ func (s *session) takeNext(content []byte, isRefusal bool) (*call, error) {
 		return nil, fmt.Errorf("%w: nothing was asked", ErrReply)
 	}
 	next := s.pending[0]
-	isNoAck := next.kind != lookup && len(content) != 1+ackSize
-	if !isRefusal && (content[0] != replied|next.kind || isNoAck) {
+	if !isRefusal && !isReply(next.kind, content) {
 		return nil, fmt.Errorf("%w: kind %#02x, %d bytes", ErrReply, content[0], len(content))
 	}
 	s.pending[0] = nil

@@ -20,13 +20,16 @@ type store struct {
 	listener net.Listener
 	conns    []net.Conn
 	commands [][]byte // the contents of the commands that came
-	lookups  int
+	lookups  int      // how many lookups and lists came
 }
 
 // taken finds nothing, and acknowledges each command.
 func taken(content []byte) []byte {
-	if content[0] == lookup {
+	switch Kind(content[0]) {
+	case KindLookup:
 		return []byte{replied | lookup}
+	case KindList:
+		return []byte{replied | content[0], 0}
 	}
 	return append([]byte{replied | content[0]}, make([]byte, 24)...)
 }
@@ -92,7 +95,7 @@ func (s *store) serve(conn net.Conn) {
 			return
 		}
 		s.lock.Lock()
-		if content[0] == lookup {
+		if !Kind(content[0]).isCommand() {
 			s.lookups++
 		} else {
 			s.commands = append(s.commands, content)
@@ -105,7 +108,7 @@ func (s *store) serve(conn net.Conn) {
 	}
 }
 
-// came answers the commands and the number of lookups that have come.
+// came answers the commands that have come, and how many lookups and lists have.
 func (s *store) came() ([][]byte, int) {
 	s.lock.Lock()
 	defer s.lock.Unlock()
