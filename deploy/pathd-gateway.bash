@@ -6,9 +6,9 @@ _pathd_gateway() {
   case $previous in
     --cert | --key | --client-ca) mapfile -t COMPREPLY < <(compgen -f -- "$current"); return ;;
     --trust) mapfile -t COMPREPLY < <(compgen -d -- "$current"); return ;;
-    --listen | --pathd | --lookups | --registrations | --deadline | --idle | --streams | --calls | --connections | --peer-connections | --trust-server | --status) return ;;
+    --listen | --pathd | --lookups | --registrations | --most-segments | --deadline | --idle | --streams | --calls | --connections | --peer-connections | --trust-server | --status) return ;;
   esac
-  words="--listen --pathd --lookups --registrations --deadline --idle --streams --calls --connections --peer-connections --cert --key --client-ca --trust --trust-server --status --version --help"
+  words="--listen --pathd --lookups --registrations --most-segments --deadline --idle --streams --calls --connections --peer-connections --cert --key --client-ca --trust --trust-server --status --version --help"
   mapfile -t COMPREPLY < <(compgen -W "$words" -- "$current")
 }
 

@@ -6,6 +6,7 @@ _arguments \
   '--pathd[the address of pathd]:ADDR:' \
   '--lookups[sessions with pathd for lookups]:N:' \
   '--registrations[sessions with pathd for registrations]:N:' \
+  '--most-segments[segments that a lookup is answered with]:N:' \
   '--deadline[the longest that a call may take]:SECONDS:' \
   '--idle[the longest that a connection may have no call]:SECONDS:' \
   '--streams[calls under way in a connection]:N:' \

@@ -74,7 +74,7 @@ func newGateway(s *settings.Settings, listener net.Listener) (g *gateway, err er
 		Streams: uint32(s.Streams), Stuck: s.Deadline, TLS: g.certificates.current(),
 	}, g.serveHTTP2)
 	options := calls.Options{
-		Pathd: g.pathd, Deadline: s.Deadline,
+		Pathd: g.pathd, MostSegments: s.MostSegments, Deadline: s.Deadline,
 		Calls: s.Calls, OwedByOne: owedByOne, OwedByAll: owedByAll, Owed: g.door.Owed,
 	}
 	if g.keeper != nil {

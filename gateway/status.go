@@ -64,6 +64,7 @@ func (g *gateway) writeCalls(p *numbers.Page) {
 	p.Row("pathd_gateway_calls", "", float64(underWay))
 	p.Counter("pathd_gateway_calls_turned_away_total", "Calls that were ended at once, for want of room.")
 	p.Row("pathd_gateway_calls_turned_away_total", "", float64(turned))
+	g.desk.WritePages(p)
 	var memory runtime.MemStats
 	runtime.ReadMemStats(&memory)
 	p.Gauge("pathd_gateway_memory_bytes", "Bytes that the program has from the system.")

@@ -35,6 +35,9 @@ const (
 	replied, refused byte = 0x80, 0xff
 )
 
+// MostFound is how many segments a lookup finds at most, and a page of a list has.
+const MostFound = 64
+
 // The most bytes of the body of a request, and of that of a reply.
 const (
 	MostRequest = 131_072

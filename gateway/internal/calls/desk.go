@@ -33,6 +33,8 @@ type Options struct {
 	Pathd Asker
 	// Verifier verifies registrations before pathd gets them. Nil is none.
 	Verifier Verifier
+	// MostSegments is how many segments a lookup's response has at most.
+	MostSegments int
 	// Deadline is the longest that a call may take.
 	Deadline time.Duration
 	// Calls is how many calls may be under way.
@@ -46,12 +48,15 @@ type Options struct {
 // Desk is where calls are carried out.
 type Desk struct {
 	options  Options
+	pages    pages
 	underWay atomic.Int64
 	turned   atomic.Uint64
 }
 
 // NewDesk answers a desk without calls.
-func NewDesk(options Options) *Desk { return &Desk{options: options} }
+func NewDesk(options Options) *Desk {
+	return &Desk{options: options, pages: pages{pathd: options.Pathd, most: options.MostSegments}}
+}
 
 // Numbers answers how many calls are under way, and how many were turned away for want of room.
 func (d *Desk) Numbers() (underWay int64, turned uint64) {
@@ -61,9 +66,17 @@ func (d *Desk) Numbers() (underWay int64, turned uint64) {
 // Deadline answers the longest that a call may take.
 func (d *Desk) Deadline() time.Duration { return d.options.Deadline }
 
-// Segments is SegmentLookupService/Segments: the body of the reply is the response.
+// WritePages writes the numbers of the pages that were added to lookups.
+func (d *Desk) WritePages(p *numbers.Page) { d.pages.writeNumbers(p) }
+
+// Segments is SegmentLookupService/Segments: the body of the reply is the response, with pages of a
+// list after it where the lookup may be cut.
 func (d *Desk) Segments(ctx context.Context, request []byte) ([]byte, error) {
-	return d.options.Pathd.Ask(ctx, pathd.KindLookup, request)
+	found, err := d.options.Pathd.Ask(ctx, pathd.KindLookup, request)
+	if err != nil {
+		return nil, err
+	}
+	return d.pages.complete(ctx, request, found), nil
 }
 
 // Registration is SegmentRegistrationService/SegmentsRegistration: the response is empty.

@@ -9,6 +9,8 @@ import (
 	"net"
 	"strconv"
 	"time"
+
+	"pathd"
 )
 
 // The most of numbers on the command line.
@@ -18,12 +20,14 @@ const (
 	mostStreams     = 4096
 	mostConnections = 65_536
 	mostCalls       = 65_536
+	mostSegments    = 4096
 )
 
 // Settings are what the command line says.
 type Settings struct {
 	Listen, Pathd, Status      string
 	Lookups, Registrations     int
+	MostSegments               int
 	Deadline, Idle             time.Duration
 	Streams, Connections       int
 	PeerConnections, Calls     int
@@ -52,6 +56,7 @@ func Read(words []string, out io.Writer) (*Settings, error) {
 	add.address(&s.Pathd, "pathd", "127.0.0.1:30252", "the address of pathd, which may be started later")
 	add.number(&s.Lookups, "lookups", 2, 1, mostSessions, "sessions with pathd for lookups")
 	add.number(&s.Registrations, "registrations", 1, 1, mostSessions, "sessions with pathd for registrations")
+	add.number(&s.MostSegments, "most-segments", 256, pathd.MostFound, mostSegments, "segments that a lookup is answered with")
 	add.seconds(&s.Deadline, "deadline", 10*time.Second, "the longest that a call may take")
 	add.seconds(&s.Idle, "idle", 300*time.Second, "the longest that a connection may have no call")
 	add.number(&s.Streams, "streams", 256, 1, mostStreams, "calls under way in a connection")
