@@ -144,21 +144,23 @@ func TestManyAreUnderWay(t *testing.T) {
 
 func TestContextsEndCallsAlone(t *testing.T) {
 	client, server, ctx := open(t)
-	short, cancel := context.WithTimeout(ctx, 50*time.Millisecond)
+	for _, moment := range []Moment{1, 3} {
+		cancelled, cancel := context.WithCancel(ctx)
+		go func() {
+			server.next()
+			cancel()
+		}()
+		if _, err := client.Purge(cancelled, moment.Time()); !errors.Is(err, context.Canceled) {
+			t.Error(err)
+		}
+		// This one is never sent.
+		if _, err := client.Purge(cancelled, Moment(2).Time()); !errors.Is(err, context.Canceled) {
+			t.Error(err)
+		}
+	}
+	late, cancel := context.WithDeadline(ctx, time.Now())
 	defer cancel()
-	if _, err := client.Purge(short, Moment(1).Time()); !errors.Is(err, context.DeadlineExceeded) {
-		t.Error(err)
-	}
-	if _, err := client.Purge(short, Moment(2).Time()); !errors.Is(err, context.DeadlineExceeded) {
-		t.Error(err)
-	}
-	cancelled, cancel := context.WithCancel(ctx)
-	go func() {
-		server.next() // the first purge: the second was never sent
-		server.next()
-		cancel()
-	}()
-	if _, err := client.Purge(cancelled, Moment(3).Time()); !errors.Is(err, context.Canceled) {
+	if _, err := client.Purge(late, Moment(2).Time()); !errors.Is(err, context.DeadlineExceeded) {
 		t.Error(err)
 	}
 	go func() {
@@ -176,22 +178,24 @@ func TestContextsEndCallsAlone(t *testing.T) {
 
 func TestAFullWindowWaitsAsLongAsTheContext(t *testing.T) {
 	client, server, ctx := open(t)
-	short, cancel := context.WithTimeout(ctx, 200*time.Millisecond)
-	defer cancel()
+	short, cancel := context.WithCancel(ctx)
 	var all sync.WaitGroup
 	for number := 0; number < window+8; number++ {
 		all.Add(1)
 		go func() {
 			defer all.Done()
-			if _, err := client.Purge(short, Moment(0).Time()); !errors.Is(err, context.DeadlineExceeded) {
+			if _, err := client.Purge(short, Moment(0).Time()); !errors.Is(err, context.Canceled) {
 				t.Error(err)
 			}
 		}()
 	}
+	for number := 0; number < window; number++ {
+		server.next()
+	}
+	cancel()
 	all.Wait()
 	go func() {
 		for number := 0; number < window; number++ {
-			server.next()
 			server.acknowledge(purge, 0)
 		}
 		server.next()

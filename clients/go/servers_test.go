@@ -80,7 +80,8 @@ func TestAServerThatIsAwayGetsCommandsLater(t *testing.T) {
 	if err := servers.Drain(short); err != context.DeadlineExceeded {
 		t.Error(err)
 	}
-	if state := servers.States()[1]; state.Waiting != 100 || state.Err == nil || state.Address != away.address {
+	waitUntil(t, func() bool { return servers.States()[1].Err != nil })
+	if state := servers.States()[1]; state.Waiting != 100 || state.Address != away.address {
 		t.Errorf("%v", state)
 	}
 	away.start()
@@ -119,11 +120,15 @@ func TestAServerThatIsStartedAgain(t *testing.T) {
 func TestTooFewAcknowledge(t *testing.T) {
 	up, away := running(t, taken), newStore(t, taken)
 	servers, ctx := serversOf(t, Options{}, up, away)
-	short, cancel := context.WithTimeout(ctx, 300*time.Millisecond)
-	defer cancel()
-	results, err := servers.Purge(short, Moment(1).Time())
+	cancelled, cancel := context.WithCancel(ctx)
+	go func() {
+		up.waitFor(1)
+		waitUntil(t, func() bool { return servers.States()[0].Waiting == 0 })
+		cancel()
+	}()
+	results, err := servers.Purge(cancelled, Moment(1).Time())
 	var few *NotAcknowledged
-	if !errors.As(err, &few) || !errors.Is(err, context.DeadlineExceeded) || len(few.Results) != 2 {
+	if !errors.As(err, &few) || !errors.Is(err, context.Canceled) || len(few.Results) != 2 {
 		t.Errorf("%v", err)
 	}
 	if results[0].Err != nil || results[1].Err != ErrWaiting {
@@ -199,12 +204,11 @@ func TestLookupsFallOver(t *testing.T) {
 	}
 
 	hung := running(t, silent)
-	servers, ctx = serversOf(t, Options{}, hung, away)
-	short, cancel := context.WithTimeout(ctx, time.Second)
-	defer cancel()
+	const try = 2 * time.Second // as long as a busy machine may take for a reply
+	servers, ctx = serversOf(t, Options{Timeout: try}, hung, away)
 	begun := time.Now()
-	look(short, servers)
-	if took := time.Since(begun); took < 400*time.Millisecond {
+	look(ctx, servers)
+	if took := time.Since(begun); took < try {
 		t.Errorf("%v", took)
 	}
 	look(ctx, servers)

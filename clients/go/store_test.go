@@ -3,14 +3,16 @@ package pathd
 import (
 	"bufio"
 	"encoding/binary"
+	"fmt"
 	"net"
 	"sync"
+	"syscall"
 	"testing"
 	"time"
 )
 
 // store is a pathd that a test plays: it answers any number of sessions, and is stopped and started
-// again at its port.
+// again at its port, which no other process gets meanwhile.
 type store struct {
 	t       *testing.T
 	address string
@@ -42,11 +44,41 @@ func refuses(code Code) func([]byte) []byte {
 
 // newStore answers a store that doesn't listen yet.
 func newStore(t *testing.T, answer func([]byte) []byte) *store {
-	s := &store{t: t, address: "127.0.0.1:0", answer: answer}
-	s.start()
-	s.stop()
+	s := &store{t: t, address: heldAddress(t), answer: answer}
 	t.Cleanup(s.stop)
 	return s
+}
+
+// heldAddress answers an address of the loopback whose port is bound by a socket that doesn't listen,
+// as long as the test goes on: others may listen there that have SO_REUSEADDR, as Go's do, and no
+// process is given the port.
+func heldAddress(t *testing.T) string {
+	held, err := syscall.Socket(syscall.AF_INET, syscall.SOCK_STREAM|syscall.SOCK_CLOEXEC, 0)
+	if err != nil {
+		t.Fatal(err)
+	}
+	t.Cleanup(func() { syscall.Close(held) })
+	if err := syscall.SetsockoptInt(held, syscall.SOL_SOCKET, syscall.SO_REUSEADDR, 1); err != nil {
+		t.Fatal(err)
+	}
+	if err := syscall.Bind(held, &syscall.SockaddrInet4{Addr: [4]byte{127, 0, 0, 1}}); err != nil {
+		t.Fatal(err)
+	}
+	bound, err := syscall.Getsockname(held)
+	if err != nil {
+		t.Fatal(err)
+	}
+	return fmt.Sprintf("127.0.0.1:%d", bound.(*syscall.SockaddrInet4).Port)
+}
+
+// waitUntil waits until something holds.
+func waitUntil(t *testing.T, holds func() bool) {
+	for begun := time.Now(); !holds(); time.Sleep(time.Millisecond) {
+		if time.Since(begun) > limit {
+			t.Error("it does not come to hold")
+			return
+		}
+	}
 }
 
 func (s *store) start() {
@@ -56,19 +88,30 @@ func (s *store) start() {
 	}
 	s.lock.Lock()
 	defer s.lock.Unlock()
-	s.listener, s.address = listener, listener.Addr().String()
+	s.listener = listener
 	go func() {
 		for {
 			conn, err := listener.Accept()
 			if err != nil {
 				return
 			}
-			s.lock.Lock()
-			s.conns = append(s.conns, conn)
-			s.lock.Unlock()
-			go s.serve(conn)
+			if s.keep(conn, listener) {
+				go s.serve(conn)
+			}
 		}
 	}()
+}
+
+// keep notes a connection, which is closed where its listener was stopped meanwhile.
+func (s *store) keep(conn net.Conn, listener net.Listener) bool {
+	s.lock.Lock()
+	defer s.lock.Unlock()
+	if s.listener != listener {
+		conn.Close()
+		return false
+	}
+	s.conns = append(s.conns, conn)
+	return true
 }
 
 func (s *store) setAnswer(answer func([]byte) []byte) {
@@ -79,8 +122,18 @@ func (s *store) setAnswer(answer func([]byte) []byte) {
 
 func (s *store) stop() {
 	s.lock.Lock()
+	if s.listener != nil {
+		s.listener.Close()
+		s.listener = nil
+	}
+	s.lock.Unlock()
+	s.cut()
+}
+
+// cut ends the connections, and goes on to listen.
+func (s *store) cut() {
+	s.lock.Lock()
 	defer s.lock.Unlock()
-	s.listener.Close()
 	for _, conn := range s.conns {
 		conn.Close()
 	}
@@ -117,10 +170,10 @@ func (s *store) came() ([][]byte, int) {
 
 // waitFor waits until this number of commands has come in all.
 func (s *store) waitFor(count int) {
-	for begun := time.Now(); time.Since(begun) < limit; time.Sleep(time.Millisecond) {
-		if commands, _ := s.came(); len(commands) >= count {
-			return
-		}
-	}
-	s.t.Fatal("the commands have not come")
+	waitUntil(s.t, func() bool { commands, _ := s.came(); return len(commands) >= count })
+}
+
+// waitForLookups waits until this number of lookups and lists has come in all.
+func (s *store) waitForLookups(count int) {
+	waitUntil(s.t, func() bool { _, lookups := s.came(); return lookups >= count })
 }
