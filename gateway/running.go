@@ -35,6 +35,7 @@ func run(s *settings.Settings) error {
 			return fmt.Errorf("--status: %w", err)
 		}
 		defer g.serveNumbers(numbers).Close()
+		fmt.Println("numbers at", numbers.Addr())
 	}
 	ctx, cancel := context.WithCancel(context.Background())
 	defer cancel()

@@ -3,6 +3,7 @@ package tests
 import (
 	"context"
 	"fmt"
+	"net"
 	"sync"
 	"syscall"
 	"testing"
@@ -110,14 +111,14 @@ func TestEachCodeHasItsStatus(t *testing.T) {
 }
 
 func TestHealth(t *testing.T) {
-	server := pathd(t, "127.0.0.1:0")
+	server := pathd(t, heldAddress(t))
 	conn, ctx := dial(t, gateway(t, server.address).address)
 	client := health.NewHealthClient(conn)
 	for _, service := range []string{"", lookupService, registrationService} {
-		got, err := client.Check(ctx, &health.HealthCheckRequest{Service: service})
-		if err != nil || got.Status != health.HealthCheckResponse_SERVING {
-			t.Errorf("%s: %v, %v", service, got, err)
-		}
+		waitUntil(t, service+" is not served", func() bool {
+			got, err := client.Check(ctx, &health.HealthCheckRequest{Service: service})
+			return err == nil && got.Status == health.HealthCheckResponse_SERVING
+		})
 	}
 	if _, err := client.Check(ctx, &health.HealthCheckRequest{Service: "another"}); status.Code(err) != codes.NotFound {
 		t.Error(err)
@@ -126,9 +127,16 @@ func TestHealth(t *testing.T) {
 	if err != nil {
 		t.Fatal(err)
 	}
+	// On a busy machine the answer of pathd may be late, so that another status comes between.
 	next := func(wanted health.HealthCheckResponse_ServingStatus) {
-		if got, err := stream.Recv(); err != nil || got.Status != wanted {
-			t.Errorf("%v, %v", got, err)
+		for {
+			got, err := stream.Recv()
+			if err != nil {
+				t.Fatal(err)
+			}
+			if got.Status == wanted {
+				return
+			}
 		}
 	}
 	next(health.HealthCheckResponse_SERVING)
@@ -186,7 +194,7 @@ func TestDeadlines(t *testing.T) {
 		begun := time.Now()
 		_, err := lookup(short, conn)
 		cancel()
-		if status.Code(err) != codes.DeadlineExceeded || time.Since(begun) > 20*time.Second {
+		if status.Code(err) != codes.DeadlineExceeded || time.Since(begun) > limit/2 {
 			t.Error(err, time.Since(begun))
 		}
 	}
@@ -209,7 +217,7 @@ func TestMoreCallsThanThereIsRoomFor(t *testing.T) {
 		}
 		return healthy(content)
 	})
-	conn, ctx := dial(t, gateway(t, address, "--calls", "10", "--lookups", "2").address)
+	conn, ctx := dial(t, gateway(t, address, "--calls", "10", "--lookups", "2", "--deadline", "60").address)
 	var wait sync.WaitGroup
 	var mu sync.Mutex
 	var once sync.Once
@@ -262,7 +270,13 @@ func TestACallUnderWayEndsBeforeTheProgram(t *testing.T) {
 	}()
 	<-asked
 	at.signal(syscall.SIGTERM)
-	time.Sleep(300 * time.Millisecond)
+	waitUntil(t, "connections are still accepted", func() bool {
+		conn, err := net.Dial("tcp", at.address)
+		if err == nil {
+			conn.Close()
+		}
+		return err != nil
+	})
 	close(quit)
 	if err := <-done; err != nil {
 		t.Error(err)
@@ -296,7 +310,7 @@ func TestCallsThatDoNotEndAreCutShort(t *testing.T) {
 	}
 	time.Sleep(200 * time.Millisecond)
 	begun := time.Now()
-	if err := at.end(syscall.SIGTERM); err != nil || time.Since(begun) > 30*time.Second {
+	if err := at.end(syscall.SIGTERM); err != nil || time.Since(begun) > limit {
 		t.Error(err, time.Since(begun), at.log)
 	}
 }

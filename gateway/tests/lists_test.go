@@ -3,10 +3,7 @@ package tests
 import (
 	"bytes"
 	"fmt"
-	"io"
-	"net/http"
 	"sort"
-	"strings"
 	"sync"
 	"testing"
 	"time"
@@ -132,19 +129,15 @@ func TestAPageWithoutAReply(t *testing.T) {
 		"a refusal":       func() []byte { return []byte{0xff, 0x01} },
 		"no page":         func() []byte { return []byte{0x85, 2} },
 	} {
-		status := freeAddress(t)
 		address, _ := lister(t, segments, page)
-		conn, ctx := dial(t, gateway(t, address, "--status", status).address)
+		at := gateway(t, address, "--status", "127.0.0.1:0")
+		conn, ctx := dial(t, at.address)
 		found, err := lookup(ctx, conn)
 		if err != nil || !proto.Equal(found, answerOf(segments[:64])) {
 			t.Errorf("%s: %d segments, %v", name, len(found.GetSegments()[2].GetSegments()), err)
 		}
-		response, err := http.Get("http://" + status + "/metrics")
-		pki.Must(t, err)
-		text, err := io.ReadAll(response.Body)
-		response.Body.Close()
-		if err != nil || !strings.Contains(string(text), "\npathd_gateway_pages_total{result=\"failed\"} 1\n") {
-			t.Errorf("%s: %v", name, err)
+		if got := at.rows()[`pathd_gateway_pages_total{result="failed"}`]; got != "1" {
+			t.Errorf("%s: %s pages", name, got)
 		}
 	}
 }

@@ -3,7 +3,6 @@ package tests
 import (
 	"bufio"
 	"crypto/elliptic"
-	"net"
 	"net/http"
 	"os"
 	"path/filepath"
@@ -51,10 +50,9 @@ func namesOfPage(t *testing.T) map[string]bool {
 	tlsFiles(t, folder)
 	pki.Must(t, os.Mkdir(filepath.Join(folder, "trust"), 0o700))
 	isd.WriteTRC(t, filepath.Join(folder, "trust"))
-	status := freeAddress(t)
-	gateway(t, fake(t, healthy), "--status", status, "--trust", filepath.Join(folder, "trust"), "--trust-server", "127.0.0.1:1",
+	at := gateway(t, fake(t, healthy), "--status", "127.0.0.1:0", "--trust", filepath.Join(folder, "trust"), "--trust-server", "127.0.0.1:1",
 		"--cert", filepath.Join(folder, "server.crt"), "--key", filepath.Join(folder, "server.key"))
-	response, err := http.Get("http://" + status + "/metrics")
+	response, err := http.Get("http://" + at.numbers + "/metrics")
 	pki.Must(t, err)
 	defer response.Body.Close()
 	known := map[string]bool{}
@@ -64,12 +62,4 @@ func namesOfPage(t *testing.T) map[string]bool {
 		}
 	}
 	return known
-}
-
-// freeAddress answers an address of the loopback at which nobody listens.
-func freeAddress(t *testing.T) string {
-	listener, err := net.Listen("tcp", "127.0.0.1:0")
-	pki.Must(t, err)
-	defer listener.Close()
-	return listener.Addr().String()
 }

@@ -8,6 +8,7 @@ import (
 	"errors"
 	"io"
 	"net"
+	"net/http"
 	"os"
 	"os/exec"
 	"path/filepath"
@@ -29,6 +30,7 @@ type process struct {
 	t       *testing.T
 	command *exec.Cmd
 	address string
+	numbers string // of a gateway, where --status has it listen
 	log     *strings.Builder
 	ended   chan error
 }
@@ -48,6 +50,9 @@ func start(t *testing.T, address func(line string) string, words ...string) *pro
 		lines := bufio.NewScanner(out)
 		for lines.Scan() {
 			p.log.WriteString(lines.Text() + "\n")
+			if rest := strings.TrimPrefix(lines.Text(), "numbers at "); rest != lines.Text() {
+				p.numbers = rest // before the line that has the address
+			}
 			if it := address(lines.Text()); it != "" && len(found) == 0 {
 				found <- it
 			}
@@ -82,6 +87,37 @@ func (p *process) wait() error {
 }
 
 func (p *process) signal(by syscall.Signal) { p.command.Process.Signal(by) }
+
+// rows answers the numbers of a gateway that was started with --status, by their names with labels.
+func (p *process) rows() map[string]string {
+	p.t.Helper()
+	response, err := http.Get("http://" + p.numbers + "/metrics")
+	pki.Must(p.t, err)
+	defer response.Body.Close()
+	rows := map[string]string{}
+	for lines := bufio.NewScanner(response.Body); lines.Scan(); {
+		if at := strings.LastIndexByte(lines.Text(), ' '); at > 0 {
+			rows[lines.Text()[:at]] = lines.Text()[at+1:]
+		}
+	}
+	return rows
+}
+
+// waitFor waits until one of a gateway's numbers has a value.
+func (p *process) waitFor(name, value string) {
+	p.t.Helper()
+	waitUntil(p.t, name+" does not become "+value, func() bool { return p.rows()[name] == value })
+}
+
+// waitUntil waits until something holds, and says what does not where it never does.
+func waitUntil(t *testing.T, what string, holds func() bool) {
+	t.Helper()
+	for begun := time.Now(); !holds(); time.Sleep(20 * time.Millisecond) {
+		if time.Since(begun) > limit {
+			t.Fatal(what)
+		}
+	}
+}
 
 // gateway starts a gateway before a pathd.
 func gateway(t *testing.T, pathd string, words ...string) *process {

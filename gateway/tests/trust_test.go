@@ -100,9 +100,9 @@ func TestAControlServiceHasTheChains(t *testing.T) {
 	isd.WriteChain(t, all, "two", two)
 	service := gateway(t, fake(t, healthy), "--trust", all)
 	conn, ctx := dial(t, gateway(t, fake(t, healthy), "--trust", folder, "--trust-server", service.address).address)
-	for i := 0; i < 2; i++ {
-		pki.Must(t, register(ctx, conn, registrationOf(t, one, two, nil)))
-	}
+	// A question to the service may take longer than its time on a busy machine, and is then repeated.
+	waitUntil(t, "nothing is fetched", func() bool { return register(ctx, conn, registrationOf(t, one, two, nil)) == nil })
+	pki.Must(t, register(ctx, conn, registrationOf(t, one, two, nil)))
 	stranger := isd.AS(t, elliptic.P256(), "1-ff00:0:110")
 	if err := register(ctx, conn, registrationOf(t, stranger, two, nil)); status.Code(err) != codes.InvalidArgument {
 		t.Error(err)
@@ -114,7 +114,7 @@ func TestTrustIsReadAgain(t *testing.T) {
 	one, two := isd.AS(t, elliptic.P256(), "1-ff00:0:110"), isd.AS(t, elliptic.P256(), "1-ff00:0:111")
 	isd.WriteTRC(t, folder)
 	isd.WriteChain(t, folder, "one", one)
-	at := gateway(t, fake(t, healthy), "--trust", folder)
+	at := gateway(t, fake(t, healthy), "--trust", folder, "--status", "127.0.0.1:0")
 	conn, ctx := dial(t, at.address)
 	if err := register(ctx, conn, registrationOf(t, one, two, nil)); status.Code(err) != codes.InvalidArgument {
 		t.Error(err)
@@ -123,7 +123,7 @@ func TestTrustIsReadAgain(t *testing.T) {
 	pki.Must(t, os.WriteFile(faulty, []byte("x"), 0o600))
 	isd.WriteChain(t, folder, "two", two)
 	at.signal(syscall.SIGHUP)
-	time.Sleep(500 * time.Millisecond)
+	at.waitFor(`pathd_gateway_reloads_total{result="faulty"}`, "1")
 	if err := register(ctx, conn, registrationOf(t, one, two, nil)); status.Code(err) != codes.InvalidArgument {
 		t.Error("a faulty file: ", err)
 	}
