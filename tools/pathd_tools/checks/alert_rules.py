@@ -1,5 +1,6 @@
-"""Has promtool of Debian's package prometheus check the alert rules of deploy/, run their tests, and
-read each expression of the dashboard, as the expression of a rule. It prints what promtool prints.
+"""Has promtool of Debian's package prometheus check the alert rules of deploy/, those of the gateway
+among them, run the tests of those of the server, and read each expression of both dashboards, as the
+expression of a rule. It prints what promtool prints.
 """
 from __future__ import annotations
 
@@ -12,11 +13,12 @@ from pathd_tools import TOP, need
 from pathd_tools.toolbox import parser
 
 DEPLOY = TOP / "deploy"
+DASHBOARDS = ["grafana-dashboard.json", "pathd-gateway-dashboard.json"]
 
 
-def rules_of_dashboard() -> str:
-    """A file of rules with the expressions of the dashboard; a variable of Grafana has a value."""
-    panels = json.loads((DEPLOY / "grafana-dashboard.json").read_text())["panels"]
+def rules_of_dashboards() -> str:
+    """A file of rules with the expressions of the dashboards; a variable of Grafana has a value."""
+    panels = [panel for name in DASHBOARDS for panel in json.loads((DEPLOY / name).read_text())["panels"]]
     texts = [target["expr"].replace("$__rate_interval", "1m") for panel in panels for target in panel["targets"]]
     rules = [{"record": f"panel:{number}", "expr": text} for number, text in enumerate(texts)]
     return json.dumps({"groups": [{"name": "dashboard", "rules": rules}]})
@@ -27,7 +29,8 @@ def main(words: list[str]) -> int:
     need.require("promtool")
     with tempfile.TemporaryDirectory() as folder:
         drawn = Path(folder) / "dashboard.yml"
-        drawn.write_text(rules_of_dashboard())
-        commands = [("check", DEPLOY / "pathd.rules.yml"), ("check", drawn), ("test", DEPLOY / "pathd.rules.test.yml")]
+        drawn.write_text(rules_of_dashboards())
+        checked = [DEPLOY / "pathd.rules.yml", DEPLOY / "pathd-gateway.rules.yml", drawn]
+        commands = [*(("check", path) for path in checked), ("test", DEPLOY / "pathd.rules.test.yml")]
         results = [subprocess.run(["promtool", what, "rules", path], check=False).returncode for what, path in commands]
     return 1 if any(results) else 0
