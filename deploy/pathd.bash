@@ -7,7 +7,7 @@ _pathd() {
     words="once format copy show status upgrade run help -h --help -V --version"
   else
     case $previous in
-      --checkpoint | --journal | --rows | --listen | --status | --cores | --key | --sessions | --peer-sessions | --idle | --future | --spare | --purge | --grace | --now) return ;;
+      --checkpoint | --journal | --rows | --listen | --lookups | --lookup-seats | --status | --cores | --key | --sessions | --peer-sessions | --idle | --future | --spare | --purge | --grace | --now) return ;;
     esac
     case ${COMP_WORDS[1]} in
       once) words="--cores --now --key --hex -h --help" ;;
@@ -15,7 +15,7 @@ _pathd() {
       format) words="--checkpoint --journal --rows --new --force -h --help" ;;
       show) words="--layout -h --help" ;;
       status | upgrade) words="-h --help" ;;
-      run) words="--listen --status --cores --key --sessions --peer-sessions --idle --future --spare --purge --stop-on-end-of-input --grace --quiet --log-priority -h --help" ;;
+      run) words="--listen --lookups --lookup-seats --status --cores --key --sessions --peer-sessions --idle --future --spare --purge --stop-on-end-of-input --grace --quiet --log-priority -h --help" ;;
       help) words="once format copy show status upgrade run help" ;;
       *) return ;;
     esac

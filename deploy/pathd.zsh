@@ -63,6 +63,8 @@ _pathd() {
     run)
       _arguments $help \
         '--listen[the address to listen at]:ADDR:' \
+        '--lookups[the address for sessions that only look up]:ADDR:' \
+        '--lookup-seats[seats for these sessions]:SEATS:' \
         '--status[the address of the numbers]:ADDR:' \
         '--cores[the core ASes, joined by commas]:LIST:' \
         '--key[check signatures by this key]:HEX:' \

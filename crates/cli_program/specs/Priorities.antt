@@ -20,6 +20,7 @@ priority_of (report.HalfDamaged epoch) = Error
 priority_of report.Overfull = Error
 priority_of report.Defect = Error
 priority_of (report.TurnedAway count) = Warning
+priority_of (report.LookupsTurnedAway count) = Warning
 priority_of (report.AddressFull count) = Warning
 priority_of (report.NoThread count) = Warning
 priority_of (report.NotAccepted error pause) = Warning

@@ -2,7 +2,7 @@
 
 use crate::failure::Failure;
 use clap::ArgMatches;
-use cli_words::{LISTEN, STATUS_LISTEN};
+use cli_words::{LISTEN, LOOKUPS, STATUS_LISTEN};
 use path_server::{Listeners, raised_listener, set_accept_timeout};
 use std::net::{Net, SocketAddr, TcpListener, TcpStream};
 
@@ -17,6 +17,8 @@ struct Address<'a> {
 #[derive(Clone, Copy)]
 pub(crate) struct Addresses<'a> {
     sessions: Address<'a>,
+    /// That for sessions that only look up, if there are such.
+    lookups: Option<Address<'a>>,
     /// That for requests of the server's numbers, if they are answered.
     status: Option<Address<'a>>,
 }
@@ -24,11 +26,24 @@ pub(crate) struct Addresses<'a> {
 /// The addresses of the words. Nothing is opened for them yet.
 pub(crate) fn addresses_of<'a>(words: &ArgMatches<'a>) -> Result<Addresses<'a>, Failure<'a>> {
     let sessions = address_of(LISTEN, words.get_str(LISTEN).unwrap_or(""))?;
-    let status = match words.get_str(STATUS_LISTEN) {
-        Some(text) => Some(address_of(STATUS_LISTEN, text)?),
-        None => None,
-    };
-    Ok(Addresses { sessions, status })
+    let lookups = optional_address(words, LOOKUPS)?;
+    let status = optional_address(words, STATUS_LISTEN)?;
+    Ok(Addresses {
+        sessions,
+        lookups,
+        status,
+    })
+}
+
+/// The address of an option that may be left out.
+fn optional_address<'a>(
+    words: &ArgMatches<'a>,
+    option: &'static str,
+) -> Result<Option<Address<'a>>, Failure<'a>> {
+    match words.get_str(option) {
+        Some(text) => Ok(Some(address_of(option, text)?)),
+        None => Ok(None),
+    }
 }
 
 /// The address of an option's text.
@@ -45,11 +60,24 @@ pub(crate) fn listen<'a, R: Net<Listener = TcpListener, Stream = TcpStream>>(
     addresses: &Addresses<'a>,
 ) -> Result<Listeners<TcpListener>, Failure<'a>> {
     let sessions = bind(rt, addresses.sessions)?;
-    let status = match addresses.status {
-        Some(address) => Some(bind(rt, address)?),
-        None => None,
-    };
-    Ok(Listeners { sessions, status })
+    let lookups = bind_optional(rt, addresses.lookups)?;
+    let status = bind_optional(rt, addresses.status)?;
+    Ok(Listeners {
+        sessions,
+        lookups,
+        status,
+    })
+}
+
+/// Listens at an address, if there is one.
+fn bind_optional<'a, R: Net<Listener = TcpListener, Stream = TcpStream>>(
+    rt: &R,
+    at: Option<Address<'a>>,
+) -> Result<Option<TcpListener>, Failure<'a>> {
+    match at {
+        Some(address) => Ok(Some(bind(rt, address)?)),
+        None => Ok(None),
+    }
 }
 
 /// Listens at an address, by a descriptor above the standard ones. An accept fails soon where no

@@ -40,6 +40,7 @@ pub(crate) fn priority_of(report: &Report) -> Priority
         | Report::Overfull
         | Report::Defect => Priority::Error,
         Report::TurnedAway(_)
+        | Report::LookupsTurnedAway(_)
         | Report::AddressFull(_)
         | Report::NoThread(_)
         | Report::NotAccepted { .. }

@@ -8,7 +8,7 @@ ghost use Rattle.cli_program.specs.Options.{IsKeyOf, IsNumberOf, limit_of, bound
 use crate::failure::Failure;
 use crate::options::{cores_in, key_in, u32_in, u64_in};
 use clap::ArgMatches;
-use cli_words::{FUTURE, GRACE, IDLE, PEER_SESSIONS, PURGE, SESSIONS, SPARE};
+use cli_words::{FUTURE, GRACE, IDLE, LOOKUP_SEATS, PEER_SESSIONS, PURGE, SESSIONS, SPARE};
 use path_server::Options;
 use seg_lookup::Roster;
 use std::alloc::Global;
@@ -19,6 +19,9 @@ const IDLE_SECONDS: u32 = 300;
 
 /// The number of seats that commands under way leave to others where no option names it.
 const SPARE_SEATS: u32 = 8;
+
+/// The number of seats for sessions that only look up where no option names it.
+const LOOKUP_SEATS_LEFT_OUT: u32 = 16;
 
 /// The number of seconds that open sessions have where the server is asked to end, if no option
 /// names it.
@@ -34,6 +37,7 @@ pub(crate) fn options_of<'a>(alloc: Global, words: &ArgMatches<'a>) -> Result<Op
     ensures future { IfOk result (λ options. (count : ℕ) × IsNumberOf (found_of words.now) (codes "future") 32 0 count
         × (options.future ≡ bound_of count)) }
     ensures spare { IfOk result (λ options. IsNumberOf (found_of words.now) (codes "spare") 32 8 options.spare) }
+    ensures lookups { IfOk result (λ options. IsNumberOf (found_of words.now) (codes "lookup-seats") 32 16 options.lookup_seats) }
     ensures purge { IfOk result (λ options. (count : ℕ) × IsNumberOf (found_of words.now) (codes "purge") 32 0 count
         × (option_map as_nanos options.purge ≡ limit_of count)) }
     ensures grace { IfOk result (λ options. (count : ℕ) × IsNumberOf (found_of words.now) (codes "grace") 32 10 count
@@ -49,6 +53,7 @@ pub(crate) fn options_of<'a>(alloc: Global, words: &ArgMatches<'a>) -> Result<Op
         idle: limit(u32_in(words, IDLE, IDLE_SECONDS)),
         future: bound(u32_in(words, FUTURE, 0)),
         spare: u64::from(u32_in(words, SPARE, SPARE_SEATS)),
+        lookup_seats: u64::from(u32_in(words, LOOKUP_SEATS, LOOKUP_SEATS_LEFT_OUT)),
         purge: limit(u32_in(words, PURGE, 0)),
         grace: seconds(u32_in(words, GRACE, GRACE_SECONDS)),
     })

@@ -85,6 +85,11 @@ pub(crate) fn say_addresses<R: Host, D: Device>(
     listeners: &Listeners<TcpListener>,
 ) {
     notices.say(serves_line(alloc, path, store, &listeners.sessions));
+    if let Some(listener) = &listeners.lookups
+        && let Ok(address) = listener.local_addr()
+    {
+        notices.say(format!(in alloc; "lookups at {address}"));
+    }
     if let Some(listener) = &listeners.status
         && let Ok(address) = listener.local_addr()
     {

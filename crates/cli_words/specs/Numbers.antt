@@ -19,5 +19,6 @@ pub record HasPlainNumbers (rows : List Row) : Type 0 where
   pub idle : IsPlainNumber rows (codes "idle")
   pub future : IsPlainNumber rows (codes "future")
   pub spare : IsPlainNumber rows (codes "spare")
+  pub lookup_seats : IsPlainNumber rows (codes "lookup-seats")
   pub purge : IsPlainNumber rows (codes "purge")
   pub grace : IsPlainNumber rows (codes "grace")

@@ -58,6 +58,15 @@ pub const LISTEN: &str = "listen";
 /// The name of its option with the socket address at which its numbers are answered.
 pub const STATUS_LISTEN: &str = "status";
 
+/// The name of its option with the socket address for sessions that only look up.
+pub const LOOKUPS: &str = "lookups";
+
+/// The name of its option with the number of their seats.
+pub const LOOKUP_SEATS: &str = "lookup-seats";
+
+/// The most such seats: eight of a server's 64 are for sessions with commands.
+const MOST_LOOKUP_SEATS: i64 = 56;
+
 /// The name of its option with the number of sessions.
 pub const SESSIONS: &str = "sessions";
 
@@ -306,10 +315,23 @@ fn run_command<'a>(alloc: Global) -> Result<Command<'a>, AllocError>
         .arg(option(alloc, STATUS_LISTEN, "ADDR", status))?
         .arg(option(alloc, CORES, "LIST", CORES_HELP))?
         .arg(option(alloc, KEY, "HEX", KEY_HELP))?;
+    let command = with_lookups(alloc, command)?;
     let command = with_limits(alloc, command)?;
     let command = with_refusals(alloc, command)?;
     let command = with_purges(alloc, command)?;
     with_end(alloc, command)
+}
+
+/// Gives the command that serves sessions the options for sessions that only look up.
+fn with_lookups<'a>(alloc: Global, command: Command<'a>) -> Result<Command<'a>, AllocError>
+    requires { (out-Command command).name.now ≡ codes "run" }
+    ensures { IfOk result (λ new. (out-Command new).name.now ≡ codes "run") }
+{
+    let lookups = "A further socket address to listen at, for sessions whose commands are refused";
+    let seats = "The number of the 64 seats that are for these sessions, 1 to 56 [default: 16]";
+    let few = value_parser!(u32).range(1..=MOST_LOOKUP_SEATS);
+    let command = command.arg(option(alloc, LOOKUPS, "ADDR", lookups))?;
+    command.arg(option(alloc, LOOKUP_SEATS, "SEATS", seats).value_parser(few))
 }
 
 /// Gives the command that serves sessions the options for how many and how long.

@@ -8,8 +8,8 @@ ghost use Rattle.cli_words.specs.Numbers.{IsPlainNumber, HasPlainNumbers};
 
 use crate::command_line::{CommandLine, command_line};
 use crate::{
-    CHECKPOINT, FUTURE, GRACE, IDLE, JOURNAL, NOW, PEER_SESSIONS, PURGE, ROWS, SESSIONS, SPARE,
-    command,
+    CHECKPOINT, FUTURE, GRACE, IDLE, JOURNAL, LOOKUP_SEATS, NOW, PEER_SESSIONS, PURGE, ROWS,
+    SESSIONS, SPARE, command,
 };
 use clap::error::ErrorKind;
 use clap::{ArgMatches, Command, Error};
@@ -60,6 +60,7 @@ fn check_numbers(
     check_number(alloc, command, options, IDLE)?;
     check_number(alloc, command, options, FUTURE)?;
     check_number(alloc, command, options, SPARE)?;
+    check_number(alloc, command, options, LOOKUP_SEATS)?;
     check_number(alloc, command, options, PURGE)?;
     check_number(alloc, command, options, GRACE)
 }

@@ -27,4 +27,5 @@ limited_keeps opening refused old message reply new (inr a) =
 -- how a limited session begins
 pub begins_so : (future limit : Option ℕ) (shares shared commands taken : Bool) (inner service : Serving) → future ≡ limit → shares ≡ shared → commands ≡ taken → inner ≡ service
     → limited_beginning future shares commands inner ≡ limited_beginning limit shared taken service
-begins_so future limit shares shared commands taken inner service bound room takes is = λ i. record { future = bound i; shares = room i; commands = takes i; moment = 0; inner = is i }
+begins_so future limit shares shared commands taken inner service bound room takes is =
+    λ i. record { future = bound i; shares = room i; commands = takes i; moment = 0; inner = is i }

@@ -14,8 +14,8 @@ use Rattle.path_session.specs.Acknowledged.{AreClaimed}
 use Rattle.session_limits.specs.Limits.{LimitedView, LimitedAnswers}
 use Rattle.paced_stream.specs.Connection.{IsConnectionServed}
 
--- A limited service over a hub that has answered no message, by the bound of its times, and whether
--- its commands need room and are taken.
+-- A limited service over a hub that has answered no message, by the bound of its times, whether its
+-- commands need room, and whether they are taken.
 abbrev pub limited_beginning : Option ℕ → Bool → Bool → Serving → LimitedView Serving
 limited_beginning future shares commands serving = record { future = future; shares = shares; commands = commands; moment = 0; inner = serving }
 

@@ -1,4 +1,5 @@
 pub mod Accepting
 pub mod Attending
 pub mod Ending
+pub mod Roles
 pub mod Seating

@@ -69,16 +69,29 @@ pub(crate) fn next_arrival<
             Ok((stream, address)) => return Arrival::Peer(stream, address),
             Err(error) => match after_failure(&error) {
                 Failure::Nobody => pause = 0,
-                Failure::Pause => {
-                    pause = next_pause(pause);
-                    fail(error.raw_os_error().unwrap_or(0), pause);
-                    sleep(rt, Duration::from_millis(pause));
-                }
+                Failure::Pause => pause = pause_after(rt, &error, pause, &fail),
                 Failure::Broken => return Arrival::Broken,
             },
         }
     }
     unreachable!()
+}
+
+/// Pauses after an accept that failed by an error, of which `fail` is told with the pause. Returns
+/// the pause in milliseconds, where the one before was this.
+pub(crate) fn pause_after<R: Clock, F: Fn(i32, u64)>(
+    rt: &R,
+    error: &io::Error,
+    before: u64,
+    fail: &F,
+) -> u64
+    requires { F.IsAlwaysCallable fail.now }
+    ensures { result ≡ next_pause before }
+{
+    let pause = next_pause(before);
+    fail(error.raw_os_error().unwrap_or(0), pause);
+    sleep(rt, Duration::from_millis(pause));
+    pause
 }
 
 /// Waits for the next peer of a listener. The result is `None` where the listener is broken, or

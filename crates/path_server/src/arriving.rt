@@ -1,29 +1,32 @@
 //! Peers that arrive at a server.
 
 use crate::accepting::Arrival;
+use crate::guest::Seat;
+use crate::listeners::Listener;
 use crate::reports::{Report, Reports};
+use crate::role::Role;
 use crate::seats::{NoSeat, Peer};
 use crate::server::Server;
 use crate::turning_away::turn_away;
 use seg_check::Verifier;
-use std::net::{OpenListener, SocketAddr, TcpStream};
+use std::net::{SocketAddr, TcpStream};
 use std::sync::{Arc, Wait};
 use std::time::Clock;
 
-impl<L: OpenListener<Stream = TcpStream> + Drop, V: Verifier, O: Reports> Server<'_, L, V, O> {
-    /// The number of the seat of the next peer for whom there is one. Peers without one are turned
-    /// away. The result is `None` where the server is to end, or the listener for sessions broke.
-    pub(crate) fn next_seated<R: Wait + Clock>(&self, rt: &R) -> Option<usize> {
+impl<L: Listener + Drop, V: Verifier, O: Reports> Server<'_, L, V, O> {
+    /// The seat of the next peer for whom there is one. Peers without one are turned away. The
+    /// result is `None` where the server is to end, or a listener of sessions broke.
+    pub(crate) fn next_seated<R: Wait + Clock>(&self, rt: &R) -> Option<Seat> {
         for _ in rt.forever() {
-            let arrival = self.door.next_arrival(
+            let (role, arrival) = self.door.next_arrival(
                 rt,
                 || !self.reports.wants_end(),
                 |error, pause| self.report_failure(rt, error, pause),
             );
             match arrival {
                 Arrival::Peer(stream, address) => {
-                    if let Some(number) = self.seat(rt, stream, address) {
-                        return Some(number);
+                    if let Some(seat) = self.seat(rt, role, stream, address) {
+                        return Some(seat);
                     }
                 }
                 Arrival::Over => return None,
@@ -36,56 +39,63 @@ impl<L: OpenListener<Stream = TcpStream> + Drop, V: Verifier, O: Reports> Server
         unreachable!()
     }
 
-    /// Gives a peer a seat, and returns its number, or turns the peer away.
+    /// Gives a peer a seat of a role's sessions, and returns it, or turns the peer away.
     fn seat<R: Wait + Clock>(
         &self,
         rt: &R,
+        role: Role,
         stream: TcpStream,
         address: SocketAddr,
-    ) -> Option<usize> {
+    ) -> Option<Seat> {
         let stream = match Arc::new(self.alloc, stream) {
             Ok(stream) => stream,
             Err(refused) => {
                 turn_away(&refused.value);
-                self.report_refusal(rt, NoSeat::NoMemory);
+                self.report_refusal(rt, role, NoSeat::NoMemory);
                 return None;
             }
         };
         let peer = Peer { stream, address };
-        match self.seats.take(rt, &peer) {
-            Ok(number) => Some(number),
+        match self.seats_of(role).take(rt, &peer) {
+            Ok(number) => Some(Seat { role, number }),
             Err(refusal) => {
                 turn_away(&peer.stream);
-                self.report_refusal(rt, refusal);
+                self.report_refusal(rt, role, refusal);
                 None
             }
         }
     }
 
     /// Turns the peer of a seat away, for whom no thread was given.
-    pub(crate) fn miss_session<R: Wait + Clock>(&self, rt: &R, number: usize) {
-        if let Some(peer) = self.seats.peer(rt, number) {
+    pub(crate) fn miss_session<R: Wait + Clock>(&self, rt: &R, seat: Seat) {
+        let seats = self.seats_of(seat.role);
+        if let Some(peer) = seats.peer(rt, seat.number) {
             turn_away(&peer.stream);
         }
-        self.seats.leave(rt, number);
+        seats.leave(rt, seat.number);
         self.door.discount();
-        self.report_refusal(rt, NoSeat::NoMemory);
+        self.report_refusal(rt, seat.role, NoSeat::NoMemory);
     }
 
     /// Counts a peer that was turned away, and reports such peers if a report is due.
-    fn report_refusal<R: Wait + Clock>(&self, rt: &R, refusal: NoSeat) {
-        match refusal {
-            NoSeat::Full => {
+    fn report_refusal<R: Wait + Clock>(&self, rt: &R, role: Role, refusal: NoSeat) {
+        match (refusal, role) {
+            (NoSeat::Full, Role::All) => {
                 if let Some(count) = self.turned_away.count(rt) {
                     self.reports.report(Report::TurnedAway(count));
                 }
             }
-            NoSeat::AddressFull => {
+            (NoSeat::Full, Role::Lookups) => {
+                if let Some(count) = self.lookups_turned_away.count(rt) {
+                    self.reports.report(Report::LookupsTurnedAway(count));
+                }
+            }
+            (NoSeat::AddressFull, _) => {
                 if let Some(count) = self.address_full.count(rt) {
                     self.reports.report(Report::AddressFull(count));
                 }
             }
-            NoSeat::NoMemory => {
+            (NoSeat::NoMemory, _) => {
                 if let Some(count) = self.no_thread.count(rt) {
                     self.reports.report(Report::NoThread(count));
                 }

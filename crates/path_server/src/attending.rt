@@ -1,12 +1,16 @@
 //! The session of one peer of a server.
 
-ghost use Rattle.std.specs.Prelude.{true, IfSome, is_some};
+ghost use Rattle.std.specs.Prelude.{IfSome, is_some};
 ghost use Rattle.path_server.specs.Attending.{IsHubServed};
+ghost use Rattle.path_server.specs.Roles.{shares_room, takes_commands};
 
 use crate::ends::{Circumstances, cause_of};
+use crate::guest::Seat;
+use crate::listeners::Listener;
 use crate::parting::end_early;
 use crate::peer_socket::PeerSocket;
 use crate::reports::{Report, Reports};
+use crate::role::Role;
 use crate::server::Server;
 use crate::turning_away::turn_away;
 use paced_stream::{Ended, StreamCalls, SystemStream, serve_connection};
@@ -16,7 +20,7 @@ use sector_dev::Device;
 use seg_check::Verifier;
 use session_limits::Limited;
 use status_server::Counted;
-use std::net::{OpenListener, SocketAddr, TcpStream};
+use std::net::{SocketAddr, TcpStream};
 use std::sync::Wait;
 use std::sync::atomic::Ordering;
 use std::time::Clock;
@@ -24,45 +28,48 @@ use std::time::Clock;
 /// The most connections that are read and dropped at one time after the end of their sessions.
 const MOST_DRAINS: u64 = 64;
 
-impl<L: OpenListener<Stream = TcpStream> + Drop, V: Verifier, O: Reports> Server<'_, L, V, O> {
+impl<L: Listener + Drop, V: Verifier, O: Reports> Server<'_, L, V, O> {
     /// Serves the peer of a seat, hands in the claims of the commands that were acknowledged, frees
     /// the seat, and closes the connection.
     pub(crate) fn attend_session<D: Device, N: HubName, R: Wait + Clock>(
         &self,
         hub: &Hub<D, N, R>,
-        number: usize,
+        seat: Seat,
     ) {
         let rt = hub.handle();
-        let Some(peer) = self.seats.peer(rt, number) else {
-            self.seats.leave(rt, number);
+        let Seat { role, number } = seat;
+        let seats = self.seats_of(role);
+        let Some(peer) = seats.peer(rt, number) else {
+            seats.leave(rt, number);
             return;
         };
         let input = SystemStream::new(&peer.stream);
         let output = SystemStream::new(&peer.stream);
-        match self.serve(hub, PeerSocket::new(rt, &peer.stream), input, output) {
+        match self.serve(hub, role, PeerSocket::new(rt, &peer.stream), input, output) {
             Some((ended, claims)) => {
                 hub.keep_acknowledged(claims);
-                self.seats.leave(rt, number);
+                seats.leave(rt, number);
                 self.note_end(rt, &peer.stream, peer.address, &ended);
             }
             None => {
-                self.seats.leave(rt, number);
+                seats.leave(rt, number);
                 turn_away(&peer.stream);
             }
         }
     }
 
-    /// Serves a peer by a reader of the hub, and returns with the end the claims of all commands
+    /// Serves a peer by a reader of the hub, as its role allows, and returns with the end the claims of all commands
     /// that were acknowledged. The result is `None` where there is no reader.
     fn serve<D: Device, N: HubName, R: Wait + Clock, P: Waiter + Drop, T: StreamCalls + Drop>(
         &self,
         hub: &Hub<D, N, R>,
+        role: Role,
         peer: P,
         input: T,
         output: T,
     ) -> Option<(Ended<T>, LoggedList<N>)>
         ensures { IfSome result (λ served. IsHubServed N.opening N.refused T.given T.taken T.is_at_end
-            self.now.options.now.future (is_some self.now.rooms) true self.now.options.now.cores (V.verifies self.now.verifier.now) (P.has_left peer)
+            self.now.options.now.future (shares_room role (is_some self.now.rooms)) (takes_commands role) self.now.options.now.cores (V.verifies self.now.verifier.now) (P.has_left peer)
             input served.0.input output served.0.output served.0.replies served.1) }
     {
         let reader = hub.reader().ok()?;
@@ -70,7 +77,7 @@ impl<L: OpenListener<Stream = TcpStream> + Drop, V: Verifier, O: Reports> Server
         let clock = SystemNow::new(rt);
         let cores = &self.options.cores;
         let service = HubService::new(hub, reader, self.verifier, clock, cores, peer);
-        let limits = self.limits();
+        let limits = self.limits(role);
         let limited = Limited::new(service, SystemNow::new(rt), limits, rt);
         let mut counted = Counted::new(limited, &self.replies);
         let idle = self.options.idle;

@@ -1,26 +1,32 @@
 //! The door of a server, by which its peers arrive.
 
 use crate::accepting::{Arrival, next_arrival};
-use std::net::{OpenListener, TcpStream};
-use std::sync::atomic::{AtomicU64, Ordering};
+use crate::listeners::Listener;
+use crate::role::Role;
+use crate::two_listeners::{Entrances, next_of_two};
+use std::sync::atomic::{AtomicBool, AtomicU64, Ordering};
 use std::sync::{Mutex, Wait};
 use std::time::Clock;
 
-/// A listener, until it is closed, and the number of sessions that were started of those that are
-/// wanted.
+/// The listeners of sessions, until they are closed, and the number of sessions that were started
+/// of those that are wanted.
 #[derive(Drop)]
 pub(crate) struct Door<L> {
-    listener: Mutex<Option<L>>,
+    entrances: Mutex<Option<Entrances<L>>>,
+    /// Whether the peer that came last is of a session that only looks up. Where both listeners
+    /// have a peer, the next one is of the other listener.
+    is_lookup_last: AtomicBool,
     /// The number of sessions to start, or 0 for no limit.
     wanted: u64,
     started: AtomicU64,
 }
 
-impl<L: OpenListener<Stream = TcpStream> + Drop> Door<L> {
+impl<L: Listener + Drop> Door<L> {
     /// An open door.
-    pub(crate) fn new(listener: L, wanted: u64) -> Door<L> {
+    pub(crate) fn new(entrances: Entrances<L>, wanted: u64) -> Door<L> {
         Door {
-            listener: Mutex::new(Some(listener)),
+            entrances: Mutex::new(Some(entrances)),
+            is_lookup_last: AtomicBool::new(false),
             wanted,
             started: AtomicU64::new(0),
         }
@@ -48,25 +54,40 @@ impl<L: OpenListener<Stream = TcpStream> + Drop> Door<L> {
 
     /// Closes the door: peers are refused from now on.
     pub(crate) fn close<R: Wait>(&self, rt: &R) {
-        let mut listener = self.listener.lock(rt);
-        *listener = None;
+        let mut entrances = self.entrances.lock(rt);
+        *entrances = None;
     }
 
-    /// Waits for the next peer. None is awaited where the door is closed. `goes_on` and `fail` are
-    /// called as `next_arrival` says.
+    /// Waits for the next peer, with the role of its session. None is awaited where the door is
+    /// closed. `goes_on` and `fail` are called as `next_arrival` says.
     pub(crate) fn next_arrival<R: Wait + Clock, G: Fn() -> bool + Drop, F: Fn(i32, u64) + Drop>(
         &self,
         rt: &R,
         goes_on: G,
         fail: F,
-    ) -> Arrival
+    ) -> (Role, Arrival)
         requires goes_on { G.IsAlwaysCallable goes_on }
         requires fail { F.IsAlwaysCallable fail }
     {
-        let listener = self.listener.lock(rt);
-        match (*listener).as_ref() {
-            Some(listener) => next_arrival(rt, listener, goes_on, fail),
-            None => Arrival::Over,
+        let entrances = self.entrances.lock(rt);
+        let Some(Entrances { sessions, lookups }) = (*entrances).as_ref() else {
+            return (Role::All, Arrival::Over);
+        };
+        let Some(lookups) = lookups else {
+            return (Role::All, next_arrival(rt, sessions, goes_on, fail));
+        };
+        let came = next_of_two(rt, sessions, lookups, self.favoured(), goes_on, fail);
+        self.is_lookup_last
+            .store(came.0 == Role::Lookups, Ordering::SeqCst);
+        came
+    }
+
+    /// The role whose peer comes next, where both listeners have one.
+    fn favoured(&self) -> Role {
+        if self.is_lookup_last.load(Ordering::SeqCst) {
+            Role::All
+        } else {
+            Role::Lookups
         }
     }
 }

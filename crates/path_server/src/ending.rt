@@ -1,10 +1,10 @@
 //! The end of a server.
 
+use crate::listeners::Listener;
 use crate::reports::Reports;
 use crate::server::Server;
 use paced_stream::Deadline;
 use seg_check::Verifier;
-use std::net::{OpenListener, TcpStream};
 use std::sync::Wait;
 use std::sync::atomic::Ordering;
 use std::thread::sleep;
@@ -13,13 +13,13 @@ use std::time::{Clock, Duration};
 /// The time in milliseconds after which it is asked again whether sessions are open.
 const NAP: u64 = 20;
 
-impl<L: OpenListener<Stream = TcpStream> + Drop, V: Verifier, O: Reports> Server<'_, L, V, O> {
+impl<L: Listener + Drop, V: Verifier, O: Reports> Server<'_, L, V, O> {
     /// Waits until no session is open. Once the server is to end, the sessions that are open have
     /// the grace of the options to end by themselves. Then their connections are shut down, which
     /// ends each session at its next read or write.
     pub(crate) fn await_last<R: Wait + Clock>(&self, rt: &R) {
         for _ in rt.forever() {
-            if self.seats.taken() == 0 {
+            if self.taken() == 0 {
                 return;
             }
             if self.reports.wants_end() {
@@ -30,6 +30,7 @@ impl<L: OpenListener<Stream = TcpStream> + Drop, V: Verifier, O: Reports> Server
         self.await_grace(rt);
         self.shut.store(true, Ordering::SeqCst);
         self.seats.shut(rt);
+        self.lookup_seats.shut(rt);
     }
 
     /// Waits until no session is open or the grace is over.
@@ -38,7 +39,7 @@ impl<L: OpenListener<Stream = TcpStream> + Drop, V: Verifier, O: Reports> Server
             return;
         };
         for _ in rt.forever() {
-            if self.seats.taken() == 0 || deadline.left(rt).is_none() {
+            if self.taken() == 0 || deadline.left(rt).is_none() {
                 return;
             }
             sleep(rt, Duration::from_millis(NAP));

@@ -1,13 +1,21 @@
 //! The guests that the threads of a server attend to.
 
+use crate::role::Role;
 use std::time::Duration;
+
+/// A seat: its number among those for the sessions of a role.
+#[derive(Clone, Copy)]
+pub(crate) struct Seat {
+    pub(crate) role: Role,
+    pub(crate) number: usize,
+}
 
 /// A guest that a thread attends to. The server keeps what the thread takes: the connection of a
 /// peer in the peer's seat, and the listener for requests of the numbers.
 #[derive(Clone, Copy)]
 pub(crate) enum Guest {
-    /// The session of the peer in the seat of this number.
-    Session(usize),
+    /// The session of the peer in this seat.
+    Session(Seat),
     /// The peers that ask for the numbers.
     Status,
     /// The server itself, which purges after each of these periods.

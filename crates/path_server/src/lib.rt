@@ -3,8 +3,8 @@
 //! To the layer above, `serve_store` accepts connections of a listener and answers each as a
 //! session of the store, at most 64 at one time, until it has started the number of sessions that
 //! its options name. Then it closes the listener, and once the last session has ended, it returns
-//! the device. A second listener, where there is one, is for peers that ask for the server's
-//! numbers.
+//! the device. Another listener, where there is one, is for sessions that only look up, and one is
+//! for peers that ask for the server's numbers.
 #![tactic(auto)]
 
 mod accepting;
@@ -23,6 +23,7 @@ mod peer_socket;
 mod purger;
 mod purging;
 mod reports;
+mod role;
 mod running;
 mod seats;
 mod seldom;
@@ -30,14 +31,15 @@ mod server;
 mod status_listener;
 mod stopwatch;
 mod turning_away;
+mod two_listeners;
 mod visitors;
 mod watching;
 
 pub use accepting::{Failure, after_failure};
 pub use descriptors::raised_listener;
 pub use error::RunError;
-pub use listeners::{Listeners, set_accept_timeout};
+pub use listeners::{Listener, Listeners, set_accept_timeout};
 pub use options::Options;
 pub use reports::{Report, Reports, Silent};
 pub use running::{System, serve_store};
-pub use seats::MOST_SESSIONS;
+pub use seats::{MOST_LOOKUP_SEATS, MOST_SESSIONS};

@@ -1,12 +1,27 @@
 //! The listeners of a server.
 
 use std::io;
-use std::net::{TcpListener, TcpStream};
-use std::os::fd::OwnedFd;
+use std::net::{OpenListener, TcpListener, TcpStream};
+use std::os::fd::{AsRawFd, OwnedFd};
 use std::time::Duration;
 
 /// The longest wait of an accept, in milliseconds.
-const ACCEPT: u64 = 200;
+pub(crate) const ACCEPT: u16 = 200;
+
+/// A listener of a server's sessions.
+pub trait Listener: OpenListener<Stream = TcpStream> {
+    /// The descriptor by which the system says that a peer has come. Where it is `None`, each accept
+    /// of one listener waits for none of another.
+    fn descriptor(&self) -> Option<i32> {
+        None
+    }
+}
+
+impl Listener for TcpListener {
+    fn descriptor(&self) -> Option<i32> {
+        Some(self.as_raw_fd())
+    }
+}
 
 /// The listeners of a server.
 #[derive(Drop)]
@@ -15,6 +30,9 @@ pub struct Listeners<L> {
     /// `set_accept_timeout`, if the server may be asked to end: it asks `Reports::wants_end` only
     /// then.
     pub sessions: L,
+    /// The listener for sessions that only look up, if there is one: each of their commands is
+    /// refused. Its accepts, too, have to fail soon where no peer comes.
+    pub lookups: Option<L>,
     /// The listener for requests of the server's numbers, if they are answered. An accept has to
     /// fail soon where no peer comes, as after `set_accept_timeout`, since the server checks only
     /// then whether it is at its end.
@@ -27,10 +45,12 @@ impl<L> Listeners<L> {
     /// A listener for sessions alone.
     pub fn of_sessions(sessions: L) -> Listeners<L>
         ensures sessions { result.sessions ≡ sessions }
+        ensures lookups { result.lookups ≡ None }
         ensures status { result.status ≡ None }
     {
         Listeners {
             sessions,
+            lookups: None,
             status: None,
         }
     }
@@ -42,5 +62,5 @@ impl<L> Listeners<L> {
 pub fn set_accept_timeout(listener: &TcpListener) -> io::Result<()> {
     // A second handle of the listening socket, with a stream's methods: it sets the time of both.
     let socket = TcpStream::from(OwnedFd::from(listener.try_clone()?));
-    socket.set_read_timeout(Some(Duration::from_millis(ACCEPT)))
+    socket.set_read_timeout(Some(Duration::from_millis(u64::from(ACCEPT))))
 }

@@ -24,6 +24,9 @@ pub struct Options {
     /// The number of seats that sessions with commands under way leave to others, or 0 where they
     /// may have all seats.
     pub spare: u64,
+    /// The number of the 64 seats that are for the sessions of the listener of lookups, where there
+    /// is one. At most `MOST_LOOKUP_SEATS` are.
+    pub lookup_seats: u64,
     /// The time from one purge that the server makes by itself to the next, or `None` where it makes
     /// none. Each one is of the moment of the machine's clock.
     pub purge: Option<Duration>,

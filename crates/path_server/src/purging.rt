@@ -2,6 +2,7 @@
 
 ghost use Rattle.std.specs.Prelude.{◌≡◌, false};
 
+use crate::listeners::Listener;
 use crate::purger::Purger;
 use crate::reports::{Report, Reports};
 use crate::server::Server;
@@ -10,7 +11,6 @@ use path_hub::{Hub, HubError, HubName, Waiter};
 use path_session::SystemNow;
 use sector_dev::Device;
 use seg_check::Verifier;
-use std::net::{OpenListener, TcpStream};
 use std::sync::Wait;
 use std::sync::atomic::Ordering;
 use std::thread::sleep;
@@ -26,8 +26,7 @@ struct UntilEnd<'a, 'b, L, V, O> {
     has_left: bool,
 }
 
-impl<L: OpenListener<Stream = TcpStream> + Drop, V: Verifier, O: Reports> Waiter
-    for UntilEnd<'_, '_, L, V, O> {
+impl<L: Listener + Drop, V: Verifier, O: Reports> Waiter for UntilEnd<'_, '_, L, V, O> {
     ghost has_left = { λ waiter. waiter.has_left };
 
     fn has_left(&mut self) -> bool {
@@ -38,7 +37,7 @@ impl<L: OpenListener<Stream = TcpStream> + Drop, V: Verifier, O: Reports> Waiter
     fn note_answer(&mut self) {}
 }
 
-impl<L: OpenListener<Stream = TcpStream> + Drop, V: Verifier, O: Reports> Server<'_, L, V, O> {
+impl<L: Listener + Drop, V: Verifier, O: Reports> Server<'_, L, V, O> {
     /// Hands in a purge of the clock's moment after each period, until the server is at its end.
     pub(crate) fn purge<D: Device, N: HubName, R: Wait + Clock>(
         &self,

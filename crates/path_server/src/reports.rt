@@ -1,6 +1,5 @@
 //! The reports of a server while it runs.
 
-use crate::seats::MOST_SESSIONS;
 use path_hub::{Actor, HubError};
 use session_core::FrameError;
 use std::fmt;
@@ -26,9 +25,11 @@ pub enum Report {
     Overfull,
     /// The store met a defect of the program, and takes no more commands. Lookups go on.
     Defect,
-    /// This number of peers were turned away since the last such report, because [`MOST_SESSIONS`]
-    /// sessions were open.
+    /// This number of peers were turned away since the last such report, because all seats of their
+    /// listener's sessions were taken.
     TurnedAway(u64),
+    /// The same, of peers of the listener of lookups.
+    LookupsTurnedAway(u64),
     /// This number of peers were turned away since the last such report, because their address had
     /// as many sessions open as one address may have.
     AddressFull(u64),
@@ -92,8 +93,12 @@ impl Display for Report {
                 "the store has stopped at a defect of the program; lookups go on"
             ),
             Report::TurnedAway(count) => {
-                write!(f, "sessions refused, as {MOST_SESSIONS} are open: {count}")
+                write!(f, "sessions refused, as all seats are taken: {count}")
             }
+            Report::LookupsTurnedAway(count) => write!(
+                f,
+                "sessions refused, as all seats for lookups are taken: {count}"
+            ),
             Report::AddressFull(count) => write!(
                 f,
                 "sessions refused, as their address has reached its limit of sessions: {count}"

@@ -9,7 +9,7 @@ ghost use Rattle.logged_state.specs.Left.{OpensToFrontOf, OpensToLog, OpensWithA
 ghost use Rattle.logged_state.specs.Kept.{AllClaimsKept};
 
 use crate::error::RunError;
-use crate::listeners::Listeners;
+use crate::listeners::{Listener, Listeners};
 use crate::options::Options;
 use crate::reports::Reports;
 use crate::server::Server;
@@ -17,7 +17,6 @@ use path_hub::{Left, with_crew};
 use sector_dev::Device;
 use seg_check::{TrustAll, Verifier};
 use std::alloc::Global;
-use std::net::{OpenListener, TcpStream};
 use std::sync::Wait;
 use std::thread::Threads;
 use std::time::{Clock, Instant};
@@ -44,12 +43,7 @@ impl<R: Wait + Clock + Threads + Copy + Drop + Send + Sync> System for R {}
 /// - `NoMemory`: the readers or a thread were not given.
 ///
 /// Where the listener for requests of the numbers breaks, only their thread ends.
-pub fn serve_store<
-    R: System,
-    L: OpenListener<Stream = TcpStream> + Drop + Send,
-    D: Device + Send,
-    O: Reports + Sync,
->(
+pub fn serve_store<R: System, L: Listener + Drop + Send, D: Device + Send, O: Reports + Sync>(
     rt: R,
     alloc: Global,
     listeners: Listeners<L>,
@@ -77,7 +71,7 @@ pub fn serve_store<
 /// Serves sessions whose signatures are judged by a verifier.
 fn serve_checked<
     R: System,
-    L: OpenListener<Stream = TcpStream> + Drop + Send,
+    L: Listener + Drop + Send,
     D: Device + Send,
     V: Verifier + Sync,
     O: Reports + Sync,

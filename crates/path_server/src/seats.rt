@@ -1,6 +1,6 @@
 //! The seats of a server: one for each session at one time.
 
-ghost use Rattle.std.specs.Prelude.{◌≡◌};
+ghost use Rattle.std.specs.Prelude.{◌≡◌, ◌+◌, ◌≤◌, min, true, false};
 ghost use Rattle.path_server.specs.Seating.{refusal_of};
 
 use hub_readers::READERS;
@@ -11,6 +11,33 @@ use std::sync::{Arc, Mutex, Wait};
 
 /// The most sessions at one time: each needs a reader of the hub.
 pub const MOST_SESSIONS: u64 = READERS as u64;
+
+/// The most seats for the sessions of the listener of lookups.
+pub const MOST_LOOKUP_SEATS: u64 = 56;
+
+/// The number of seats for the sessions that may have commands, and of those for the others, of
+/// which so many are wanted. Without a listener of lookups all seats are for the former.
+pub(crate) fn shares_of(has_lookups: bool, wanted: u64) -> (u64, u64)
+    ensures all { result.0 + result.1 ≡ 64 }
+    ensures none { has_lookups ≡ false → result.1 ≡ 0 }
+    ensures some { has_lookups ≡ true → result.1 ≡ min wanted 56 }
+{
+    let lookups = lookup_share(has_lookups, wanted);
+    (MOST_SESSIONS - lookups, lookups)
+}
+
+/// The number of seats for the sessions that only look up.
+fn lookup_share(has_lookups: bool, wanted: u64) -> u64
+    ensures none { has_lookups ≡ false → result ≡ 0 }
+    ensures some { has_lookups ≡ true → result ≡ min wanted 56 }
+    ensures most { result ≤ 56 }
+{
+    if has_lookups {
+        wanted.min(MOST_LOOKUP_SEATS)
+    } else {
+        0
+    }
+}
 
 /// A connection that was accepted, and the address of its peer.
 #[derive(Drop)]
@@ -36,16 +63,20 @@ pub(crate) struct Seats {
     seats: Mutex<Vec<Option<Peer>>>,
     /// The number of seats that are taken.
     taken: AtomicU64,
+    /// The number of seats.
+    count: u64,
     /// The most seats of one address, or 0 for no limit.
     most: u64,
 }
 
 impl Seats {
-    /// All seats are free. The peers of one address may take `most` of them, or all if that is 0.
-    pub(crate) fn new(alloc: Global, most: u64) -> Seats {
+    /// This number of seats, which are all free. The peers of one address may take `most` of them,
+    /// or all if that is 0.
+    pub(crate) fn new(alloc: Global, count: u64, most: u64) -> Seats {
         Seats {
             seats: Mutex::new(Vec::new(alloc)),
             taken: AtomicU64::new(0),
+            count,
             most,
         }
     }
@@ -55,7 +86,7 @@ impl Seats {
         let mut seats = self.seats.lock(rt);
         let seats = &mut *seats;
         let held = held_by(seats.as_slice(), &peer.address);
-        if let Some(refusal) = refusal_of(self.taken(), held, self.most) {
+        if let Some(refusal) = refusal_of(self.count, self.taken(), held, self.most) {
             return Err(refusal);
         }
         let Ok(peer) = peer.again() else {
@@ -124,12 +155,12 @@ fn held_by(seats: &[Option<Peer>], address: &SocketAddr) -> u64 {
     held
 }
 
-/// Why a further peer gets no seat, if it gets none: `taken` seats are taken, `held` of them by
-/// peers of its address, which may have `most`, where 0 is no limit.
-fn refusal_of(taken: u64, held: u64, most: u64) -> Option<NoSeat>
-    ensures { result ≡ refusal_of taken held most }
+/// Why a further peer gets no seat, if it gets none: `taken` of the seats are taken, `held` of them
+/// by peers of its address, which may have `most`, where 0 is no limit.
+fn refusal_of(seats: u64, taken: u64, held: u64, most: u64) -> Option<NoSeat>
+    ensures { result ≡ refusal_of seats taken held most }
 {
-    if taken >= MOST_SESSIONS {
+    if taken >= seats {
         Some(NoSeat::Full)
     } else if most > 0 && held >= most {
         Some(NoSeat::AddressFull)

@@ -1,25 +1,27 @@
 //! A server's work with a hub: it attends to each connection in a thread of its own.
 
-ghost use Rattle.std.specs.Prelude.{◌≡◌, true, false, is_some};
+ghost use Rattle.std.specs.Prelude.{◌≡◌, false, is_some};
+ghost use Rattle.path_server.specs.Roles.{shares_room, takes_commands};
 
 use crate::door::Door;
 use crate::ends::Ends;
 use crate::error::RunError;
-use crate::guest::Guest;
-use crate::listeners::Listeners;
+use crate::guest::{Guest, Seat};
+use crate::listeners::{Listener, Listeners};
 use crate::options::Options;
 use crate::reports::{Report, Reports};
-use crate::seats::{MOST_SESSIONS, Seats};
+use crate::role::Role;
+use crate::seats::{Seats, shares_of};
 use crate::seldom::Seldom;
 use crate::status_listener::StatusListener;
 use crate::stopwatch::Stopwatch;
+use crate::two_listeners::Entrances;
 use path_hub::{Crew, Hub, HubName, Notice};
 use sector_dev::Device;
 use seg_check::Verifier;
 use session_limits::{Limits, Rooms};
 use status_server::Replies;
 use std::alloc::Global;
-use std::net::{OpenListener, TcpStream};
 use std::sync::Wait;
 use std::sync::atomic::{AtomicBool, AtomicU64, Ordering};
 use std::time::{Clock, Duration, Instant};
@@ -30,7 +32,10 @@ use std::time::{Clock, Duration, Instant};
 pub(crate) struct Server<'a, L, V, O> {
     pub(crate) alloc: Global,
     pub(crate) door: Door<L>,
+    /// The seats for the sessions that may have commands.
     pub(crate) seats: Seats,
+    /// The seats for the sessions that only look up.
+    pub(crate) lookup_seats: Seats,
     /// Room for the sessions that have commands under way, or `None` where all seats are.
     rooms: Option<Rooms>,
     pub(crate) status: StatusListener<L>,
@@ -39,6 +44,8 @@ pub(crate) struct Server<'a, L, V, O> {
     pub(crate) reports: &'a O,
     /// Peers that were turned away because all seats were taken.
     pub(crate) turned_away: Seldom,
+    /// Peers of the listener of lookups that were.
+    pub(crate) lookups_turned_away: Seldom,
     /// Peers that were turned away because their address had as many sessions as it may have.
     pub(crate) address_full: Seldom,
     /// Peers that were turned away because no thread or no memory was given for them.
@@ -73,7 +80,7 @@ pub(crate) struct Server<'a, L, V, O> {
     pub(crate) shut: AtomicBool,
 }
 
-impl<'a, L: OpenListener<Stream = TcpStream> + Drop, V: Verifier, O: Reports> Server<'a, L, V, O> {
+impl<'a, L: Listener + Drop, V: Verifier, O: Reports> Server<'a, L, V, O> {
     /// A server that no peer has come to.
     pub(crate) fn new(
         alloc: Global,
@@ -83,17 +90,24 @@ impl<'a, L: OpenListener<Stream = TcpStream> + Drop, V: Verifier, O: Reports> Se
         verifier: &'a V,
         reports: &'a O,
     ) -> Server<'a, L, V, O> {
-        let Listeners { sessions, status } = listeners;
+        let Listeners {
+            sessions,
+            lookups,
+            status,
+        } = listeners;
+        let (seats, lookup_seats) = shares_of(lookups.is_some(), options.lookup_seats);
         Server {
             alloc,
-            door: Door::new(sessions, options.sessions),
-            seats: Seats::new(alloc, options.peer_sessions),
-            rooms: rooms_beside(options.spare),
+            door: Door::new(Entrances { sessions, lookups }, options.sessions),
+            seats: Seats::new(alloc, seats, options.peer_sessions),
+            lookup_seats: Seats::new(alloc, lookup_seats, options.peer_sessions),
+            rooms: rooms_beside(seats, options.spare),
             status: StatusListener::new(status),
             options,
             verifier,
             reports,
             turned_away: Seldom::new(),
+            lookups_turned_away: Seldom::new(),
             address_full: Seldom::new(),
             no_thread: Seldom::new(),
             not_accepted: Seldom::new(),
@@ -114,17 +128,31 @@ impl<'a, L: OpenListener<Stream = TcpStream> + Drop, V: Verifier, O: Reports> Se
         }
     }
 
-    /// The limits of the messages of each session.
-    pub(crate) fn limits(&self) -> Limits<'_>
+    /// The limits of the messages of each session of a role.
+    pub(crate) fn limits(&self, role: Role) -> Limits<'_>
         ensures future { result.future ≡ self.now.options.now.future }
-        ensures rooms { is_some result.rooms ≡ is_some self.now.rooms }
-        ensures commands { result.commands ≡ true }
+        ensures rooms { is_some result.rooms ≡ shares_room role (is_some self.now.rooms) }
+        ensures commands { result.commands ≡ takes_commands role }
     {
+        let commands = role.takes_commands();
         Limits {
             future: self.options.future,
-            rooms: self.rooms.as_ref(),
-            commands: true,
+            rooms: if commands { self.rooms.as_ref() } else { None },
+            commands,
         }
+    }
+
+    /// The seats for the sessions of a role.
+    pub(crate) fn seats_of(&self, role: Role) -> &Seats {
+        match role {
+            Role::All => &self.seats,
+            Role::Lookups => &self.lookup_seats,
+        }
+    }
+
+    /// The number of seats that are taken.
+    pub(crate) fn taken(&self) -> u64 {
+        self.seats.taken().saturating_add(self.lookup_seats.taken())
     }
 
     /// Whether the listener for sessions broke.
@@ -139,7 +167,7 @@ impl<'a, L: OpenListener<Stream = TcpStream> + Drop, V: Verifier, O: Reports> Se
 
     /// Whether peers are still to come or being served.
     pub(crate) fn is_open(&self) -> bool {
-        !self.ending.load(Ordering::SeqCst) || self.seats.taken() > 0
+        !self.ending.load(Ordering::SeqCst) || self.taken() > 0
     }
 
     /// The result of the server: the number of sessions that it served, or why it did not serve all
@@ -175,24 +203,19 @@ impl<'a, L: OpenListener<Stream = TcpStream> + Drop, V: Verifier, O: Reports> Se
         }
     }
 
-    /// The number of the seat of the next peer, or `None` where no more are to come.
-    fn next_session<R: Wait + Clock>(&self, rt: &R) -> Option<usize> {
+    /// The seat of the next peer, or `None` where no more are to come.
+    fn next_session<R: Wait + Clock>(&self, rt: &R) -> Option<Seat> {
         if self.door.is_done() || self.is_short() {
             return None;
         }
-        let number = self.next_seated(rt)?;
+        let seat = self.next_seated(rt)?;
         self.door.count();
-        Some(number)
+        Some(seat)
     }
 }
 
-impl<
-    D: Device,
-    R: Wait + Clock,
-    L: OpenListener<Stream = TcpStream> + Drop + Send,
-    V: Verifier,
-    O: Reports,
-> Crew<D, R> for Server<'_, L, V, O> {
+impl<D: Device, R: Wait + Clock, L: Listener + Drop + Send, V: Verifier, O: Reports> Crew<D, R>
+    for Server<'_, L, V, O> {
     type Guest = Guest;
 
     fn next<N: HubName>(&self, hub: &Hub<D, N, R>) -> Option<Guest> {
@@ -204,8 +227,8 @@ impl<
             return Some(Guest::Purges(period));
         }
         self.report_ready();
-        if let Some(number) = self.next_session(rt) {
-            return Some(Guest::Session(number));
+        if let Some(seat) = self.next_session(rt) {
+            return Some(Guest::Session(seat));
         }
         self.ending.store(true, Ordering::SeqCst);
         self.door.close(rt);
@@ -218,7 +241,7 @@ impl<
 
     fn attend<N: HubName>(&self, hub: &Hub<D, N, R>, guest: Guest) {
         match guest {
-            Guest::Session(number) => self.attend_session(hub, number),
+            Guest::Session(seat) => self.attend_session(hub, seat),
             Guest::Status => {
                 if let Some(listener) = self.status.take(hub.handle()) {
                     self.watch(hub, &listener);
@@ -230,7 +253,7 @@ impl<
 
     fn miss<N: HubName>(&self, hub: &Hub<D, N, R>, guest: Guest) {
         match guest {
-            Guest::Session(number) => self.miss_session(hub.handle(), number),
+            Guest::Session(seat) => self.miss_session(hub.handle(), seat),
             Guest::Status | Guest::Purges(_) => self.is_short.store(true, Ordering::SeqCst),
         }
     }
@@ -270,13 +293,16 @@ impl<
     }
 }
 
-/// Room for the sessions that have commands under way: all seats but those that are spare. The
-/// result is `None` where none is.
-fn rooms_beside(spare: u64) -> Option<Rooms>
+/// The least number of sessions that have room for commands under way.
+const LEAST_ROOM: u64 = 8;
+
+/// Room for the sessions that have commands under way: all seats but those that are spare, and at
+/// least `LEAST_ROOM`. The result is `None` where none is.
+fn rooms_beside(seats: u64, spare: u64) -> Option<Rooms>
     ensures { spare ≡ 0 → is_some result ≡ false }
 {
     if spare == 0 {
         return None;
     }
-    Some(Rooms::new(MOST_SESSIONS.saturating_sub(spare)))
+    Some(Rooms::new(seats.saturating_sub(spare).max(LEAST_ROOM)))
 }

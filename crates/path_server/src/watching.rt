@@ -3,6 +3,7 @@
 ghost use Rattle.std.specs.Prelude.{◌≡◌};
 
 use crate::ends::Cause;
+use crate::listeners::Listener;
 use crate::reports::Reports;
 use crate::seats::MOST_SESSIONS;
 use crate::server::Server;
@@ -13,11 +14,10 @@ use seg_check::Verifier;
 use status_page::{Asked, CallTime, Counts, EndCounts, RefusedCounts};
 use status_server::{ReplyKind, Visits, answer};
 use std::alloc::AllocError;
-use std::net::{OpenListener, TcpStream};
 use std::sync::Wait;
 use std::time::Clock;
 
-impl<L: OpenListener<Stream = TcpStream> + Drop, V: Verifier, O: Reports> Server<'_, L, V, O> {
+impl<L: Listener + Drop, V: Verifier, O: Reports> Server<'_, L, V, O> {
     /// Answers the peers of a listener, until the server is at its end or the listener is broken,
     /// and the visits that are under way then are over.
     pub(crate) fn watch<D: Device, N: HubName, R: Wait + Clock>(
@@ -65,7 +65,7 @@ impl<L: OpenListener<Stream = TcpStream> + Drop, V: Verifier, O: Reports> Server
             seals: completed.seals,
             checkpoints: completed.checkpoints,
             commits: completed.commits,
-            sessions: self.seats.taken().min(MOST_SESSIONS),
+            sessions: self.taken().min(MOST_SESSIONS),
             started: self.door.started(),
             refused: self.refused(),
             ended: self.ended(),
@@ -81,7 +81,10 @@ impl<L: OpenListener<Stream = TcpStream> + Drop, V: Verifier, O: Reports> Server
     /// The number of connections that were refused a session, by the reason.
     fn refused(&self) -> RefusedCounts {
         RefusedCounts {
-            seats: self.turned_away.all(),
+            seats: self
+                .turned_away
+                .all()
+                .saturating_add(self.lookups_turned_away.all()),
             address: self.address_full.all(),
             thread: self.no_thread.all(),
         }

@@ -4,8 +4,9 @@
 use clap::error::ErrorKind;
 use cli_words::{
     CHECKPOINT, CORES, CommandLine, DEVICE, FORCE, FORMAT, FUTURE, GRACE, HEX, IDLE, JOURNAL, KEY,
-    LAYOUT, LISTEN, LOG_PRIORITY, NEW, NOW, ONCE, PEER_SESSIONS, PURGE, QUIET, RUN, SESSIONS, SHOW,
-    SPARE, STATUS, STATUS_LISTEN, STOP_ON_END_OF_INPUT, Subcommand, UPGRADE, read,
+    LAYOUT, LISTEN, LOG_PRIORITY, LOOKUP_SEATS, LOOKUPS, NEW, NOW, ONCE, PEER_SESSIONS, PURGE,
+    QUIET, RUN, SESSIONS, SHOW, SPARE, STATUS, STATUS_LISTEN, STOP_ON_END_OF_INPUT, Subcommand,
+    UPGRADE, read,
 };
 use std::alloc::Global;
 use std::process::Abort;
@@ -39,10 +40,10 @@ struct Value {
 const ALL_OF_ONCE: &str = "once --cores 1-1,2-2 --now 5 --key 00ff --hex";
 
 const ALL_OF_RUN: &str =
-    "run --quiet --grace 4294967295 --stop-on-end-of-input --peer-sessions 18446744073709551615 --idle 4294967295 --future 4294967295 --spare 56 --purge 4294967295 --log-priority --sessions 18446744073709551615 --key 00 --cores 1-1 --status [::1]:1 --listen [::1]:0 d";
+    "run --quiet --grace 4294967295 --stop-on-end-of-input --peer-sessions 18446744073709551615 --idle 4294967295 --future 4294967295 --spare 56 --purge 4294967295 --lookup-seats 56 --lookups [::1]:2 --log-priority --sessions 18446744073709551615 --key 00 --cores 1-1 --status [::1]:1 --listen [::1]:0 d";
 
 #[rattlefmt::skip]
-const VALUES: [Value; 38] = [
+const VALUES: [Value; 41] = [
     Value { line: ALL_OF_ONCE, command: ONCE, option: CORES, value: Some("1-1,2-2") },
     Value { line: ALL_OF_ONCE, command: ONCE, option: NOW, value: Some("5") },
     Value { line: ALL_OF_ONCE, command: ONCE, option: KEY, value: Some("00ff") },
@@ -72,7 +73,10 @@ const VALUES: [Value; 38] = [
     Value { line: ALL_OF_RUN, command: RUN, option: CORES, value: Some("1-1") },
     Value { line: ALL_OF_RUN, command: RUN, option: KEY, value: Some("00") },
     Value { line: ALL_OF_RUN, command: RUN, option: PURGE, value: Some("4294967295") },
+    Value { line: ALL_OF_RUN, command: RUN, option: LOOKUPS, value: Some("[::1]:2") },
+    Value { line: ALL_OF_RUN, command: RUN, option: LOOKUP_SEATS, value: Some("56") },
     Value { line: "run d --listen a", command: RUN, option: PURGE, value: None },
+    Value { line: "run d --listen a", command: RUN, option: LOOKUPS, value: None },
     Value { line: "run d --listen a", command: RUN, option: LISTEN, value: Some("a") },
     Value { line: "run d --listen a", command: RUN, option: STATUS_LISTEN, value: None },
     Value { line: "run d --listen a", command: RUN, option: SESSIONS, value: None },

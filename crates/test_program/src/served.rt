@@ -1,7 +1,7 @@
 //! A server and its peers.
 
 use crate::parts::{Before, NO_PEERS, Part, Peers};
-use test_support::digits::{LOOKUP, REGISTER_2096};
+use test_support::digits::{LOOKUP, REGISTER_2096, REMOVE};
 
 /// A frame of no kind.
 const NO_KIND: &str = "0000000106";
@@ -85,6 +85,32 @@ const PARTS: &[Part] = &[
         },
         lines: &[(
             "pathd run other --listen ADDR --cores 1-ff00:0:110 --sessions 4 --idle 60 --future 86400 --spare 0",
+            &[],
+        )],
+    },
+    Part {
+        what: "sessions that only look up",
+        before: Before::Nothing,
+        peers: Peers {
+            sessions: &[REGISTER_2096, PURGE, REMOVE, LOOKUP],
+            together: 0,
+            silent: 0,
+        },
+        lines: &[(
+            "pathd run other --listen 127.0.0.1:0 --lookups ADDR --lookup-seats 1 --cores 1-ff00:0:110 --sessions 4 --idle 60 --quiet",
+            &[],
+        )],
+    },
+    Part {
+        what: "more sessions that only look up than have seats",
+        before: Before::Nothing,
+        peers: Peers {
+            sessions: &[],
+            together: 16,
+            silent: 0,
+        },
+        lines: &[(
+            "pathd run other --listen 127.0.0.1:0 --lookups ADDR --cores 1-ff00:0:110 --sessions 17 --idle 60 --quiet",
             &[],
         )],
     },

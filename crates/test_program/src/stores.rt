@@ -44,6 +44,10 @@ const PARTS: &[Part] = &[
                 "pathd run none --listen 127.0.0.1:0 --status localhost:0",
                 &[],
             ),
+            (
+                "pathd run none --listen 127.0.0.1:0 --lookups localhost:0",
+                &[],
+            ),
             ("pathd run none --listen 127.0.0.1:0 --cores 1-0", &[]),
             ("pathd run none --listen 127.0.0.1:0", &[]),
             ("pathd run none --listen 127.0.0.1:0 --log-priority", &[]),

@@ -13,6 +13,7 @@ mod page;
 mod peers;
 mod purging;
 mod refused;
+mod roles;
 mod rows;
 mod seats;
 mod stops;

@@ -2,7 +2,7 @@
 
 use crate::server::stores::{LEAST, assert_opens_to, formatted, opened};
 use crate::server::worlds::{Counts, options};
-use path_server::{Failure, Listeners, RunError, after_failure, serve_store};
+use path_server::{Failure, Listener, Listeners, RunError, after_failure, serve_store};
 use std::io;
 use std::net::{OpenListener, SocketAddr, TcpStream};
 use std::sync::atomic::{AtomicUsize, Ordering};
@@ -51,6 +51,8 @@ impl OpenListener for Script {
         Err(io::Error::from_raw_os_error(error))
     }
 }
+
+impl Listener for Script {}
 
 #[test]
 fn a_broken_listener_ends_the_server(rt: HostRuntime) -> Result<(), Fail> {

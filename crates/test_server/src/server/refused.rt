@@ -4,7 +4,7 @@
 
 use crate::server::stores::{LEAST, assert_opens_to, formatted, opened};
 use crate::server::worlds::{Counts, World};
-use path_server::{Listeners, Options, RunError, serve_store};
+use path_server::{Listener, Listeners, Options, RunError, serve_store};
 use seg_lookup::Roster;
 use std::alloc::Global;
 use std::io;
@@ -24,6 +24,8 @@ impl OpenListener for Broken {
     }
 }
 
+impl Listener for Broken {}
+
 /// Has a server begin over a new store, with a second listener or without one: whether its threads
 /// were given.
 fn has_threads<R: World>(rt: R, alloc: Global, status: Option<Broken>) -> bool {
@@ -36,6 +38,7 @@ fn has_threads<R: World>(rt: R, alloc: Global, status: Option<Broken>) -> bool {
         idle: None,
         future: None,
         spare: 0,
+        lookup_seats: 0,
         purge: None,
         grace: Duration::from_millis(100),
     };
@@ -45,6 +48,7 @@ fn has_threads<R: World>(rt: R, alloc: Global, status: Option<Broken>) -> bool {
         alloc,
         Listeners {
             sessions: Broken,
+            lookups: None,
             status,
         },
         store,

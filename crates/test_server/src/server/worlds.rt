@@ -50,6 +50,7 @@ pub(crate) struct Counts {
     ready: AtomicU64,
     stopped: AtomicU64,
     turned_away: AtomicU64,
+    lookups_turned_away: AtomicU64,
     address_full: AtomicU64,
     not_purged: AtomicU64,
     wants_end: AtomicBool,
@@ -62,6 +63,7 @@ impl Counts {
             ready: AtomicU64::new(0),
             stopped: AtomicU64::new(0),
             turned_away: AtomicU64::new(0),
+            lookups_turned_away: AtomicU64::new(0),
             address_full: AtomicU64::new(0),
             not_purged: AtomicU64::new(0),
             wants_end: AtomicBool::new(false),
@@ -81,6 +83,11 @@ impl Counts {
     /// How many peers were turned away because all seats were taken.
     pub(crate) fn turned_away(&self) -> u64 {
         self.turned_away.load(Ordering::SeqCst)
+    }
+
+    /// How many peers were turned away because all seats for lookups were taken.
+    pub(crate) fn lookups_turned_away(&self) -> u64 {
+        self.lookups_turned_away.load(Ordering::SeqCst)
     }
 
     /// How many peers were turned away because of the sessions of their address.
@@ -111,6 +118,9 @@ impl Reports for Counts {
             Report::TurnedAway(count) => {
                 self.turned_away.fetch_add(count, Ordering::SeqCst);
             }
+            Report::LookupsTurnedAway(count) => {
+                self.lookups_turned_away.fetch_add(count, Ordering::SeqCst);
+            }
             Report::AddressFull(count) => {
                 self.address_full.fetch_add(count, Ordering::SeqCst);
             }
@@ -138,6 +148,7 @@ pub(crate) fn options(rt: &impl Abort, alloc: Global, sessions: u64) -> Options 
         idle: Some(Duration::from_secs(10)),
         future: None,
         spare: 0,
+        lookup_seats: 0,
         purge: None,
         grace: Duration::from_millis(100),
     }
@@ -182,6 +193,31 @@ pub(crate) fn serve_watched<R: World, D: Device + Drop + Send, C: Clients + Sync
     clients: &C,
     counts: &Counts,
 ) -> Met<D, C::Seen> {
+    let others = Others {
+        lookups: None,
+        status,
+    };
+    serve_beside(rt, alloc, device, others, options, clients, counts)
+}
+
+/// Listeners beside that of sessions.
+#[derive(Drop)]
+pub(crate) struct Others {
+    pub(crate) lookups: Option<TcpListener>,
+    pub(crate) status: Option<TcpListener>,
+}
+
+/// The same, beside other listeners.
+pub(crate) fn serve_beside<R: World, D: Device + Drop + Send, C: Clients + Sync>(
+    rt: R,
+    alloc: Global,
+    device: D,
+    others: Others,
+    options: &Options,
+    clients: &C,
+    counts: &Counts,
+) -> Met<D, C::Seen> {
+    let Others { lookups, status } = others;
     let (sessions, to) = listen(rt);
     let Ok(other) = sessions.try_clone() else {
         panic!(rt; "no second handle");
@@ -194,7 +230,11 @@ pub(crate) fn serve_watched<R: World, D: Device + Drop + Send, C: Clients + Sync
             let (device, _left, served) = serve_store(
                 rt,
                 alloc,
-                Listeners { sessions, status },
+                Listeners {
+                    sessions,
+                    lookups,
+                    status,
+                },
                 opened(&rt, alloc, device),
                 options,
                 counts,

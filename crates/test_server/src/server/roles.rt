@@ -1,0 +1,128 @@
+//! A second listener, whose sessions only look up.
+
+use crate::server::peers::{EMPTY_LOOKUP, NO_DESTINATION, Peer, replies};
+use crate::server::rows::{FOUND, LOOKUP, NOTHING, PURGE, REGISTERED, REGISTRATION};
+use crate::server::stores::{LEAST, assert_opens_to, formatted};
+use crate::server::worlds::{
+    Clients, Counts, Others, Outside, World, listen, options, serve_beside,
+};
+use path_server::{MOST_LOOKUP_SEATS, MOST_SESSIONS, Options};
+use std::alloc::Global;
+use std::io;
+use std::net::{SocketAddr, TcpListener};
+use std::test::Fail;
+
+/// What is replied to a command in a session that only looks up.
+const NO_COMMANDS: &str = "00000002ff64";
+
+/// What is replied to a peer without a seat.
+const NO_SEAT: &str = "00000002ff61";
+
+/// Has clients meet a server of both listeners, of which they know the second one's address.
+fn meet_both<R: World, C: Clients + Sync>(
+    rt: R,
+    alloc: Global,
+    lookups: TcpListener,
+    options: &Options,
+    clients: &C,
+    counts: &Counts,
+) -> (u64, io::Result<C::Seen>) {
+    let others = Others {
+        lookups: Some(lookups),
+        status: None,
+    };
+    let device = formatted(&rt, alloc, LEAST);
+    let (device, served, seen) = serve_beside(rt, alloc, device, others, options, clients, counts);
+    let _device = assert_opens_to(&rt, alloc, device, 1, 1);
+    (served.unwrap_or(0), seen)
+}
+
+/// Registers at the first listener, and looks up at both. Sends commands to the second one.
+#[derive(Drop)]
+struct Asking {
+    lookups: SocketAddr,
+}
+
+impl Clients for Asking {
+    type Seen = [bool; 6];
+
+    fn meet<R: Outside>(&self, rt: R, alloc: Global, to: SocketAddr) -> io::Result<[bool; 6]> {
+        let mut first = Peer::connect(rt, alloc, to)?;
+        let mut second = Peer::connect(rt, alloc, self.lookups)?;
+        Ok([
+            second.asks(LOOKUP, NOTHING)?,
+            second.asks(REGISTRATION, NO_COMMANDS)?,
+            first.asks(REGISTRATION, REGISTERED)?,
+            second.asks(PURGE, NO_COMMANDS)?,
+            first.asks(LOOKUP, FOUND)?,
+            second.asks(LOOKUP, FOUND)?,
+        ])
+    }
+}
+
+// The device opens to the one command of the first listener.
+#[test]
+fn commands_are_refused_at_the_listener_of_lookups(rt: HostRuntime) -> Result<(), Fail> {
+    let alloc = rt.alloc();
+    let mut options = options(&rt, alloc, 2);
+    options.lookup_seats = 16;
+    let (listener, lookups) = listen(&rt);
+    let clients = Asking { lookups };
+    let counts = Counts::new();
+    let (served, seen) = meet_both(&rt, alloc, listener, &options, &clients, &counts);
+    assert_eq!(rt; served, 2);
+    assert_eq!(rt; seen?, [true; 6]);
+    Ok(())
+}
+
+/// Takes all seats of both listeners, and asks each for one more.
+#[derive(Drop)]
+struct Filling {
+    lookups: SocketAddr,
+}
+
+/// This number of peers with seats.
+fn held<R: Outside>(rt: R, alloc: Global, to: SocketAddr, count: u64) -> io::Result<Vec<Peer>> {
+    let mut peers = Vec::new(alloc);
+    for _ in 0..count {
+        let mut peer = Peer::connect(rt, alloc, to)?;
+        if !peer.asks(EMPTY_LOOKUP, NO_DESTINATION)? {
+            return Err(io::Error::from(io::ErrorKind::Other));
+        }
+        peers.push(peer)?;
+    }
+    Ok(peers)
+}
+
+impl Clients for Filling {
+    type Seen = [bool; 3];
+
+    fn meet<R: Outside>(&self, rt: R, alloc: Global, to: SocketAddr) -> io::Result<[bool; 3]> {
+        let _lookups = held(rt, alloc, self.lookups, MOST_LOOKUP_SEATS)?;
+        let is_refused = replies(rt, alloc, self.lookups, "")?.as_str() == NO_SEAT;
+        let mut others = held(rt, alloc, to, MOST_SESSIONS - MOST_LOOKUP_SEATS)?;
+        let is_full = replies(rt, alloc, to, "")?.as_str() == NO_SEAT;
+        let is_registered = match others.pop() {
+            Some(mut peer) => peer.asks(REGISTRATION, REGISTERED)?,
+            None => false,
+        };
+        Ok([is_refused, is_full, is_registered])
+    }
+}
+
+// More seats for lookups are wanted than there may be. The server ends as its listener is shut down.
+#[test]
+fn each_listener_has_seats_of_its_own(rt: HostRuntime) -> Result<(), Fail> {
+    let alloc = rt.alloc();
+    let mut options = options(&rt, alloc, 0);
+    options.lookup_seats = MOST_SESSIONS;
+    let (listener, lookups) = listen(&rt);
+    let clients = Filling { lookups };
+    let counts = Counts::new();
+    let (served, seen) = meet_both(&rt, alloc, listener, &options, &clients, &counts);
+    assert_eq!(rt; served, 0);
+    assert_eq!(rt; seen?, [true; 3]);
+    assert_eq!(rt; counts.turned_away(), 1);
+    assert_eq!(rt; counts.lookups_turned_away(), 1);
+    Ok(())
+}
