@@ -1,2 +1,3 @@
 mod Claimed
+mod NoCommands
 mod Purged

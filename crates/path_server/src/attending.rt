@@ -1,6 +1,6 @@
 //! The session of one peer of a server.
 
-ghost use Rattle.std.specs.Prelude.{IfSome, is_some};
+ghost use Rattle.std.specs.Prelude.{◌≡◌, false, [], IfSome, is_some};
 ghost use Rattle.path_server.specs.Attending.{IsHubServed};
 ghost use Rattle.path_server.specs.Roles.{shares_room, takes_commands};
 
@@ -68,9 +68,10 @@ impl<L: Listener + Drop, V: Verifier, O: Reports> Server<'_, L, V, O> {
         input: T,
         output: T,
     ) -> Option<(Ended<T>, LoggedList<N>)>
-        ensures { IfSome result (λ served. IsHubServed N.opening N.refused T.given T.taken T.is_at_end
+        ensures served { IfSome result (λ served. IsHubServed N.opening N.refused T.given T.taken T.is_at_end
             self.now.options.now.future (shares_room role (is_some self.now.rooms)) (takes_commands role) self.now.options.now.cores (V.verifies self.now.verifier.now) (P.has_left peer)
             input served.0.input output served.0.output served.0.replies served.1) }
+        ensures nothing { takes_commands role ≡ false → IfSome result (λ served. served.1 ≡ []) }
     {
         let reader = hub.reader().ok()?;
         let rt = hub.handle();
