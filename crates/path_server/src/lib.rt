@@ -33,6 +33,7 @@ mod stopwatch;
 mod turning_away;
 mod two_listeners;
 mod visitors;
+mod waiting;
 mod watching;
 
 pub use accepting::{Failure, after_failure};

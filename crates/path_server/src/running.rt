@@ -96,10 +96,21 @@ fn serve_checked<
     ensures made { OnOk result.2 (IsSome result.1) }
 {
     let begun = Instant::now(&rt).ok();
-    let server = Server::new(alloc, listeners, begun, options, verifier, reports);
+    let begun_at = seconds_since_1970(&rt);
+    let server = Server::new(
+        alloc, listeners, begun, begun_at, options, verifier, reports,
+    );
     let (device, left, attended) = with_crew(rt, alloc, store, HOME, &server);
     match attended {
         Ok(_) => (device, left, server.served()),
         Err(_) => (device, left, Err(RunError::NoMemory)),
+    }
+}
+
+/// The number of seconds since 1970, or 0 where the clock cannot be read.
+fn seconds_since_1970(clock: &impl Clock) -> u64 {
+    match clock.since_1970() {
+        Ok(since) => since.as_secs(),
+        Err(_) => 0,
     }
 }

@@ -16,6 +16,7 @@ use crate::seldom::Seldom;
 use crate::status_listener::StatusListener;
 use crate::stopwatch::Stopwatch;
 use crate::two_listeners::Entrances;
+use crate::waiting::Waiting;
 use path_hub::{Crew, Hub, HubName, Notice};
 use sector_dev::Device;
 use seg_check::Verifier;
@@ -57,9 +58,14 @@ pub(crate) struct Server<'a, L, V, O> {
     pub(crate) ends: Ends,
     /// The checkpoint that is being made.
     checkpoint: Stopwatch,
+    /// The milliseconds that completed checkpoints took in all.
+    pub(crate) checkpoint_time: AtomicU64,
+    pub(crate) waiting: Waiting,
     pub(crate) replies: Replies,
     /// When the server began, or `None` where the clock could not be read.
     pub(crate) begun: Option<Instant>,
+    /// The same in seconds since 1970, or 0.
+    pub(crate) begun_at: u64,
     /// The number of connections that are read and dropped after the end of their sessions.
     pub(crate) drains: AtomicU64,
     /// Whether the store was reported to have no epoch left.
@@ -86,6 +92,7 @@ impl<'a, L: Listener + Drop, V: Verifier, O: Reports> Server<'a, L, V, O> {
         alloc: Global,
         listeners: Listeners<L>,
         begun: Option<Instant>,
+        begun_at: u64,
         options: &'a Options,
         verifier: &'a V,
         reports: &'a O,
@@ -114,8 +121,11 @@ impl<'a, L: Listener + Drop, V: Verifier, O: Reports> Server<'a, L, V, O> {
             faulted: Seldom::new(),
             ends: Ends::new(),
             checkpoint: Stopwatch::new(),
+            checkpoint_time: AtomicU64::new(0),
+            waiting: Waiting::new(),
             replies: Replies::new(),
             begun,
+            begun_at,
             drains: AtomicU64::new(0),
             exhausted: AtomicBool::new(false),
             has_purger: AtomicBool::new(false),
@@ -260,15 +270,24 @@ impl<D: Device, R: Wait + Clock, L: Listener + Drop + Send, V: Verifier, O: Repo
 
     fn note<N: HubName>(&self, hub: &Hub<D, N, R>, notice: Notice) {
         let report = match notice {
-            Notice::NoMemory(actor) => Report::NoMemory(actor),
-            Notice::MemoryGiven(actor) => Report::MemoryGiven(actor),
+            Notice::NoMemory(actor) => {
+                self.waiting.set(actor, true);
+                Report::NoMemory(actor)
+            }
+            Notice::MemoryGiven(actor) => {
+                self.waiting.set(actor, false);
+                Report::MemoryGiven(actor)
+            }
             Notice::CheckpointBegun => {
                 self.checkpoint.begin(hub.handle());
                 Report::CheckpointBegun
             }
-            Notice::CheckpointDone => Report::CheckpointDone {
-                milliseconds: self.checkpoint.milliseconds(hub.handle()),
-            },
+            Notice::CheckpointDone => {
+                let milliseconds = self.checkpoint.milliseconds(hub.handle());
+                self.checkpoint_time
+                    .fetch_add(milliseconds, Ordering::SeqCst);
+                Report::CheckpointDone { milliseconds }
+            }
             Notice::NoEpoch => {
                 self.exhausted.store(true, Ordering::SeqCst);
                 Report::Exhausted

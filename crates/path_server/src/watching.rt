@@ -15,6 +15,7 @@ use status_page::{Asked, CallTime, Counts, EndCounts, RefusedCounts};
 use status_server::{ReplyKind, Visits, answer};
 use std::alloc::AllocError;
 use std::sync::Wait;
+use std::sync::atomic::Ordering;
 use std::time::Clock;
 
 impl<L: Listener + Drop, V: Verifier, O: Reports> Server<'_, L, V, O> {
@@ -64,6 +65,11 @@ impl<L: Listener + Drop, V: Verifier, O: Reports> Server<'_, L, V, O> {
             groups: completed.groups,
             seals: completed.seals,
             checkpoints: completed.checkpoints,
+            checkpoint_time: self
+                .checkpoint_time
+                .load(Ordering::SeqCst)
+                .saturating_mul(1_000),
+            waits: self.waiting.now(),
             commits: completed.commits,
             sessions: self.taken().min(MOST_SESSIONS),
             started: self.door.started(),
@@ -75,6 +81,7 @@ impl<L: Listener + Drop, V: Verifier, O: Reports> Server<'_, L, V, O> {
             removed: self.replies.of(ReplyKind::Removed),
             dropped: self.reports.dropped(),
             seconds: self.seconds(clock),
+            begun: self.begun_at,
         }
     }
 

@@ -45,6 +45,10 @@ time_labelled name label microseconds = name ++ (codes "{" ++ (label ++ (codes "
 unfoldable pub counter : List ℕ → List ℕ → ℕ → List ℕ
 counter name help number = heading name help (codes "counter") ++ sample name number
 
+-- The lines of a time in microseconds that only grows, as seconds.
+unfoldable pub time_counter : List ℕ → List ℕ → ℕ → List ℕ
+time_counter name help microseconds = heading name help (codes "counter") ++ time_sample name microseconds
+
 -- The lines of a number that grows and shrinks.
 unfoldable pub gauge : List ℕ → List ℕ → ℕ → List ℕ
 gauge name help number = heading name help (codes "gauge") ++ sample name number

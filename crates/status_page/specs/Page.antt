@@ -4,9 +4,10 @@ use Rattle.std.specs.List.{flat_map}
 use Rattle.hex.specs.Hex.{encode_lower}
 use Rattle.group_core.specs.declared.numbers.Numbers.{Numbers}
 use Rattle.status_page.specs.declared.counts.Counts.{Counts}
+use Rattle.status_page.specs.declared.counts.MemoryWaits.{MemoryWaits}
 use Rattle.status_page.specs.declared.counts.CodeCount.{CodeCount}
 use Rattle.status_page.specs.declared.build.TheConstants.{VERSION}
-use Rattle.status_page.specs.Lines.{heading, labelled, counter, gauge, flag}
+use Rattle.status_page.specs.Lines.{heading, labelled, counter, time_counter, gauge, flag}
 use Rattle.status_page.specs.Phases.{actor_lines}
 use Rattle.status_page.specs.Calls.{call_text}
 use Rattle.status_page.specs.Commits.{commit_text}
@@ -39,12 +40,24 @@ unfoldable pub store_metrics : Numbers → List ℕ
 store_metrics numbers =
     row_lines numbers ++ (command_lines numbers ++ (version_lines numbers ++ actor_lines numbers.flush numbers.check))
 
+-- The name of the metric of actors that wait for memory.
+abbrev pub waits : List ℕ
+waits = codes "pathd_memory_waits"
+
+-- The lines of both actors, whether they wait for memory.
+unfoldable pub wait_lines : MemoryWaits → List ℕ
+wait_lines waiting =
+    heading waits (codes "1 where the thread was refused memory, and tries again.") (codes "gauge")
+    ++ (labelled waits (codes "actor=\"flusher\"") (flag waiting.flusher) ++ labelled waits (codes "actor=\"checkpointer\"") (flag waiting.checkpointer))
+
 -- The lines of what both actors have done.
 unfoldable pub actor_work : Counts → List ℕ
 actor_work counts =
     counter (codes "pathd_groups_total") (codes "Groups of commands that were committed.") counts.groups
     ++ (counter (codes "pathd_seals_total") (codes "Journals that were sealed.") counts.seals
-    ++ counter (codes "pathd_checkpoints_total") (codes "Checkpoints that were completed.") counts.checkpoints)
+    ++ (counter (codes "pathd_checkpoints_total") (codes "Checkpoints that were completed.") counts.checkpoints
+    ++ (time_counter (codes "pathd_checkpoint_seconds_total") (codes "Time that the completed checkpoints took.") counts.checkpoint_time
+    ++ wait_lines counts.waits)))
 
 -- The name of the metric of replies by kind.
 abbrev pub replies : List ℕ
@@ -66,12 +79,13 @@ reply_lines counts =
     heading replies (codes "Replies to messages that were not refused, by kind.") (codes "counter")
     ++ (labelled replies (codes "kind=\"found\"") counts.found ++ accepted_lines counts)
 
--- The lines of the process: the notices that it has dropped, how long it has run, and which program
--- it is.
+-- The lines of the process: the notices that it has dropped, how long it has run, when it began,
+-- and which program it is.
 unfoldable pub process_lines : Counts → List ℕ
 process_lines counts =
     counter (codes "pathd_notices_dropped_total") (codes "Notices that were dropped, since the log took none.") counts.dropped
-    ++ (gauge (codes "pathd_uptime_seconds") (codes "Time that the server has run.") counts.seconds ++ build_lines VERSION.now)
+    ++ (gauge (codes "pathd_uptime_seconds") (codes "Time that the server has run.") counts.seconds
+    ++ (gauge (codes "process_start_time_seconds") (codes "When the server began, in seconds since 1970.") counts.begun ++ build_lines VERSION.now))
 
 -- The lines of what the server has done.
 unfoldable pub work_text : Counts → List ℕ

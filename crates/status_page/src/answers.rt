@@ -14,6 +14,11 @@ pub const HEALTHY: &str =
 pub const STOPPED: &str =
     "HTTP/1.1 503 Service Unavailable\r\nContent-Type: text/plain\r\nContent-Length: 65\r\nConnection: close\r\n\r\nthe store has stopped: no command is accepted, and lookups go on\n";
 
+/// The response to a question whether commands are accepted, where the flusher or the checkpointer
+/// waits for memory.
+pub const NO_MEMORY: &str =
+    "HTTP/1.1 503 Service Unavailable\r\nContent-Type: text/plain\r\nContent-Length: 83\r\nConnection: close\r\n\r\na thread of the store has no memory: commands wait or will soon, and lookups go on\n";
+
 /// The response to a question whether commands are accepted, where a call of the device hangs.
 pub const HANGS: &str =
     "HTTP/1.1 503 Service Unavailable\r\nContent-Type: text/plain\r\nContent-Length: 71\r\nConnection: close\r\n\r\na call of the device hangs: no command is committed, and lookups go on\n";

@@ -13,6 +13,10 @@ pub struct Counts {
     pub seals: u64,
     /// The number of checkpoints that were completed.
     pub checkpoints: u64,
+    /// How long these checkpoints took in all, in microseconds.
+    pub checkpoint_time: u64,
+    /// Which threads of the store wait for memory.
+    pub waits: MemoryWaits,
     /// How long the commits of groups took.
     pub commits: CommitTimes,
     /// The number of sessions that are open.
@@ -35,6 +39,17 @@ pub struct Counts {
     pub dropped: u64,
     /// The number of seconds that the server has run.
     pub seconds: u64,
+    /// When the server began, in seconds since 1970, or 0 where that could not be read.
+    pub begun: u64,
+}
+
+/// Which threads of the store were refused memory, and try again.
+#[derive(Clone, Copy, Debug, PartialEq, Eq)]
+pub struct MemoryWaits {
+    /// The one that commits groups.
+    pub flusher: bool,
+    /// The one that makes checkpoints.
+    pub checkpointer: bool,
 }
 
 /// A call of the device that is under way.

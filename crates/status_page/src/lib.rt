@@ -20,9 +20,10 @@ mod sessions;
 mod text;
 
 pub use answers::{
-    BAD_REQUEST, HANGS, HEALTHY, NOT_ALLOWED, NOT_FOUND, STOPPED, plots_response, response,
+    BAD_REQUEST, HANGS, HEALTHY, NO_MEMORY, NOT_ALLOWED, NOT_FOUND, STOPPED, plots_response,
+    response,
 };
 pub use build::VERSION;
-pub use counts::{CallTime, CodeCount, Counts, EndCounts, RefusedCounts};
+pub use counts::{CallTime, CodeCount, Counts, EndCounts, MemoryWaits, RefusedCounts};
 pub use request::{Asked, read_head};
 pub use text::page;

@@ -1,7 +1,7 @@
 //! The lines of a page.
 
 ghost use Rattle.std.specs.Prelude.{◌≡◌, ◌<◌, IfOk, string_bytes};
-ghost use Rattle.status_page.specs.Lines.{help_line, type_line, heading, six_digits, seconds, sample, time_sample, labelled, time_labelled, counter, gauge, flag};
+ghost use Rattle.status_page.specs.Lines.{help_line, type_line, heading, six_digits, seconds, sample, time_sample, labelled, time_labelled, counter, time_counter, gauge, flag};
 
 use std::alloc::{AllocError, Global};
 use store_loops::SECOND;
@@ -117,6 +117,21 @@ pub(crate) fn counter(
 {
     let heading = heading(alloc, name, help, "counter")?;
     let line = sample(alloc, name, number)?;
+    format!(in alloc; "{heading}{line}")
+}
+
+/// The lines of a time in microseconds that only grows, as seconds.
+#[tactic(auto, unfolding(crate::specs::Lines::time_counter))]
+pub(crate) fn time_counter(
+    alloc: Global,
+    name: &str,
+    help: &str,
+    microseconds: u64,
+) -> Result<String, AllocError>
+    ensures { IfOk result (λ lines. string_bytes lines ≡ time_counter name.now help.now microseconds) }
+{
+    let heading = heading(alloc, name, help, "counter")?;
+    let line = time_sample(alloc, name, microseconds)?;
     format!(in alloc; "{heading}{line}")
 }
 

@@ -1,17 +1,20 @@
 //! The text of the page.
 
 ghost use Rattle.std.specs.Prelude.{◌≡◌, IfOk, string_bytes};
-ghost use Rattle.status_page.specs.Page.{row_lines, command_lines, version_lines, actor_work, accepted_lines, reply_lines, process_lines, refusal_label, refusal_line, refusals_text, store_metrics, work_text, page_text};
+ghost use Rattle.status_page.specs.Page.{row_lines, command_lines, version_lines, wait_lines, actor_work, accepted_lines, reply_lines, process_lines, refusal_label, refusal_line, refusals_text, store_metrics, work_text, page_text};
 
 use crate::build::{VERSION, build_lines};
 use crate::calls::call_text;
 use crate::commits::commit_text;
-use crate::counts::{CodeCount, Counts};
-use crate::lines::{counter, flag, gauge, heading, labelled};
+use crate::counts::{CodeCount, Counts, MemoryWaits};
+use crate::lines::{counter, flag, gauge, heading, labelled, time_counter};
 use crate::phases::actor_lines;
 use crate::sessions::session_text;
 use group_core::Numbers;
 use std::alloc::{AllocError, Global};
+
+/// The name of the metric of threads that wait for memory.
+const WAITS: &str = "pathd_memory_waits";
 
 /// The name of the metric of replies.
 const REPLIES: &str = "pathd_replies_total";
@@ -119,11 +122,28 @@ fn actor_work(alloc: Global, counts: &Counts) -> Result<String, AllocError>
     let seals = counter(alloc, "pathd_seals_total", help, counts.seals)?;
     let help = "Checkpoints that were completed.";
     let checkpoints = counter(alloc, "pathd_checkpoints_total", help, counts.checkpoints)?;
-    format!(in alloc; "{groups}{seals}{checkpoints}")
+    let help = "Time that the completed checkpoints took.";
+    let name = "pathd_checkpoint_seconds_total";
+    let took = time_counter(alloc, name, help, counts.checkpoint_time)?;
+    let waits = wait_lines(alloc, counts.waits)?;
+    format!(in alloc; "{groups}{seals}{checkpoints}{took}{waits}")
 }
 
-/// The lines of the process: the notices that it has dropped, how long it has run, and which
-/// program it is.
+/// The lines of both actors, whether they wait for memory.
+#[tactic(auto, unfolding(crate::specs::Page::wait_lines))]
+fn wait_lines(alloc: Global, waits: MemoryWaits) -> Result<String, AllocError>
+    ensures { IfOk result (λ text. string_bytes text ≡ wait_lines waits) }
+{
+    let help = "1 where the thread was refused memory, and tries again.";
+    let heading = heading(alloc, WAITS, help, "gauge")?;
+    let flusher = labelled(alloc, WAITS, "actor=\"flusher\"", flag(waits.flusher))?;
+    let label = "actor=\"checkpointer\"";
+    let checkpointer = labelled(alloc, WAITS, label, flag(waits.checkpointer))?;
+    format!(in alloc; "{heading}{flusher}{checkpointer}")
+}
+
+/// The lines of the process: the notices that it has dropped, how long it has run, when it began,
+/// and which program it is.
 #[tactic(auto, unfolding(crate::specs::Page::process_lines))]
 fn process_lines(alloc: Global, counts: &Counts) -> Result<String, AllocError>
     ensures { IfOk result (λ text. string_bytes text ≡ process_lines counts.now) }
@@ -132,8 +152,10 @@ fn process_lines(alloc: Global, counts: &Counts) -> Result<String, AllocError>
     let dropped = counter(alloc, "pathd_notices_dropped_total", help, counts.dropped)?;
     let help = "Time that the server has run.";
     let seconds = gauge(alloc, "pathd_uptime_seconds", help, counts.seconds)?;
+    let help = "When the server began, in seconds since 1970.";
+    let begun = gauge(alloc, "process_start_time_seconds", help, counts.begun)?;
     let build = build_lines(alloc, VERSION)?;
-    format!(in alloc; "{dropped}{seconds}{build}")
+    format!(in alloc; "{dropped}{seconds}{begun}{build}")
 }
 
 /// The lines of the replies by their kinds, except refusals.

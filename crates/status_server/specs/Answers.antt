@@ -1,8 +1,9 @@
 -- The responses that a peer is sent.
-use Rattle.std.specs.Prelude.{ℕ, Bool, true, false, nat_le, if◌then◌else◌, List, Option, Some, None, codes}
+use Rattle.std.specs.Prelude.{ℕ, Bool, true, false, ◌||◌, nat_le, if◌then◌else◌, List, Option, Some, None, codes}
 use Rattle.group_core.specs.declared.numbers.Numbers.{Numbers}
 use Rattle.status_page.specs.declared.counts.Counts.{Counts}
 use Rattle.status_page.specs.declared.counts.CallTime.{CallTime}
+use Rattle.status_page.specs.declared.counts.MemoryWaits.{MemoryWaits}
 use Rattle.status_page.specs.declared.counts.CodeCount.{CodeCount}
 use Rattle.status_page.specs.declared.request.Asked.{Asked}
 use Rattle.status_page.specs.declared.request.Asked.TheVariants.{Page, Plots, Health, Alive, Ready, OtherPath, OtherMethod, More, Unreadable}
@@ -36,11 +37,17 @@ abbrev pub unless_hanging : Option CallTime → List ℕ
 unless_hanging None = healthy
 unless_hanging (Some time) = if nat_le 10000000 time.microseconds then hangs else healthy
 
+-- The response where the flusher or the checkpointer waits for memory.
+abbrev pub has_no_memory : List ℕ
+has_no_memory =
+    codes
+    "HTTP/1.1 503 Service Unavailable\r\nContent-Type: text/plain\r\nContent-Length: 83\r\nConnection: close\r\n\r\na thread of the store has no memory: commands wait or will soon, and lookups go on\n"
+
 -- The response to a question whether commands are accepted, and committed soon: whether the store
--- has stopped, and the call of the device that is under way.
-abbrev pub ready_text : Bool → Option CallTime → List ℕ
-ready_text true call = has_stopped
-ready_text false call = unless_hanging call
+-- has stopped, which actors wait for memory, and the call of the device that is under way.
+abbrev pub ready_text : Bool → MemoryWaits → Option CallTime → List ℕ
+ready_text true waits call = has_stopped
+ready_text false waits call = if waits.flusher || waits.checkpointer then has_no_memory else unless_hanging call
 
 -- The response where the path is none of those that there are.
 abbrev pub not_found : List ℕ
@@ -61,7 +68,7 @@ answer_text Page numbers counts refused = response_text (page_text numbers count
 answer_text Plots numbers counts refused = plots_response
 answer_text Health numbers counts refused = health_text numbers.stopped
 answer_text Alive numbers counts refused = healthy
-answer_text Ready numbers counts refused = ready_text numbers.stopped counts.call
+answer_text Ready numbers counts refused = ready_text numbers.stopped counts.waits counts.call
 answer_text OtherPath numbers counts refused = not_found
 answer_text OtherMethod numbers counts refused = not_allowed
 answer_text More numbers counts refused = bad_request

@@ -5,8 +5,8 @@ ghost use Rattle.status_server.specs.Answers.{answer_text, health_text, ready_te
 
 use group_core::Numbers;
 use status_page::{
-    Asked, BAD_REQUEST, CallTime, CodeCount, Counts, HANGS, HEALTHY, NOT_ALLOWED, NOT_FOUND,
-    STOPPED, page, plots_response, response,
+    Asked, BAD_REQUEST, CallTime, CodeCount, Counts, HANGS, HEALTHY, MemoryWaits, NO_MEMORY,
+    NOT_ALLOWED, NOT_FOUND, STOPPED, page, plots_response, response,
 };
 use std::alloc::{AllocError, Global};
 
@@ -33,7 +33,7 @@ pub fn answer(
         Asked::Plots => plots_response(alloc),
         Asked::Health => health(alloc, numbers.stopped),
         Asked::Alive => String::from_str(alloc, HEALTHY),
-        Asked::Ready => ready(alloc, numbers.stopped, counts.call),
+        Asked::Ready => ready(alloc, numbers.stopped, counts.waits, counts.call),
         Asked::OtherPath => String::from_str(alloc, NOT_FOUND),
         Asked::OtherMethod => String::from_str(alloc, NOT_ALLOWED),
         Asked::More | Asked::Unreadable => String::from_str(alloc, BAD_REQUEST),
@@ -48,11 +48,19 @@ fn health(alloc: Global, stopped: bool) -> Result<String, AllocError>
 }
 
 /// The response to a question whether commands are accepted, and committed soon.
-fn ready(alloc: Global, stopped: bool, call: Option<CallTime>) -> Result<String, AllocError>
-    ensures { IfOk result (λ text. string_bytes text ≡ ready_text stopped call) }
+fn ready(
+    alloc: Global,
+    stopped: bool,
+    waits: MemoryWaits,
+    call: Option<CallTime>,
+) -> Result<String, AllocError>
+    ensures { IfOk result (λ text. string_bytes text ≡ ready_text stopped waits call) }
 {
     if stopped {
         return String::from_str(alloc, STOPPED);
+    }
+    if waits.flusher || waits.checkpointer {
+        return String::from_str(alloc, NO_MEMORY);
     }
     match call {
         Some(time) if time.microseconds >= HANGING => String::from_str(alloc, HANGS),

@@ -1,7 +1,7 @@
 //! What a peer is answered, by what it asks for and what the store is doing.
 
 use crate::pages::{NUMBERS, counts};
-use status_page::{Asked, CallTime};
+use status_page::{Asked, CallTime, MemoryWaits};
 use status_server::answer;
 use std::alloc::{AllocError, Global};
 use std::test::Fail;
@@ -12,6 +12,9 @@ const OK: &str =
 
 const STOPPED: &str =
     "HTTP/1.1 503 Service Unavailable\r\nContent-Type: text/plain\r\nContent-Length: 65\r\nConnection: close\r\n\r\nthe store has stopped: no command is accepted, and lookups go on\n";
+
+const NO_MEMORY: &str =
+    "HTTP/1.1 503 Service Unavailable\r\nContent-Type: text/plain\r\nContent-Length: 83\r\nConnection: close\r\n\r\na thread of the store has no memory: commands wait or will soon, and lookups go on\n";
 
 const HANGS: &str =
     "HTTP/1.1 503 Service Unavailable\r\nContent-Type: text/plain\r\nContent-Length: 71\r\nConnection: close\r\n\r\na call of the device hangs: no command is committed, and lookups go on\n";
@@ -24,36 +27,63 @@ const NOT_ALLOWED: &str =
 const BAD_REQUEST: &str =
     "HTTP/1.1 400 Bad Request\r\nContent-Length: 0\r\nConnection: close\r\n\r\n";
 
-/// Whether the store has stopped, for how many microseconds a call of its device has been under
-/// way, what is asked for, and the answer.
-const ANSWERS: [(bool, Option<u64>, Asked, &str); 15] = [
-    (false, None, Asked::Alive, OK),
-    (true, Some(60_000_000), Asked::Alive, OK),
-    (false, None, Asked::Ready, OK),
-    (false, Some(9_999_999), Asked::Ready, OK),
-    (false, Some(10_000_000), Asked::Ready, HANGS),
-    (false, Some(18_446_744_073_709_551_615), Asked::Ready, HANGS),
-    (true, None, Asked::Ready, STOPPED),
-    (true, Some(10_000_000), Asked::Ready, STOPPED),
-    (false, None, Asked::Health, OK),
-    (false, Some(10_000_000), Asked::Health, OK),
-    (true, None, Asked::Health, STOPPED),
-    (false, None, Asked::OtherPath, NOT_FOUND),
-    (false, None, Asked::OtherMethod, NOT_ALLOWED),
-    (false, None, Asked::More, BAD_REQUEST),
-    (false, None, Asked::Unreadable, BAD_REQUEST),
+/// No thread waits for memory.
+const NONE: MemoryWaits = MemoryWaits {
+    flusher: false,
+    checkpointer: false,
+};
+
+/// The flusher does.
+const FLUSHER: MemoryWaits = MemoryWaits {
+    flusher: true,
+    checkpointer: false,
+};
+
+/// The checkpointer does.
+const CHECKPOINTER: MemoryWaits = MemoryWaits {
+    flusher: false,
+    checkpointer: true,
+};
+
+/// What a server is doing: whether the store has stopped, which threads wait for memory, and for how
+/// many microseconds a call of the device has been under way.
+type Doing = (bool, MemoryWaits, Option<u64>);
+
+/// What a server is doing, what is asked for, and the answer.
+const ANSWERS: [(Doing, Asked, &str); 20] = [
+    ((false, NONE, None), Asked::Alive, OK),
+    ((true, FLUSHER, Some(60_000_000)), Asked::Alive, OK),
+    ((false, NONE, None), Asked::Ready, OK),
+    ((false, NONE, Some(9_999_999)), Asked::Ready, OK),
+    ((false, NONE, Some(10_000_000)), Asked::Ready, HANGS),
+    (
+        (false, NONE, Some(18_446_744_073_709_551_615)),
+        Asked::Ready,
+        HANGS,
+    ),
+    ((false, FLUSHER, None), Asked::Ready, NO_MEMORY),
+    ((false, CHECKPOINTER, None), Asked::Ready, NO_MEMORY),
+    ((false, FLUSHER, Some(10_000_000)), Asked::Ready, NO_MEMORY),
+    ((true, NONE, None), Asked::Ready, STOPPED),
+    ((true, FLUSHER, None), Asked::Ready, STOPPED),
+    ((true, NONE, Some(10_000_000)), Asked::Ready, STOPPED),
+    ((false, NONE, None), Asked::Health, OK),
+    ((false, FLUSHER, None), Asked::Health, OK),
+    ((false, NONE, Some(10_000_000)), Asked::Health, OK),
+    ((true, NONE, None), Asked::Health, STOPPED),
+    ((false, NONE, None), Asked::OtherPath, NOT_FOUND),
+    ((false, NONE, None), Asked::OtherMethod, NOT_ALLOWED),
+    ((false, NONE, None), Asked::More, BAD_REQUEST),
+    ((false, NONE, None), Asked::Unreadable, BAD_REQUEST),
 ];
 
-/// What is answered while the store is so.
-fn answered(
-    alloc: Global,
-    stopped: bool,
-    time: Option<u64>,
-    asked: Asked,
-) -> Result<String, AllocError> {
+/// What is answered while a server does this.
+fn answered(alloc: Global, doing: Doing, asked: Asked) -> Result<String, AllocError> {
+    let (stopped, waits, time) = doing;
     let mut numbers = NUMBERS;
     numbers.stopped = stopped;
     let mut counts = counts();
+    counts.waits = waits;
     counts.call = time.map(|microseconds| CallTime {
         call: DeviceCall::SyncGroup,
         microseconds,
@@ -63,8 +93,8 @@ fn answered(
 
 #[test]
 fn answers_by_state(rt: HostRuntime) -> Result<(), Fail> {
-    for (stopped, time, asked, wanted) in ANSWERS {
-        let text = answered(rt.alloc(), stopped, time, asked)?;
+    for (doing, asked, wanted) in ANSWERS {
+        let text = answered(rt.alloc(), doing, asked)?;
         assert_eq!(rt; text.as_str(), wanted, "{asked:?}");
     }
     Ok(())
@@ -77,7 +107,7 @@ const HEAD: &str =
 #[test]
 fn plots_are_answered(rt: HostRuntime) -> Result<(), Fail> {
     let alloc = rt.alloc();
-    let whole = answered(alloc, true, None, Asked::Plots)?;
+    let whole = answered(alloc, (true, NONE, None), Asked::Plots)?;
     let Some((head, page)) = whole.as_str().split_once("\r\n\r\n") else {
         return Err(Fail::from("no head"));
     };

@@ -2,7 +2,9 @@
 
 use group_core::Numbers;
 use group_phases::{Check, Flush};
-use status_page::{CallTime, CodeCount, Counts, EndCounts, RefusedCounts, page, response};
+use status_page::{
+    CallTime, CodeCount, Counts, EndCounts, MemoryWaits, RefusedCounts, page, response,
+};
 use std::test::Fail;
 use store_loops::{CommitTimes, DeviceCall};
 
@@ -39,6 +41,11 @@ pub(crate) fn counts() -> Counts {
         groups: 4,
         seals: 1,
         checkpoints: 0,
+        checkpoint_time: 7_250_001,
+        waits: MemoryWaits {
+            flusher: false,
+            checkpointer: true,
+        },
         commits,
         sessions: 6,
         started: 20,
@@ -61,6 +68,7 @@ pub(crate) fn counts() -> Counts {
         removed: 0,
         dropped: 12,
         seconds: 86_400,
+        begun: 1_796_000_000,
     }
 }
 
@@ -151,6 +159,13 @@ pathd_seals_total 1
 # HELP pathd_checkpoints_total Checkpoints that were completed.
 # TYPE pathd_checkpoints_total counter
 pathd_checkpoints_total 0
+# HELP pathd_checkpoint_seconds_total Time that the completed checkpoints took.
+# TYPE pathd_checkpoint_seconds_total counter
+pathd_checkpoint_seconds_total 7.250001
+# HELP pathd_memory_waits 1 where the thread was refused memory, and tries again.
+# TYPE pathd_memory_waits gauge
+pathd_memory_waits{actor=\"flusher\"} 0
+pathd_memory_waits{actor=\"checkpointer\"} 1
 # HELP pathd_commit_seconds Time from the first step of a group to its commit.
 # TYPE pathd_commit_seconds histogram
 pathd_commit_seconds_bucket{le=\"0.000500\"} 0
@@ -198,6 +213,9 @@ pathd_notices_dropped_total 12
 # HELP pathd_uptime_seconds Time that the server has run.
 # TYPE pathd_uptime_seconds gauge
 pathd_uptime_seconds 86400
+# HELP process_start_time_seconds When the server began, in seconds since 1970.
+# TYPE process_start_time_seconds gauge
+process_start_time_seconds 1796000000
 # HELP pathd_build_info 1 for the version of the program, and the format that its checkpoints have.
 # TYPE pathd_build_info gauge
 pathd_build_info{version=\"0.9.0\",format=\"2\"} 1

@@ -24,10 +24,10 @@ RULES = TOP / "deploy/pathd.rules.yml"
 DASHBOARD = TOP / "deploy/grafana-dashboard.json"
 WATCHING = TOP / "docs/WATCHING.md"
 # The names that are on no panel, and why.
-NOT_DRAWN = {"pathd_format_version": "it changes once in a store's life"}
+NOT_DRAWN = {"pathd_format_version": "it changes once in a store's life", "process_start_time_seconds": "pathd_uptime_seconds is"}
 
-NAME = re.compile(r"\bpathd_[a-z_]+\b")
-LABEL = re.compile(r'\b(kind|phase|code|call|reason|cause)=~?"([^"]*)"')
+NAME = re.compile(r"\b(?:pathd_[a-z_]+|process_[a-z_]+_seconds)\b")
+LABEL = re.compile(r'\b(kind|phase|code|call|reason|cause|actor)=~?"([^"]*)"')
 # The lines of a histogram have its name with one of these.
 PARTS = ("_bucket", "_sum", "_count")
 
@@ -40,7 +40,7 @@ def files(folder: str, suffix: str) -> str:
 def types(specs: str) -> dict[str, str]:
     """The type of each number of the page."""
     named = dict(re.findall(r'^(\w+) = codes "(pathd_\w+)"$', specs, re.M))
-    found = {name: kind for kind, name in re.findall(r'\b(counter|gauge) \(codes "(pathd_\w+)"\)', specs)}
+    found = {name: kind for kind, name in re.findall(r'\b(?:time_)?(counter|gauge) \(codes "(\w+)"\)', specs)}
     return found | {named[it]: kind for it, kind in re.findall(r'heading (\w+) \(codes "[^"]*"\) \(codes "(\w+)"\)', specs) if it in named}
 
 
@@ -53,7 +53,7 @@ def names(text: str, known: dict[str, str]) -> set[str]:
 def labels(specs: str) -> dict[str, set[str]]:
     """The values of each label."""
     found: dict[str, set[str]] = {"code": {f"{row.code:02x}" for row in codes.rows()}}
-    for label, value in re.findall(r'codes "(kind|phase|call|reason|cause)=\\"(\w+)\\""', specs):
+    for label, value in re.findall(r'codes "(kind|phase|call|reason|cause|actor)=\\"(\w+)\\""', specs):
         found.setdefault(label, set()).add(value)
     return found
 
@@ -88,7 +88,7 @@ def problems() -> list[str]:
     found += [f"{DASHBOARD.relative_to(TOP)}: {it} is not drawn" for it in sorted(known.keys() - drawn - NOT_DRAWN.keys())]
     found += [f"{it} is drawn, and listed as left out" for it in sorted(NOT_DRAWN.keys() & drawn)]
     page = WATCHING.read_text()
-    table = dict(re.findall(r"^\| `(pathd_\w+)(?:\{[^}]*\})?` \| (\w+) \|", page, re.M))
+    table = dict(re.findall(r"^\| `((?:pathd|process)_\w+)(?:\{[^}]*\})?` \| (\w+) \|", page, re.M))
     named = sorted(set().union(*(values[label] for label in values if label != "code")))
     found += [f"{WATCHING.relative_to(TOP)}: `{it}` is missing" for it in named if f"`{it}`" not in page]
     found += [f"{WATCHING.relative_to(TOP)}: the row of {it} is missing or has another type" for it in sorted(known) if table.get(it) != known[it]]

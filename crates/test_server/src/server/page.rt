@@ -76,6 +76,13 @@ pathd_seals_total 0
 # HELP pathd_checkpoints_total Checkpoints that were completed.
 # TYPE pathd_checkpoints_total counter
 pathd_checkpoints_total 0
+# HELP pathd_checkpoint_seconds_total Time that the completed checkpoints took.
+# TYPE pathd_checkpoint_seconds_total counter
+pathd_checkpoint_seconds_total 0.000000
+# HELP pathd_memory_waits 1 where the thread was refused memory, and tries again.
+# TYPE pathd_memory_waits gauge
+pathd_memory_waits{actor=\"flusher\"} 0
+pathd_memory_waits{actor=\"checkpointer\"} 0
 # HELP pathd_commit_seconds Time from the first step of a group to its commit.
 # TYPE pathd_commit_seconds histogram
 pathd_commit_seconds_bucket{le=\"0.000500\"} ";
@@ -118,8 +125,14 @@ pathd_notices_dropped_total 0
 # TYPE pathd_uptime_seconds gauge
 pathd_uptime_seconds ";
 
-/// The page after the number of seconds.
-const AFTER_SECONDS: &str = "
+/// The page between the number of seconds and the moment at which the server began.
+const BEFORE_BEGUN: &str = "
+# HELP process_start_time_seconds When the server began, in seconds since 1970.
+# TYPE process_start_time_seconds gauge
+process_start_time_seconds ";
+
+/// The page after that moment.
+const AFTER_BEGUN: &str = "
 # HELP pathd_build_info 1 for the version of the program, and the format that its checkpoints have.
 # TYPE pathd_build_info gauge
 pathd_build_info{version=\"0.9.0\",format=\"2\"} 1
@@ -134,7 +147,8 @@ fn after_number(text: &str) -> &str {
     text.trim_start_matches(|letter: char| letter.is_ascii_digit() || letter == '.')
 }
 
-/// The page in an answer, whatever the times of commits and the number of seconds are.
+/// The page in an answer, whatever the times of commits, the number of seconds and the moment of the
+/// start are.
 pub(crate) fn is_page(answer: &str) -> bool {
     let Some((head, page)) = answer.split_once("\r\n\r\n") else {
         return false;
@@ -148,5 +162,10 @@ pub(crate) fn is_page(answer: &str) -> bool {
     let Some(rest) = after_number(rest).strip_prefix(BEFORE_SECONDS) else {
         return false;
     };
-    head.starts_with("HTTP/1.1 200 OK\r\n") && after_number(rest) == AFTER_SECONDS
+    let Some(begun) = after_number(rest).strip_prefix(BEFORE_BEGUN) else {
+        return false;
+    };
+    // The number has ten digits until the year 2286.
+    let rest = after_number(begun);
+    head.starts_with("HTTP/1.1 200 OK\r\n") && begun.len() == rest.len() + 10 && rest == AFTER_BEGUN
 }
