@@ -77,6 +77,7 @@ impl<L: Listener + Drop, V: Verifier, O: Reports> Server<'_, L, V, O> {
             ended: self.ended(),
             registered: self.replies.of(ReplyKind::Registered),
             found: self.replies.of(ReplyKind::Found),
+            listed: self.replies.of(ReplyKind::Listed),
             purged: self.replies.of(ReplyKind::Purged),
             removed: self.replies.of(ReplyKind::Removed),
             dropped: self.reports.dropped(),

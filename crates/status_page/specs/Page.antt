@@ -77,7 +77,7 @@ accepted_lines counts =
 unfoldable pub reply_lines : Counts → List ℕ
 reply_lines counts =
     heading replies (codes "Replies to messages that were not refused, by kind.") (codes "counter")
-    ++ (labelled replies (codes "kind=\"found\"") counts.found ++ accepted_lines counts)
+    ++ (labelled replies (codes "kind=\"found\"") counts.found ++ (labelled replies (codes "kind=\"listed\"") counts.listed ++ accepted_lines counts))
 
 -- The lines of the process: the notices that it has dropped, how long it has run, when it began,
 -- and which program it is.

@@ -31,6 +31,8 @@ pub struct Counts {
     pub registered: u64,
     /// The number of lookups that were answered.
     pub found: u64,
+    /// The number of lists that were answered with a page.
+    pub listed: u64,
     /// The number of purges that were accepted.
     pub purged: u64,
     /// The number of removals that were accepted.

@@ -166,8 +166,9 @@ fn reply_lines(alloc: Global, counts: &Counts) -> Result<String, AllocError>
     let help = "Replies to messages that were not refused, by kind.";
     let heading = heading(alloc, REPLIES, help, "counter")?;
     let found = labelled(alloc, REPLIES, "kind=\"found\"", counts.found)?;
+    let listed = labelled(alloc, REPLIES, "kind=\"listed\"", counts.listed)?;
     let accepted = accepted_lines(alloc, counts)?;
-    format!(in alloc; "{heading}{found}{accepted}")
+    format!(in alloc; "{heading}{found}{listed}{accepted}")
 }
 
 /// The lines of the replies to commands that were accepted.

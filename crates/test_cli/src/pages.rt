@@ -64,6 +64,7 @@ pub(crate) fn counts() -> Counts {
         },
         registered: 2,
         found: 1_234,
+        listed: 56,
         purged: 3,
         removed: 0,
         dropped: 12,
@@ -204,6 +205,7 @@ pathd_session_ends_total{cause=\"server\"} 0
 # HELP pathd_replies_total Replies to messages that were not refused, by kind.
 # TYPE pathd_replies_total counter
 pathd_replies_total{kind=\"found\"} 1234
+pathd_replies_total{kind=\"listed\"} 56
 pathd_replies_total{kind=\"registered\"} 2
 pathd_replies_total{kind=\"purged\"} 3
 pathd_replies_total{kind=\"removed\"} 0

@@ -115,6 +115,7 @@ pathd_session_ends_total{cause=\"server\"} 0
 # HELP pathd_replies_total Replies to messages that were not refused, by kind.
 # TYPE pathd_replies_total counter
 pathd_replies_total{kind=\"found\"} 1
+pathd_replies_total{kind=\"listed\"} 1
 pathd_replies_total{kind=\"registered\"} 2
 pathd_replies_total{kind=\"purged\"} 1
 pathd_replies_total{kind=\"removed\"} 1

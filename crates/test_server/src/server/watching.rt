@@ -93,10 +93,17 @@ const STRANGE_REMOVAL: &str =
 
 const NO_TYPE: &str = "00000002ff29";
 
+/// Lists the core segments that begin and end at an AS that is in none, and the page without
+/// segments, after which none follow.
+const LIST: &str = "000000120503ffffffffffffffffffffffffffffffff";
+
+const NOTHING_LISTED: &str = "000000028500";
+
 /// What is asked, and the replies.
-const ASKED: [(&str, &str); 8] = [
+const ASKED: [(&str, &str); 9] = [
     (REGISTRATION, REGISTERED),
     (LOOKUP, FOUND),
+    (LIST, NOTHING_LISTED),
     (EMPTY_LOOKUP, NO_DESTINATION),
     (EMPTY_REGISTRATION, PLACE_1),
     (PURGE, PURGED_AT_2),
