@@ -33,7 +33,7 @@ TASKS = $(wildcard docs/operating/*.md)
 PICTURES = docs/plots.png docs/plots-dark.png
 EXAMPLES = deploy/pathd.nft deploy/pathd.rules.yml deploy/grafana-dashboard.json \
   deploy/pathd.service.d/status.conf
-UNIT_FILES = pathd.service pathd-failed@.service
+UNIT_FILES = pathd.service pathd-standby.service pathd-failed@.service
 # The units and the man page name the paths of the default prefix.
 PLACED = sed 's|/usr/local/|$(PREFIX)/|g'
 # Of the pages that are installed, deploy/ and docs/ are other folders. What a link leads to that is

@@ -33,6 +33,7 @@ PROGRAMS = [
     ("root losetup", "block-device PROGRAM"),
     ("root ip nft wg haproxy stunnel openssl python3-protobuf", "network PROGRAM"),
     ("root btrfs", "snapshots --program PROGRAM"),
+    ("root glusterd ip", "replicated --rounds 6 --program PROGRAM"),
     ("root losetup nspawn nft ip make protoc python3-protobuf", "units PROGRAM"),
     ("gcc python3", "refused-calls --program PROGRAM"),
     ("gcc python3", "power-cuts --program PROGRAM"),

@@ -103,6 +103,7 @@ THINGS = [
     program("chromium", "chromium"),
     program("debootstrap", "debootstrap"),
     program("ip", "iproute2"),
+    program("glusterd", "glusterfs-server glusterfs-client"),
     program("wg", "wireguard-tools"),
     program("haproxy", "haproxy"),
     program("stunnel", "stunnel4"),

@@ -56,6 +56,7 @@ ATTACKS = [
     Tool("refused", "attacks.refused", "refused-memory, refused-calls and refused-tests"),
     Tool("peers", "attacks.peers", "slow, silent, deaf and resetting peers, 10,000 connections, and the server's memory"),
     Tool("servers", "attacks.servers", "three servers with the same commands, each killed and started again in turn"),
+    Tool("replicated", "attacks.replicated", "a store on three machines by GlusterFS: replicas, servers and machines lost, a split; as root"),
     Tool("soak", "attacks.soak", "a mixed load for an hour, with many checkpoints"),
     Tool("full-disk", "attacks.full_disk", "a file system that runs out of room; as root"),
     Tool("snapshots", "attacks.snapshots", "snapshots of a store beside its running server; as root"),

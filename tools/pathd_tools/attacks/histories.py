@@ -56,6 +56,8 @@ NEVER = (1 << 64) - 1
 # How many choices of the commands without a reply are tried.
 MOST_TRIES = 1000
 LOOKUPS = 1 << 31
+# How long a session waits after a refusal, which a stopped store gives at once.
+AFTER_REFUSAL = 0.05
 
 
 @dataclass(frozen=True)
@@ -106,6 +108,8 @@ def hold_session(
                 rest = runs.digest(content[1:]) if content[0] == 0x82 else content[1:]
                 records += RECORD.pack(sent, received, request, content[0], rest)
                 counts[number] += 1
+                if content[0] == model.REFUSED:
+                    time.sleep(AFTER_REFUSAL)
     except OSError:
         for request, sent in window:
             records += RECORD.pack(sent, NEVER, request, 0, b"")
