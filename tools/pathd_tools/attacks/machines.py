@@ -13,6 +13,7 @@ import socket
 import subprocess
 import time
 from collections.abc import Callable
+from concurrent.futures import ThreadPoolExecutor
 from pathlib import Path
 
 from pathd_model import model
@@ -25,6 +26,8 @@ STORE = MOUNT / "store"
 # Of a command of GlusterFS, of a server that takes over, and of the repair of a volume, in seconds.
 COMMAND, TAKING_OVER, REPAIR = 120.0, 90.0, 120.0
 TAKEN = "another process has it open"
+# What a standby tries again after: the lock is another's, or the volume is away.
+RETRIED = f"{TAKEN}|^error: device 1$"
 
 INIT = """
 set -e
@@ -177,6 +180,10 @@ class Server:
         """What it has printed so far."""
         return self._notices.read_text(errors="replace")
 
+    def opened(self) -> int:
+        """How many milliseconds it took to open the store."""
+        return int(re.search(r" in (\d+) ms:", self.said())[1])
+
     def connect(self) -> socket.socket:
         """A connection to the server."""
         connection = socket.create_connection((self.machine.address, self.port), COMMAND)
@@ -197,8 +204,8 @@ class Volume:
         call("ip", "link", "add", "storage", "type", "bridge")
         call("ip", "link", "set", "storage", "up")
         self.machines = [Machine(number, folder) for number in range(1, COUNT + 1)]
-        for machine in self.machines:
-            machine.start()
+        with ThreadPoolExecutor() as starting:
+            list(starting.map(Machine.start, self.machines))
         self.machines[0].run("sh", "-ec", block_of("gluster --mode=script peer"))
         for machine in self.machines:
             machine.mount()
@@ -215,7 +222,7 @@ class Volume:
             server = Server(self._program, machine)
             if server.port:
                 return server, time.monotonic() - begun
-            if TAKEN not in server.said() or time.monotonic() > begun + TAKING_OVER:
+            if not re.search(RETRIED, server.said(), re.M) or time.monotonic() > begun + TAKING_OVER:
                 raise Failure(f"m{machine.number} has not taken over after {time.monotonic() - begun:.0f} s: {server.said()}")
             time.sleep(0.2)
 

@@ -164,6 +164,7 @@ class Trial:
         begun = time.monotonic()
         other, _ = self.volume.take_over(second)
         took = time.monotonic() - begun
+        self.counts["longest opening, ms"] = max(self.counts["longest opening, ms"], other.opened())
         further = Load(other, self.frames, self.options, f"{self.options.seed}/{number}/1", self.folder)
         further.wait(self.options.replies, f"replies of m{second.number}")
         if kind in SPLITS:
