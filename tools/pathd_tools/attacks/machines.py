@@ -137,8 +137,15 @@ class Machine:
         return "fuse.glusterfs" in self.run("cat", "/proc/mounts")
 
     def image(self) -> bytes:
-        """The store's bytes by this machine's mount."""
-        return subprocess.run(self.within("cat", str(STORE)), capture_output=True, timeout=COMMAND, check=True).stdout
+        """The store's bytes by this machine's mount, once that is connected again."""
+        read: list[bytes] = []
+        wait_for(lambda: self._reads(read), REPAIR, "a read of the store")
+        return read[0]
+
+    def _reads(self, read: list[bytes]) -> bool:
+        done = subprocess.run(self.within("cat", str(STORE)), capture_output=True, timeout=COMMAND, check=False)
+        read[:] = [done.stdout]
+        return done.returncode == 0
 
     def cut(self) -> None:
         """Takes the machine off the network of the volume: what is sent is lost."""
