@@ -49,7 +49,7 @@ from pathd_tools.attacks.machines import Failure, Machine, Server, Volume, wait_
 KINDS = ["brick", "server", "split", "machine", "quiet", "apart"]
 SPLITS = ["split", "quiet"]
 INSIDE = "PATHD_REPLICATED"
-NAMESPACES = ["unshare", "--net", "--mount", "--pid", "--fork", "--kill-child", "--mount-proc", "--propagation", "private"]
+NAMESPACES = ["setpriv", "--pdeathsig", "KILL", "unshare", "--net", "--mount", "--pid", "--fork", "--kill-child", "--mount-proc", "--propagation", "private"]
 # How long replies may be away while one replica is, how long after a split a server is asked on, and how long nobody asks before one, in seconds.
 STANDSTILL, AFTERWARDS, SILENCE = 60.0, 10.0, 3.0
 # The store stopped before the command was committed; it is stopped, and takes none.
