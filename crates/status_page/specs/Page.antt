@@ -50,14 +50,18 @@ wait_lines waiting =
     heading waits (codes "1 where the thread was refused memory, and tries again.") (codes "gauge")
     ++ (labelled waits (codes "actor=\"flusher\"") (flag waiting.flusher) ++ labelled waits (codes "actor=\"checkpointer\"") (flag waiting.checkpointer))
 
+-- The lines of the checkpoints that were completed, and whether the actors wait for memory.
+unfoldable pub checkpoint_work : Counts → List ℕ
+checkpoint_work counts =
+    counter (codes "pathd_checkpoints_total") (codes "Checkpoints that were completed.") counts.checkpoints
+    ++ (time_counter (codes "pathd_checkpoint_seconds_total") (codes "Time that the completed checkpoints took.") counts.checkpoint_time
+    ++ wait_lines counts.waits)
+
 -- The lines of what both actors have done.
 unfoldable pub actor_work : Counts → List ℕ
 actor_work counts =
     counter (codes "pathd_groups_total") (codes "Groups of commands that were committed.") counts.groups
-    ++ (counter (codes "pathd_seals_total") (codes "Journals that were sealed.") counts.seals
-    ++ (counter (codes "pathd_checkpoints_total") (codes "Checkpoints that were completed.") counts.checkpoints
-    ++ (time_counter (codes "pathd_checkpoint_seconds_total") (codes "Time that the completed checkpoints took.") counts.checkpoint_time
-    ++ wait_lines counts.waits)))
+    ++ (counter (codes "pathd_seals_total") (codes "Journals that were sealed.") counts.seals ++ checkpoint_work counts)
 
 -- The name of the metric of replies by kind.
 abbrev pub replies : List ℕ

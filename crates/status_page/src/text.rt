@@ -1,7 +1,7 @@
 //! The text of the page.
 
 ghost use Rattle.std.specs.Prelude.{◌≡◌, IfOk, string_bytes};
-ghost use Rattle.status_page.specs.Page.{row_lines, command_lines, version_lines, wait_lines, actor_work, accepted_lines, reply_lines, process_lines, refusal_label, refusal_line, refusals_text, store_metrics, work_text, page_text};
+ghost use Rattle.status_page.specs.Page.{row_lines, command_lines, version_lines, wait_lines, checkpoint_work, actor_work, accepted_lines, reply_lines, process_lines, refusal_label, refusal_line, refusals_text, store_metrics, work_text, page_text};
 
 use crate::build::{VERSION, build_lines};
 use crate::calls::call_text;
@@ -120,13 +120,22 @@ fn actor_work(alloc: Global, counts: &Counts) -> Result<String, AllocError>
     let groups = counter(alloc, "pathd_groups_total", help, counts.groups)?;
     let help = "Journals that were sealed.";
     let seals = counter(alloc, "pathd_seals_total", help, counts.seals)?;
+    let checkpoints = checkpoint_work(alloc, counts)?;
+    format!(in alloc; "{groups}{seals}{checkpoints}")
+}
+
+/// The lines of the checkpoints that were completed, and whether the actors wait for memory.
+#[tactic(auto, unfolding(crate::specs::Page::checkpoint_work))]
+fn checkpoint_work(alloc: Global, counts: &Counts) -> Result<String, AllocError>
+    ensures { IfOk result (λ text. string_bytes text ≡ checkpoint_work counts.now) }
+{
     let help = "Checkpoints that were completed.";
     let checkpoints = counter(alloc, "pathd_checkpoints_total", help, counts.checkpoints)?;
     let help = "Time that the completed checkpoints took.";
     let name = "pathd_checkpoint_seconds_total";
     let took = time_counter(alloc, name, help, counts.checkpoint_time)?;
     let waits = wait_lines(alloc, counts.waits)?;
-    format!(in alloc; "{groups}{seals}{checkpoints}{took}{waits}")
+    format!(in alloc; "{checkpoints}{took}{waits}")
 }
 
 /// The lines of both actors, whether they wait for memory.
