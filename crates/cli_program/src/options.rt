@@ -21,11 +21,24 @@ pub(crate) fn cores_in<'a>(
         return Ok(Vec::new(alloc));
     };
     match cores_of(alloc, list) {
-        Ok(cores) => match wildcard_in(list) {
+        Ok(cores) => Ok(cores),
+        Err(fault) => Err(no_cores(list, fault)),
+    }
+}
+
+/// The core ASes of the words for a server, none of which has a part that is 0: such a text names
+/// no AS, and would only silence the line that says that there is no core AS.
+pub(crate) fn core_ases_in<'a>(
+    alloc: Global,
+    words: &ArgMatches<'a>,
+) -> Result<Vec<IsdAs>, Failure<'a>> {
+    let cores = cores_in(alloc, words)?;
+    match words.get_str(CORES) {
+        Some(list) => match wildcard_in(list) {
             Some(text) => Err(Failure::AnyCore(text)),
             None => Ok(cores),
         },
-        Err(fault) => Err(no_cores(list, fault)),
+        None => Ok(cores),
     }
 }
 

@@ -6,7 +6,7 @@ ghost use Rattle.clap.specs.Words.{first_value, found_of};
 ghost use Rattle.cli_program.specs.Options.{IsKeyOf, IsNumberOf, limit_of, bound_of};
 
 use crate::failure::Failure;
-use crate::options::{cores_in, key_in, u32_in, u64_in};
+use crate::options::{core_ases_in, key_in, u32_in, u64_in};
 use clap::ArgMatches;
 use cli_words::{FUTURE, GRACE, IDLE, LOOKUP_SEATS, PEER_SESSIONS, PURGE, SESSIONS, SPARE};
 use path_server::Options;
@@ -43,7 +43,7 @@ pub(crate) fn options_of<'a>(alloc: Global, words: &ArgMatches<'a>) -> Result<Op
     ensures grace { IfOk result (λ options. (count : ℕ) × IsNumberOf (found_of words.now) (codes "grace") 32 10 count
         × (as_nanos options.grace ≡ count * 1_000_000_000)) }
 {
-    let cores = Roster::new(cores_in(alloc, words)?);
+    let cores = Roster::new(core_ases_in(alloc, words)?);
     let key = key_in(alloc, words)?;
     Ok(Options {
         cores,
