@@ -12,9 +12,9 @@ import (
 	"pathd/segmentspb"
 )
 
-// mostResponse is how many bytes a response may have that pages are added to: clients of gRPC take no
+// MostResponse is how many bytes a response may have that pages are added to: clients of gRPC take no
 // more, unless they are told to.
-const mostResponse = 4 << 20
+const MostResponse = 4 << 20
 
 // pages adds to what a lookup has found where that may be cut.
 type pages struct {
@@ -57,7 +57,7 @@ func (p *pages) add(ctx context.Context, asked *segmentspb.SegmentsRequest, kind
 			return
 		}
 		room := p.most - len(list.Segments)
-		if size += len(reply); size > mostResponse || room == 0 && len(next.Segments) > 0 {
+		if size += len(reply); size > MostResponse || room == 0 && len(next.Segments) > 0 {
 			p.left.Add(1)
 			return
 		}

@@ -51,7 +51,7 @@ type Options struct {
 func NewServer(desk *calls.Desk, methods []*calls.Method, checks *health.Server, options Options) *grpc.Server {
 	server := grpc.NewServer(
 		grpc.MaxRecvMsgSize(pathd.MostRequest),
-		grpc.MaxSendMsgSize(pathd.MostReply),
+		grpc.MaxSendMsgSize(calls.MostResponse),
 		grpc.MaxConcurrentStreams(options.Streams),
 		grpc.NumStreamWorkers(workers),
 		grpc.MaxHeaderListSize(door.MostHeader),
