@@ -261,7 +261,7 @@ func TestACallUnderWayEndsBeforeTheProgram(t *testing.T) {
 		}
 		return healthy(content)
 	})
-	at := gateway(t, address)
+	at := gateway(t, address, "--deadline", "60") // a busy machine may take long until it is told to end
 	conn, ctx := dial(t, at.address)
 	done := make(chan error)
 	go func() {

@@ -33,18 +33,19 @@ type process struct {
 	numbers string // of a gateway, where --status has it listen
 	log     *strings.Builder
 	ended   chan error
+	over    chan struct{} // closed once it has ended
 }
 
 // start starts a program whose lines a function looks for the address in.
 func start(t *testing.T, address func(line string) string, words ...string) *process {
 	t.Helper()
-	p := &process{t: t, command: exec.Command(words[0], words[1:]...), log: new(strings.Builder), ended: make(chan error, 1)}
+	p := &process{t: t, command: exec.Command(words[0], words[1:]...), log: new(strings.Builder), ended: make(chan error, 1), over: make(chan struct{})}
 	out, in, err := os.Pipe()
 	pki.Must(t, err)
 	p.command.Stdout, p.command.Stderr = in, in
 	pki.Must(t, p.command.Start())
 	in.Close()
-	t.Cleanup(func() { p.command.Process.Kill() })
+	t.Cleanup(func() { p.command.Process.Kill(); <-p.over }) // before its store's folder is removed
 	found := make(chan string, 1)
 	go func() {
 		lines := bufio.NewScanner(out)
@@ -59,6 +60,7 @@ func start(t *testing.T, address func(line string) string, words ...string) *pro
 		}
 		close(found)
 		p.ended <- p.command.Wait()
+		close(p.over)
 	}()
 	select {
 	case p.address = <-found:
