@@ -140,8 +140,9 @@ func TestServersWithoutRoom(t *testing.T) {
 }
 
 func TestASessionThatIsStuckIsClosed(t *testing.T) {
+	const patience = 2 * time.Second // as long as a busy machine may take to send and to reply
 	store := running(t, silent)
-	client, ctx := clientOf(t, store, ClientOptions{Patience: 300 * time.Millisecond})
+	client, ctx := clientOf(t, store, ClientOptions{Patience: patience})
 	var all sync.WaitGroup
 	for number := 0; number < 5; number++ {
 		all.Add(1)
