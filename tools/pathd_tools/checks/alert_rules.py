@@ -1,6 +1,6 @@
 """Has promtool of Debian's package prometheus check the alert rules of deploy/, those of the gateway
-among them, run the tests of those of the server, and read each expression of both dashboards, as the
-expression of a rule. It prints what promtool prints.
+among them, run the tests of both, and read each expression of both dashboards, as the expression of
+a rule. It prints what promtool prints.
 """
 from __future__ import annotations
 
@@ -13,6 +13,7 @@ from pathd_tools import TOP, need
 from pathd_tools.toolbox import parser
 
 DEPLOY = TOP / "deploy"
+RULES = ["pathd", "pathd-gateway"]
 DASHBOARDS = ["grafana-dashboard.json", "pathd-gateway-dashboard.json"]
 
 
@@ -30,7 +31,8 @@ def main(words: list[str]) -> int:
     with tempfile.TemporaryDirectory() as folder:
         drawn = Path(folder) / "dashboard.yml"
         drawn.write_text(rules_of_dashboards())
-        checked = [DEPLOY / "pathd.rules.yml", DEPLOY / "pathd-gateway.rules.yml", drawn]
-        commands = [*(("check", path) for path in checked), ("test", DEPLOY / "pathd.rules.test.yml")]
+        checked = [*(DEPLOY / f"{name}.rules.yml" for name in RULES), drawn]
+        tested = [DEPLOY / f"{name}.rules.test.yml" for name in RULES]
+        commands = [*(("check", path) for path in checked), *(("test", path) for path in tested)]
         results = [subprocess.run(["promtool", what, "rules", path], check=False).returncode for what, path in commands]
     return 1 if any(results) else 0
