@@ -35,6 +35,9 @@ func (p *pages) complete(ctx context.Context, request, found []byte) []byte {
 		return found
 	}
 	for kind, list := range response.Segments {
+		if len(list.GetSegments()) < pathd.MostFound { // where the type comes twice, its last list counts
+			return found
+		}
 		p.add(ctx, asked, segmentspb.SegmentType(kind), list, len(found))
 	}
 	if completed, err := proto.Marshal(response); err == nil {
