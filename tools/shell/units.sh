@@ -1,16 +1,17 @@
 #!/usr/bin/env bash
 # Tries the steps of docs/operating and the units of deploy/ in a container of this machine's own
 # system, whose first process is systemd: installing, the unit's walls, purges, stops and signals,
-# statuses, a backup, a volume as DEV, a fault of that device, the firewall, and a
+# statuses, a backup, the gateway, a volume as DEV, a fault of that device, the firewall, and a
 # restart of the container. `tools/pathd-tools units-inside` has the list, and runs the blocks of
 # those pages as they are written.
 #
-#     tools/pathd-tools units [PROGRAM]
+#     tools/pathd-tools units [PROGRAM [GATEWAY]]
 #
-# PROGRAM is crates/pathd/out/pathd if left out, which `rt run` builds. It has to be run as root, on
-# Debian 12 with systemd-container, python3-protobuf, protobuf-compiler, nftables, iproute2 and make
-# (tools/pathd-tools need says what is missing), and a free loop device, which nobody else may take
-# meanwhile.
+# PROGRAM is crates/pathd/out/pathd if left out, which `rt run` builds. GATEWAY is
+# gateway/out/pathd-gateway if left out, which `gateway/build` builds; where it is not there the unit
+# of the gateway is left out. The script has to be run as root, on Debian 12 with systemd-container,
+# python3-protobuf, protobuf-compiler, nftables, iproute2 and make (tools/pathd-tools need says what
+# is missing), and a free loop device, which nobody else may take meanwhile.
 #
 # The container's root is an overlay in memory over the machine's /, its network has nothing but a
 # loopback and what the script makes, and all of it is gone at the end. The one setting of the
@@ -26,6 +27,7 @@ fi
 shift
 program=$(realpath -m "${1:-$top/crates/pathd/out/pathd}")
 [ -x "$program" ] || { echo "no program: $program" >&2; exit 2; }
+gateway=$(realpath -m "${2:-$top/gateway/out/pathd-gateway}")
 
 group=$(sed -n 's/^0:://p' /proc/self/cgroup)
 work=$(mktemp -d /tmp/pathd-units.XXXXXX)
@@ -60,11 +62,13 @@ mkdir "$work/ram/upper" "$work/ram/work" "$work/ram/$name"
 root=$work/ram/$name
 mount -t overlay -o "lowerdir=/,upperdir=$work/ram/upper,workdir=$work/ram/work" overlay "$root"
 repository=$root/srv/pathd
-mkdir -p "$repository/crates/pathd/out" "$root/var/lib" "$root/tmp"
+mkdir -p "$repository/crates/pathd/out" "$repository/gateway/out" "$root/var/lib" "$root/tmp"
 cp "$program" "$repository/crates/pathd/out/pathd"
+[ ! -x "$gateway" ] || cp "$gateway" "$repository/gateway/out/pathd-gateway"
+cp "$top"/gateway/*.proto "$repository/gateway"
 cp -r "$top"/*.md "$top/Makefile" "$top/deploy" "$top/docs" "$top/clients" "$top/tools" "$repository"
-rm -rf "$root/var/lib/pathd" "$root/var/log/journal" "$root/usr/local/bin/pathd" "$root/etc/default/pathd"
-sed -i '/^pathd:/d' "$root/etc/passwd" "$root/etc/group" "$root/etc/shadow" "$root/etc/gshadow" 2>/dev/null || true
+rm -rf "$root/var/lib/pathd" "$root/var/log/journal" "$root"/usr/local/bin/pathd{,-gateway} "$root"/etc/default/pathd{,-gateway}
+sed -i '/^pathd\(-gateway\)\?:/d' "$root/etc/passwd" "$root/etc/group" "$root/etc/shadow" "$root/etc/gshadow" 2>/dev/null || true
 # Nothing of the machine's own services starts there, and nothing that sets the machine's clock, devices or kernel.
 rm -f "$root"/etc/systemd/system/*.wants/* "$root"/etc/systemd/system/*.requires/* "$root"/etc/rc?.d/S*
 for unit in systemd-sysctl systemd-modules-load systemd-udevd systemd-udev-trigger systemd-random-seed systemd-timesyncd systemd-binfmt systemd-hwdb-update \

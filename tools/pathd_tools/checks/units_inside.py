@@ -1,5 +1,5 @@
-"""Tries the steps of docs/operating on a system whose first process is systemd;
-tools/pathd-tools units starts it in a container.
+"""Tries the steps of docs/operating, and the unit of the gateway, on a system whose first process is
+systemd; tools/pathd-tools units starts it in a container.
 
     tools/pathd-tools units-inside --loop DEVICE
     tools/pathd-tools units-inside --after-restart
@@ -12,6 +12,7 @@ prints a line for each step, and ends with the status 1 where one did not come o
 from __future__ import annotations
 
 import argparse
+import json
 import os
 import pickle
 import re
@@ -34,11 +35,16 @@ SETTINGS = Path("/etc/default/pathd")
 REPORT = Path("/etc/pathd/on-failure")
 PORT = 30252
 NUMBERS_PORT = 30253
+GATEWAY = TOP / "gateway/out/pathd-gateway"
+GATEWAY_UNIT = "pathd-gateway.service"
+GATEWAY_SETTINGS = Path("/etc/default/pathd-gateway")
+GATEWAY_PORT = 30262
+LOOKUP = "proto.control_plane.v1.SegmentLookupService/Segments"
 CORE = 0x0001_FF00_0000_0110
 LEAF = 0x0001_FF00_0000_0111
 PAGE_BYTES = 4096
-# Segments of 2096, and how long after its timestamp one expires.
-MADE = 4_000_000_000
+# Segments of now, as the settings bound times after it, and how long after its timestamp one expires.
+MADE = int(time.time())
 LASTS = 675 * 64 // 2
 FULL = 64
 
@@ -485,6 +491,85 @@ def watch() -> None:
     STEPS.expect("without the option it starts and nothing listens there", start() and must("ss", "-Hltn", f"sport = :{NUMBERS_PORT}") == "")
 
 
+def look_up_by_gateway() -> int:
+    """How many segments a lookup by Connect finds; -1 where it has no response."""
+    body = json.dumps({"srcIsdAs": str(CORE), "dstIsdAs": str(LEAF)}).encode()
+    request = urllib.request.Request(f"http://127.0.0.1:{GATEWAY_PORT}/{LOOKUP}", body, {"Content-Type": "application/json"})
+    try:
+        with urllib.request.urlopen(request, timeout=30) as answer:
+            found = json.load(answer).get("segments", {})
+    except OSError:
+        return -1
+    return sum(len(listed["segments"]) for listed in found.values())
+
+
+def start_gateway() -> bool:
+    """Starts the unit of the gateway anew, without a count of earlier starts."""
+    run("systemctl", "reset-failed", GATEWAY_UNIT)
+    return run("systemctl", "start", GATEWAY_UNIT).returncode == 0 and property_of("ActiveState", GATEWAY_UNIT) == "active"
+
+
+def serve_by_gateway() -> None:
+    """'Running it' of docs/GATEWAY.md: the unit of the gateway, before the server."""
+    if not os.access(GATEWAY, os.X_OK):
+        STEPS.leave_out(GATEWAY_UNIT, f"there is no {GATEWAY}")
+        return
+    done = run("make", "install-gateway", cwd=TOP)
+    STEPS.expect("`make install-gateway` installs the gateway", done.returncode == 0, done.stderr)
+    done = run("sh", TOP / "deploy/debian/gateway/postinst", "configure")
+    STEPS.expect("its user is made as its package makes it", done.returncode == 0 and run("id", "pathd-gateway").returncode == 0, done.stderr)
+    begun = time.time()
+    STEPS.expect("the unit of the gateway starts", start_gateway(), run("systemctl", "status", GATEWAY_UNIT).stdout)
+    STEPS.expect("the journal has the line of its address", until(lambda: f"serves at 127.0.0.1:{GATEWAY_PORT}" in journal("pathd-gateway", begun)), journal("pathd-gateway", begun))
+    STEPS.expect("a lookup by Connect finds segments", look_up_by_gateway() > 0)
+    look_at_walls_of_gateway()
+    end_gateway()
+    must("make", "-C", TOP, "uninstall-gateway")
+    must("systemctl", "daemon-reload")
+
+
+def look_at_walls_of_gateway() -> None:
+    """The gateway's user, its rights, its limits."""
+    pid = property_of("MainPID", GATEWAY_UNIT)
+    status = dict(line.split(":\t", 1) for line in Path(f"/proc/{pid}/status").read_text().splitlines() if ":\t" in line)
+    uid = must("id", "-u", "pathd-gateway").strip()
+    STEPS.expect("the gateway runs as its own user", status["Uid"].split() == [uid] * 4, status["Uid"])
+    STEPS.expect("it has no capability, no new privileges, and a filter of calls", (int(status["CapEff"], 16), int(status["CapBnd"], 16), status["NoNewPrivs"], status["Seccomp"]) == (0, 0, "1", "2"), status)
+    within = ["nsenter", "-t", pid, "-m", "sh", "-c"]
+    for path in ("/etc", "/usr/local/bin", "/var/lib", "/home"):
+        STEPS.expect(f"in its view {path} can't be written", run(*within, f"touch {path}/.pathd-units").returncode != 0)
+    as_its_user = "setpriv --reuid pathd-gateway --regid pathd-gateway --clear-groups"
+    STEPS.expect("its user can read /etc/pathd-gateway, and can't write it", run(*within, f"{as_its_user} ls /etc/pathd-gateway").returncode == 0 and run(*within, f"{as_its_user} touch /etc/pathd-gateway/.new").returncode != 0)
+    listens = must("ss", "-Hltnp", f"sport = :{GATEWAY_PORT}")
+    STEPS.expect("it listens at 127.0.0.1 alone", listens.count("\n") == 1 and f"127.0.0.1:{GATEWAY_PORT}" in listens, listens)
+    limits = Path(f"/proc/{pid}/limits").read_text()
+    STEPS.expect("it may have 4096 descriptors", re.search(r"Max open files +4096 +4096", limits) is not None, limits)
+    done = run("systemd-analyze", "verify", TOP / "deploy" / GATEWAY_UNIT)
+    lines = [line for line in done.stderr.splitlines() if "pathd" in line]
+    STEPS.expect("systemd-analyze verify prints nothing of its unit", not lines, lines)
+
+
+def end_gateway() -> None:
+    """What the unit of the gateway does after each end, and where the server is away."""
+    begun = time.time()
+    done = run("systemctl", "reload", GATEWAY_UNIT)
+    STEPS.expect("systemctl reload: it reads its files again", done.returncode == 0 and until(lambda: "were read again" in journal("pathd-gateway", begun)), journal("pathd-gateway", begun))
+    must("systemctl", "stop", "pathd")
+    STEPS.expect("while the server is away lookups have no response, and the gateway goes on", look_up_by_gateway() == -1 and property_of("ActiveState", GATEWAY_UNIT) == "active")
+    start()
+    STEPS.expect("once it is back they have one", until(lambda: look_up_by_gateway() > 0))
+    must("systemctl", "kill", "-s", "KILL", "--kill-whom=main", GATEWAY_UNIT)
+    STEPS.expect("SIGKILL: the gateway is started again", until(lambda: property_of("NRestarts", GATEWAY_UNIT) == "1" and look_up_by_gateway() > 0), property_of("NRestarts", GATEWAY_UNIT))
+    must("systemctl", "stop", GATEWAY_UNIT)
+    STEPS.expect("systemctl stop: its unit is inactive, with success", (property_of("ActiveState", GATEWAY_UNIT), property_of("Result", GATEWAY_UNIT)) == ("inactive", "success"))
+    GATEWAY_SETTINGS.write_text("OPTIONS=--none\n")
+    STEPS.expect("status 2, of words that can't be read: its start fails", not start_gateway())
+    time.sleep(5)
+    ended = tuple(property_of(name, GATEWAY_UNIT) for name in ("ActiveState", "ExecMainStatus", "NRestarts"))
+    STEPS.expect("it stays down then", ended == ("failed", "2", "0"), ended)
+    GATEWAY_SETTINGS.unlink()
+
+
 def lost_pages(device: str, disk: Path) -> int:
     """How many pages of a device read otherwise than its disk has them."""
     with open(device, "rb") as held, disk.open("rb") as kept:
@@ -701,6 +786,7 @@ def main(words: list[str]) -> int:
         purge()
         back_up()
         watch()
+        serve_by_gateway()
         must("systemctl", "stop", "pathd")
         fail_device(options.loop, by_hand=True)
         fail_device(options.loop, by_hand=False)
