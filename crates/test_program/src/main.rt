@@ -5,6 +5,7 @@
 #![tactic(auto)]
 
 mod copies;
+mod damaged;
 mod given;
 mod images;
 mod input;
@@ -50,6 +51,7 @@ fn main(rt: HostRuntime) -> io::Result<()> {
         words::parts(),
         once::parts(),
         stores::parts(),
+        damaged::parts(),
         served::parts(),
         copies::parts(),
     ];

@@ -1,5 +1,9 @@
 //! Frames of lists, and of the replies to them.
 
+ghost use Rattle.std.specs.Prelude.{◌≤◌, length, IfOk};
+ghost use Rattle.std.specs.List.{AllByRecursion};
+ghost use Rattle.seg_core.specs.Encoding.{IsSegment};
+
 use crate::sessions::same::assert_same;
 use seg_core::{SegType, Segment, read_segment};
 use session_core::{Ack, Code, FrameError, Framer, ListRequest, Listing, Message, Service, serve};
@@ -15,13 +19,21 @@ struct Shelf;
 
 impl Shelf {
     /// The segments of a page.
-    fn segments(&self, alloc: Global, request: &ListRequest) -> Result<Vec<Segment>, Code> {
+    fn segments(&self, alloc: Global, request: &ListRequest) -> Result<Vec<Segment>, Code>
+        ensures few { IfOk result (λ segments. length segments.items ≤ 1) }
+        ensures whole { IfOk result (λ segments. AllByRecursion IsSegment segments.items) }
+    {
         let mut segments = Vec::new(alloc);
-        if request.after.is_none() {
-            let segment = read_segment(alloc, &SEGMENT).map_err(|_| Code(0x01))?;
-            segments.push(segment).map_err(|_| Code(0x01))?;
+        if request.after.is_some() {
+            return Ok(segments);
         }
-        Ok(segments)
+        let Ok(segment) = read_segment(alloc, &SEGMENT) else {
+            return Err(Code(0x01));
+        };
+        match segments.push(segment) {
+            Ok(()) => Ok(segments),
+            Err(_) => Err(Code(0x01)),
+        }
     }
 }
 
