@@ -1,24 +1,36 @@
-//! Bytes that only contracts name. A note takes no memory, and its functions do nothing.
+//! Bytes that only contracts name.
 
 ghost use Rattle.std.specs.Prelude.{◌≡◌, ℕ, List, []};
 ghost use Rattle.std.specs.Borrow.{ftrue};
 ghost use Rattle.paced_stream.specs.Grown.{grown_by};
 
+use ghost_note::{Note, NoteSource};
 use std::io;
 use std::marker::Model;
 
-/// The source of a note's bytes.
-trait NoteSource {
-    ghost use Rattle.std.specs.Prelude.{ℕ, List};
-
-    ghost bytes: { Self → List ℕ };
+/// Bytes that are in no memory. No value of this type is made.
+pub(crate) struct Bytes {
+    ghost bytes: { List ℕ },
 }
+
+impl Model for Bytes {
+    ghost also_owns = { λ _. ftrue };
+
+    ghost Value = { List ℕ };
+
+    ghost view = { λ all. all.bytes };
+}
+
+/// Bytes that contracts name and that no code keeps.
+pub(crate) type BytesNote = Note<Bytes>;
+
+const _: () = prove!(size_of::<BytesNote>() == 0);
 
 // No bytes.
 struct NoBytes;
 
-impl NoteSource for NoBytes {
-    ghost bytes = { λ _. [] };
+impl NoteSource<Bytes> for NoBytes {
+    ghost value = { λ _. [] };
 }
 
 // The bytes of a note, and those that a call moved.
@@ -29,45 +41,20 @@ struct BytesMore<'a> {
     bytes: &'a [u8],
 }
 
-impl<'a> NoteSource for BytesMore<'a> {
-    ghost bytes = { λ step. grown_by step.note.now.bytes step.moved.now step.bytes.now };
+impl<'a> NoteSource<Bytes> for BytesMore<'a> {
+    ghost value = { λ step. grown_by step.note.now.value step.moved.now step.bytes.now };
 }
 
-/// Bytes that contracts name and that no code keeps. A note has no bytes in memory.
-#[derive(Drop)]
-pub(crate) struct BytesNote {
-    pub ghost bytes: { List ℕ },
+/// The note of no bytes.
+pub(crate) fn no_bytes() -> BytesNote
+    ensures { result.value ≡ [] }
+{
+    Note::of(&NoBytes)
 }
 
-impl Model for BytesNote {
-    ghost also_owns = { λ _. ftrue };
-}
-
-const _: () = prove!(size_of::<BytesNote>() == 0);
-
-impl BytesNote {
-    // A note of the bytes of a source. Its proof is written by hand.
-    fn of<T: NoteSource>(_source: &T) -> BytesNote
-        ensures { result.bytes ≡ T.bytes _source.now }
-    {
-        BytesNote {}
-    }
-
-    /// The note of no bytes.
-    pub(crate) fn new() -> BytesNote
-        ensures { result.bytes ≡ [] }
-    {
-        BytesNote::of(&NoBytes)
-    }
-
-    /// The note of these bytes and those that a call moved, which are a front of `bytes`.
-    pub(crate) fn after(&self, moved: &io::Result<usize>, bytes: &[u8]) -> BytesNote
-        ensures { result.bytes ≡ grown_by self.now.bytes moved.now bytes.now }
-    {
-        BytesNote::of(&BytesMore {
-            note: self,
-            moved,
-            bytes,
-        })
-    }
+/// The note of these bytes and those that a call moved, which are a front of `bytes`.
+pub(crate) fn bytes_after(note: &BytesNote, moved: &io::Result<usize>, bytes: &[u8]) -> BytesNote
+    ensures { result.value ≡ grown_by note.now.value moved.now bytes.now }
+{
+    Note::of(&BytesMore { note, moved, bytes })
 }

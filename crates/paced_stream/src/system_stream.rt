@@ -4,7 +4,7 @@
 
 ghost use Rattle.std.specs.Prelude.{◌≡◌, [], ⊤};
 
-use crate::bytes_note::BytesNote;
+use crate::bytes_note::{BytesNote, bytes_after, no_bytes};
 use crate::stream_calls::StreamCalls;
 use std::io;
 use std::io::{Read, Write};
@@ -22,21 +22,21 @@ pub struct SystemStream<'a> {
 impl<'a> SystemStream<'a> {
     /// A connection by which nothing has been read and written yet.
     pub fn new(stream: &'a TcpStream) -> SystemStream<'a>
-        ensures given { result.given.bytes ≡ [] }
-        ensures taken { result.taken.bytes ≡ [] }
+        ensures given { result.given.value ≡ [] }
+        ensures taken { result.taken.value ≡ [] }
     {
         SystemStream {
             stream,
-            given: BytesNote::new(),
-            taken: BytesNote::new(),
+            given: no_bytes(),
+            taken: no_bytes(),
         }
     }
 }
 
 impl StreamCalls for SystemStream<'_> {
-    ghost given = { λ stream. stream.given.bytes };
+    ghost given = { λ stream. stream.given.value };
 
-    ghost taken = { λ stream. stream.taken.bytes };
+    ghost taken = { λ stream. stream.taken.value };
 
     ghost is_at_end = { λ _. ⊤ };
 
@@ -55,14 +55,14 @@ impl StreamCalls for SystemStream<'_> {
     fn read_once(&mut self, into: &mut [u8]) -> io::Result<usize> {
         let mut stream = self.stream;
         let read = stream.read(into);
-        self.given = self.given.after(&read, into);
+        self.given = bytes_after(&self.given, &read, into);
         read
     }
 
     fn write_once(&mut self, bytes: &[u8]) -> io::Result<usize> {
         let mut stream = self.stream;
         let written = stream.write(bytes);
-        self.taken = self.taken.after(&written, bytes);
+        self.taken = bytes_after(&self.taken, &written, bytes);
         written
     }
 }

@@ -77,5 +77,5 @@ file_disk {F} {G} device = record {
   is_honest = (G.state device.file).is_honest;
   sectors = device.sectors;
   faults = device.faults;
-  history = record { past = device.trail.past; now = record { reads = front device.sectors (G.state device.file).bytes; dirty = device.trail.dirty } };
+  history = record { past = device.trail.value.past; now = record { reads = front device.sectors (G.state device.file).bytes; dirty = device.trail.value.dirty } };
 }

@@ -10,7 +10,7 @@ memory_disk device = record {
   is_honest = true;
   sectors = device.sectors;
   faults = 0;
-  history = record { past = device.trail.past; now = record { reads = device.bytes.items; dirty = device.trail.dirty } };
+  history = record { past = device.trail.value.past; now = record { reads = device.bytes.items; dirty = device.trail.value.dirty } };
 }
 
 -- An honest device of zeros, before any call.

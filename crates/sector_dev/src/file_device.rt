@@ -3,7 +3,7 @@ ghost use Rattle.std.specs.Prelude.{◌≡◌, ◌+◌, ◌*◌, ◌%◌, ◌<�
 ghost use Rattle.byte_lists.specs.declared.format.TheConstants.{SECTOR};
 ghost use Rattle.sector_dev.specs.PositionedFile.{IsHonestFile, CoversDirty, LeavesFile, SyncsFile};
 
-use crate::trail::{HoldsBytes, Trail};
+use crate::trail::{HoldsBytes, Trail, trail_over, trail_synced, trail_wrote};
 use crate::transfers::{read_whole, write_whole};
 use crate::{DevError, Device, PositionedFile, SECTOR};
 use std::io;
@@ -18,7 +18,7 @@ pub struct FileDevice<F: PositionedFile> {
     faults: u64,
     trail: Trail,
     ghost small: { SECTOR * sectors < 2 ^ 64 },
-    ghost dirty_covered: { IsHonestFile (F.state file) → CoversDirty trail.dirty (F.state file) },
+    ghost dirty_covered: { IsHonestFile (F.state file) → CoversDirty trail.value.dirty (F.state file) },
     ghost covered: { IsHonestFile (F.state file) → SECTOR * sectors ≤ length (F.state file).bytes },
 }
 
@@ -42,7 +42,7 @@ impl<F: PositionedFile> FileDevice<F> {
         ensures file { IfOk result (λ device. LeavesFile (F.state file) (file_state device)) }
     {
         let sectors = file.size()? / SECTOR as u64;
-        let trail = Trail::over(&file);
+        let trail = trail_over(&file);
         Ok(FileDevice {
             file,
             sectors,
@@ -116,7 +116,7 @@ impl<F: PositionedFile> Device for FileDevice<F> {
         ensures covered { CoversCall (file_state self.old) (file_state self.new) (file_disk self.old) (file_disk self.new) }
     {
         let offset = SECTOR as u64 * at;
-        let trail = self.trail.wrote(&*self, offset, bytes.len());
+        let trail = trail_wrote(&self.trail, &*self, offset, bytes.len());
         self.trail = trail;
         match write_whole(&mut self.file, offset, bytes) {
             Ok(()) => Ok(()),
@@ -132,7 +132,7 @@ impl<F: PositionedFile> Device for FileDevice<F> {
     {
         match self.file.sync_data() {
             Ok(()) => {
-                let trail = self.trail.synced(&*self);
+                let trail = trail_synced(&self.trail, &*self);
                 self.trail = trail;
                 Ok(())
             }

@@ -25,4 +25,4 @@ pub use file_device::FileDevice;
 pub use last_fault::{FaultKind, FileFault, LastFault};
 pub use mem_device::MemDevice;
 pub use positioned_file::PositionedFile;
-pub use trail::{HoldsBytes, Trail};
+pub use trail::{HoldsBytes, Trail, fresh_trail, trail_over, trail_synced, trail_wrote};

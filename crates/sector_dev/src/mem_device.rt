@@ -4,7 +4,7 @@ ghost use Rattle.std.proofs.Common.{arith};
 ghost use Rattle.byte_lists.specs.Content.{AreBytes};
 ghost use Rattle.byte_lists.specs.declared.format.TheConstants.{SECTOR};
 
-use crate::trail::Trail;
+use crate::trail::{Trail, fresh_trail, trail_synced, trail_wrote};
 use crate::{DevError, Device, SECTOR};
 use std::alloc::{AllocError, Global};
 
@@ -33,7 +33,7 @@ impl MemDevice {
         Ok(MemDevice {
             bytes,
             sectors,
-            trail: Trail::new(),
+            trail: fresh_trail(),
         })
     }
 
@@ -47,9 +47,7 @@ impl MemDevice {
     {
         let start = SECTOR * at as usize;
         let landed = keep.min(bytes.len());
-        self.trail = self
-            .trail
-            .wrote(&self.bytes, SECTOR as u64 * at, bytes.len());
+        self.trail = trail_wrote(&self.trail, &self.bytes, SECTOR as u64 * at, bytes.len());
         let range = &mut self.bytes[start..start + bytes.len()];
         range[..landed].copy_from_slice(&bytes[..landed]);
         range[landed..].fill(fill);
@@ -63,7 +61,7 @@ impl MemDevice {
           history = after_write (SECTOR * at) (part (SECTOR * at) len (reads_of (memory_disk self.old))) (memory_disk self.old).history;
         } }
     {
-        self.trail = self.trail.wrote(&self.bytes, SECTOR as u64 * at, len);
+        self.trail = trail_wrote(&self.trail, &self.bytes, SECTOR as u64 * at, len);
     }
 }
 
@@ -89,13 +87,13 @@ impl Device for MemDevice {
 
     fn write(&mut self, at: u64, bytes: &[u8]) -> Result<(), DevError> {
         let start = SECTOR * at as usize;
-        self.trail = self.trail.wrote(&self.bytes, start as u64, bytes.len());
+        self.trail = trail_wrote(&self.trail, &self.bytes, start as u64, bytes.len());
         self.bytes[start..start + bytes.len()].copy_from_slice(bytes);
         Ok(())
     }
 
     fn sync(&mut self) -> Result<(), DevError> {
-        self.trail = self.trail.synced(&self.bytes);
+        self.trail = trail_synced(&self.trail, &self.bytes);
         Ok(())
     }
 

@@ -5,6 +5,7 @@ ghost use Rattle.std.specs.Borrow.{ftrue};
 ghost use Rattle.sector_dev.specs.Disk.{ByteRange, Moment};
 
 use crate::PositionedFile;
+use ghost_note::{Note, NoteSource};
 use std::marker::Model;
 
 /// A type whose values have bytes that contracts can name.
@@ -18,23 +19,26 @@ impl HoldsBytes for Vec<u8> {
     ghost bytes = { λ v. v.items };
 }
 
-/// The source of a trail.
-trait TrailSource {
-    ghost use Rattle.std.specs.Prelude.{List};
-    ghost use Rattle.sector_dev.specs.Disk.{ByteRange, Moment};
-
-    ghost past: { Self → List Moment };
-
-    ghost dirty: { Self → List ByteRange };
+/// The moments of a device before now, and what is dirty now. No value of this type is made.
+pub struct History {
+    pub ghost past: { List Moment },
+    pub ghost dirty: { List ByteRange },
 }
+
+impl Model for History {
+    ghost also_owns = { λ _. ftrue };
+}
+
+/// The history of a device that contracts name and that no code keeps.
+pub type Trail = Note<History>;
+
+const _: () = prove!(size_of::<Trail>() == 0);
 
 // No past moments, and nothing is dirty.
 struct FreshStart;
 
-impl TrailSource for FreshStart {
-    ghost past = { λ _. [] };
-
-    ghost dirty = { λ _. [] };
+impl NoteSource<History> for FreshStart {
+    ghost value = { λ _. record { past = []; dirty = [] } };
 }
 
 // No past moments, and the dirty ranges of a file.
@@ -43,10 +47,8 @@ struct FileStart<'a, F> {
     file: &'a F,
 }
 
-impl<'a, F: PositionedFile> TrailSource for FileStart<'a, F> {
-    ghost past = { λ _. [] };
-
-    ghost dirty = { λ start. (F.state start.file.now).dirty };
+impl<'a, F: PositionedFile> NoteSource<History> for FileStart<'a, F> {
+    ghost value = { λ start. record { past = []; dirty = (F.state start.file.now).dirty } };
 }
 
 // A write of a range, where these were the bytes before.
@@ -58,10 +60,8 @@ struct WriteStep<'a, B> {
     len: usize,
 }
 
-impl<'a, B: HoldsBytes> TrailSource for WriteStep<'a, B> {
-    ghost past = { λ step. step.trail.now.past ++ record { reads = B.bytes step.before.now; dirty = step.trail.now.dirty } ∷ [] };
-
-    ghost dirty = { λ step. record { start = step.start; len = step.len } ∷ step.trail.now.dirty };
+impl<'a, B: HoldsBytes> NoteSource<History> for WriteStep<'a, B> {
+    ghost value = { λ step. record { past = step.trail.now.value.past ++ record { reads = B.bytes step.before.now; dirty = step.trail.now.value.dirty } ∷ []; dirty = record { start = step.start; len = step.len } ∷ step.trail.now.value.dirty } };
 }
 
 // A sync, where these are the bytes.
@@ -71,68 +71,41 @@ struct SyncStep<'a, B> {
     held: &'a B,
 }
 
-impl<'a, B: HoldsBytes> TrailSource for SyncStep<'a, B> {
-    ghost past = { λ step. step.trail.now.past ++ record { reads = B.bytes step.held.now; dirty = step.trail.now.dirty } ∷ [] };
-
-    ghost dirty = { λ _. [] };
+impl<'a, B: HoldsBytes> NoteSource<History> for SyncStep<'a, B> {
+    ghost value = { λ step. record { past = step.trail.now.value.past ++ record { reads = B.bytes step.held.now; dirty = step.trail.now.value.dirty } ∷ []; dirty = [] } };
 }
 
-/// The moments before now, and what is dirty now.
-#[derive(Drop)]
-pub struct Trail {
-    pub ghost past: { List Moment },
-    pub ghost dirty: { List ByteRange },
+/// A trail without past moments, where nothing is dirty.
+pub fn fresh_trail() -> Trail
+    ensures { (result.value.past ≡ []) × (result.value.dirty ≡ []) }
+{
+    Note::of(&FreshStart)
 }
 
-impl Model for Trail {
-    ghost also_owns = { λ _. ftrue };
+/// A trail without past moments, with the dirty ranges of a file.
+pub fn trail_over<F: PositionedFile>(file: &F) -> Trail
+    ensures { (result.value.past ≡ []) × (result.value.dirty ≡ (F.state file.now).dirty) }
+{
+    Note::of(&FileStart { file })
 }
 
-// A trail owns nothing.
-unsafe impl Send for Trail {}
+/// The trail after a write of a range, where these were the bytes before.
+pub fn trail_wrote<B: HoldsBytes>(trail: &Trail, before: &B, start: u64, len: usize) -> Trail
+    ensures { (result.value.past ≡ trail.now.value.past ++ record { reads = B.bytes before.now; dirty = trail.now.value.dirty } ∷ [])
+        × (result.value.dirty ≡ record { start = start; len = len } ∷ trail.now.value.dirty) }
+{
+    Note::of(&WriteStep {
+        trail,
+        before,
+        start,
+        len,
+    })
+}
 
-const _: () = prove!(size_of::<Trail>() == 0);
-
-impl Trail {
-    // The one function that is proved by hand: the trail has the fields of its source.
-    fn of<T: TrailSource>(_source: &T) -> Trail
-        ensures { (result.past ≡ T.past _source.now) × (result.dirty ≡ T.dirty _source.now) }
-    {
-        Trail {}
-    }
-
-    /// A trail without past moments, where nothing is dirty.
-    pub fn new() -> Trail
-        ensures { (result.past ≡ []) × (result.dirty ≡ []) }
-    {
-        Trail::of(&FreshStart)
-    }
-
-    /// A trail without past moments, with the dirty ranges of a file.
-    pub fn over<F: PositionedFile>(file: &F) -> Trail
-        ensures { (result.past ≡ []) × (result.dirty ≡ (F.state file.now).dirty) }
-    {
-        Trail::of(&FileStart { file })
-    }
-
-    /// The trail after a write of a range, where these were the bytes before.
-    pub fn wrote<B: HoldsBytes>(&self, before: &B, start: u64, len: usize) -> Trail
-        ensures { (result.past ≡ self.now.past ++ record { reads = B.bytes before.now; dirty = self.now.dirty } ∷ [])
-            × (result.dirty ≡ record { start = start; len = len } ∷ self.now.dirty) }
-    {
-        Trail::of(&WriteStep {
-            trail: self,
-            before,
-            start,
-            len,
-        })
-    }
-
-    /// The trail after a sync, where these are the bytes.
-    pub fn synced<B: HoldsBytes>(&self, held: &B) -> Trail
-        ensures { (result.past ≡ self.now.past ++ record { reads = B.bytes held.now; dirty = self.now.dirty } ∷ [])
-            × (result.dirty ≡ []) }
-    {
-        Trail::of(&SyncStep { trail: self, held })
-    }
+/// The trail after a sync, where these are the bytes.
+pub fn trail_synced<B: HoldsBytes>(trail: &Trail, held: &B) -> Trail
+    ensures { (result.value.past ≡ trail.now.value.past ++ record { reads = B.bytes held.now; dirty = trail.now.value.dirty } ∷ [])
+        × (result.value.dirty ≡ []) }
+{
+    Note::of(&SyncStep { trail, held })
 }

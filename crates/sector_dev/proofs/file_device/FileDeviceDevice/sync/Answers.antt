@@ -17,9 +17,9 @@ returns-in-Ok-clause-covered g c honest =
     let self = c.args.self.now in
     let sync = c.in-Ok.ensures.sync in
     let new = g.F.PositionedFile.state c.sync_data.new.self in
-    let now : Moment = record { reads = front self.sectors new.bytes; dirty = c.synced-trail.result.dirty } in
-    sync_covered self.sectors (file_state self) new self.trail.past (now ∷ []) (c.synced-trail.result.past ++ now ∷ []) self.trail.dirty new.bytes (self.dirty_covered honest) (sync.bytes honest)
-    (ap (λ (list : List Moment). list ++ now ∷ []) c.synced-trail.ensures.0 ∙ append_assoc self.trail.past _ (now ∷ [])) (sync.moments honest)
+    let now : Moment = record { reads = front self.sectors new.bytes; dirty = c.trail_synced-trail.result.value.dirty } in
+    sync_covered self.sectors (file_state self) new self.trail.value.past (now ∷ []) (c.trail_synced-trail.result.value.past ++ now ∷ []) self.trail.value.dirty new.bytes (self.dirty_covered honest) (sync.bytes honest)
+    (ap (λ (list : List Moment). list ++ now ∷ []) c.trail_synced-trail.ensures.0 ∙ append_assoc self.trail.value.past _ (now ∷ [])) (sync.moments honest)
 
 pub invariant_of-self-in-Ok : goal.invariant_of-self-in-Ok
 invariant_of-self-in-Ok g c = search rules
@@ -34,4 +34,4 @@ returns-in-Err-clause-covered g c =
     let new = g.F.PositionedFile.state c.sync_data.new.self in
     subst {A = FileState} (λ (file : FileState). CoversCall (file_state self) file (file_disk self) (file_disk c.count.new.self)) (sym c.count.ensures.file)
     (subst {A = Disk} (λ (disk : Disk). CoversCall (file_state self) new (file_disk self) disk) (sym c.count.ensures.disk)
-    (λ honest. sync_covered self.sectors (file_state self) new self.trail.past [] _ self.trail.dirty new.bytes (self.dirty_covered honest) (sync.bytes honest) refl (sync.moments honest)))
+    (λ honest. sync_covered self.sectors (file_state self) new self.trail.value.past [] _ self.trail.value.dirty new.bytes (self.dirty_covered honest) (sync.bytes honest) refl (sync.moments honest)))

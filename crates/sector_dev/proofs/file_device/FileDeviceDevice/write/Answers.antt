@@ -20,7 +20,7 @@ invariant_of-self g c =
       small = self.small;
       dirty_covered = λ honest.
           let honest_then = was_honest honest in
-          covers_written _ _ _ _ old new (self.dirty_covered honest_then) (wrote.dirty honest_then) c.wrote-trail.ensures.1;
+          covers_written _ _ _ _ old new (self.dirty_covered honest_then) (wrote.dirty honest_then) c.trail_wrote-trail.ensures.1;
       covered = λ honest.
           let honest_then = was_honest honest in
           covered_after (512 * self.sectors) (512 * c.args.at) c.args.bytes.now c.write_whole.result old.bytes new.bytes c.requires.inside (self.covered honest_then)
@@ -36,7 +36,7 @@ returns-in-Ok-clause-write g c =
       faults = refl;
       lands = λ honest.
           file_lands self.sectors c.args.at c.args.bytes.now (g.F.PositionedFile.state self.file) (g.F.PositionedFile.state c.write_whole.new.file) _ _ _ _ _ _ c.requires.inside (self.covered honest)
-          (wrote.lands honest (omega (arith, self.covered honest, c.requires.inside))) (λ landed done. done) c.wrote-trail.ensures;
+          (wrote.lands honest (omega (arith, self.covered honest, c.requires.inside))) (λ landed done. done) c.trail_wrote-trail.ensures;
     }
 
 -- a write that ended early is counted
@@ -49,7 +49,7 @@ returns-in-Err-clause-write g c =
       faults = refl;
       lands = λ honest.
           file_lands self.sectors c.args.at c.args.bytes.now (g.F.PositionedFile.state self.file) (g.F.PositionedFile.state c.write_whole.new.file) _ _ _ _ _ _ c.requires.inside (self.covered honest)
-          (wrote.lands honest (omega (arith, self.covered honest, c.requires.inside))) (λ landed none. tt) c.wrote-trail.ensures;
+          (wrote.lands honest (omega (arith, self.covered honest, c.requires.inside))) (λ landed none. tt) c.trail_wrote-trail.ensures;
     })
 
 -- the moments of the file are covered
@@ -59,7 +59,7 @@ returns-in-Ok-clause-covered g c honest =
     let wrote = c.in-Ok.ensures.writes in
     let old = g.F.PositionedFile.state self.file in
     let within : 512 * c.args.at + length c.args.bytes.now ≤ length old.bytes = omega (arith, self.covered honest, c.requires.inside) in
-    write_covered self.sectors c.args.at c.args.bytes.now old _ _ _ _ _ _ c.requires.inside (self.covered honest) (self.dirty_covered honest) (wrote.lands honest within) (wrote.moments honest within) c.wrote-trail.ensures
+    write_covered self.sectors c.args.at c.args.bytes.now old _ _ _ _ _ _ c.requires.inside (self.covered honest) (self.dirty_covered honest) (wrote.lands honest within) (wrote.moments honest within) c.trail_wrote-trail.ensures
 
 pub returns-in-Err-clause-covered : goal.returns-in-Err-clause-covered
 returns-in-Err-clause-covered g c =
@@ -71,4 +71,4 @@ returns-in-Err-clause-covered g c =
     (subst {A = Disk} (λ (disk : Disk). CoversCall (file_state self) new (file_disk self) disk) (sym c.count.ensures.disk)
     (λ honest.
     let within : 512 * c.args.at + length c.args.bytes.now ≤ length old.bytes = omega (arith, self.covered honest, c.requires.inside) in
-    write_covered self.sectors c.args.at c.args.bytes.now old _ _ _ _ _ _ c.requires.inside (self.covered honest) (self.dirty_covered honest) (wrote.lands honest within) (wrote.moments honest within) c.wrote-trail.ensures))
+    write_covered self.sectors c.args.at c.args.bytes.now old _ _ _ _ _ _ c.requires.inside (self.covered honest) (self.dirty_covered honest) (wrote.lands honest within) (wrote.moments honest within) c.trail_wrote-trail.ensures))

@@ -11,9 +11,9 @@ returns c =
     let inside : 512 * c.args.at + c.args.len ≤ length bytes = omega (arith, c.args.self.now.size) in
     let same : overwrite (512 * c.args.at) (part (512 * c.args.at) c.args.len bytes) bytes ≡ bytes = overwrite_same (512 * c.args.at) c.args.len bytes inside in
     let size : length (part (512 * c.args.at) c.args.len bytes) ≡ c.args.len = length-part (512 * c.args.at) c.args.len bytes inside in
-    let told = c.wrote-self.ensures in
+    let told = c.trail_wrote.ensures in
     let span : ℕ → ByteRange = λ n. record { start = 512 * c.args.at; len = n } in
-    let dirty = told.1 ∙ ap (λ (n : ℕ). span n ∷ c.args.self.now.trail.dirty) (sym size) in
+    let dirty = told.1 ∙ ap (λ (n : ℕ). span n ∷ c.args.self.now.trail.value.dirty) (sym size) in
     λ i. record {
       is_honest = true;
       sectors = c.args.self.now.sectors;
