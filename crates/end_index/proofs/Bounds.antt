@@ -1,15 +1,16 @@
--- The index keys between the bounds of a type and an ISD-AS: for `keys_at` and `keys_after`.
-use Rattle.std.proofs.Common.{◌≡◌, ◌≢◌, ◌⊎◌, inl, inr, ℕ, zero, suc, ◌+◌, ◌<◌, Bool, true, false, not, ◌&&◌, ◌==◌, List, [], ◌∷◌, length, refl, sym, ap, ◌∙◌, arith}
+-- The index keys between the bounds of a type and of ISD-AS numbers: for `keys_at`, `keys_after` and
+-- `keys_between`.
+use Rattle.std.proofs.Common.{◌≡◌, ◌≢◌, ◌⊎◌, inl, inr, ℕ, zero, suc, ◌+◌, ◌<◌, ◌≤◌, Bool, true, false, not, ◌&&◌, ◌==◌, nat_lt, nat_le, List, [], ◌∷◌, length, refl, sym, ap, ◌∙◌, arith}
 use Rattle.std.specs.Ordering.{nat_cmp, is_eq, is_lt, is_le, ordering_then, MatchOrdering}
 use Rattle.std.specs.Cmp.{ranks}
 use Rattle.std.specs.Cmp.Lexicographic.{slice_cmp}
 use Rattle.std.specs.declared.cmp.Ordering.{Ordering}
 use Rattle.std.specs.declared.cmp.Ordering.TheVariants.{Less, Equal, Greater}
 use Rattle.std.proofs.lemmas.Bool.{false≢true}
-use Rattle.std.proofs.lemmas.Bool.Decides.{eqb_tells}
-use Rattle.std.proofs.Math.Dec.{eqb}
+use Rattle.std.proofs.lemmas.Bool.Decides.{eqb_tells, leb_tells}
+use Rattle.std.proofs.Math.Dec.{eqb, leb}
 use Rattle.end_index.specs.declared.index_key.IndexKey.{IndexKey}
-use Rattle.end_index.specs.IndexKey.{index_key_cmp, stands_at, is_after_id}
+use Rattle.end_index.specs.IndexKey.{index_key_cmp, stands_at, stands_between, is_after_id}
 
 abbrev pub zeros : ℕ → List ℕ
 zeros zero = []
@@ -102,3 +103,43 @@ between_after kind isd_as id q n long =
     (next_rank (nat_cmp isd_as q.isd_as) (nat_cmp (isd_as + 1) q.isd_as) isd_as q.isd_as (ranks isd_as q.isd_as) (ranks (isd_as + 1) q.isd_as))
     ∙ ap (λ a. (a && is_eq (nat_cmp isd_as q.isd_as)) && is_after_id id q) (same_number (nat_cmp kind q.kind) kind q.kind (ranks kind q.kind) (eqb_tells q.kind kind))
     ∙ ap (λ b. ((q.kind == kind) && b) && is_after_id id q) (same_number (nat_cmp isd_as q.isd_as) isd_as q.isd_as (ranks isd_as q.isd_as) (eqb_tells q.isd_as isd_as))
+
+-- ---- the index keys of a range of numbers
+
+-- the cases by the orders of the type, of the range's ends and of the least id
+table_range : (o p r later : Ordering) → is_le later ≡ true → (is_le (ordering_then o (ordering_then p later)) && not (is_le (ordering_then o (ordering_then r later)))) ≡ (is_eq o && (is_le p && not (is_le r)))
+table_range Less p r later e = refl
+table_range Greater p r later e = refl
+table_range Equal Less Less later e = refl
+table_range Equal Less Equal later e = ap not e
+table_range Equal Less Greater later e = refl
+table_range Equal Equal Less later e = ap (λ b. b && false) e
+table_range Equal Equal Equal later e = ap (λ b. b && not b) e
+table_range Equal Equal Greater later e = ap (λ b. b && true) e
+table_range Equal Greater r later e = refl
+
+at_least : (o : Ordering) (a b : ℕ) → MatchOrdering o (a < b) (a ≡ b) (b < a) → ((leb a b ≡ true) × (a ≤ b)) ⊎ ((leb a b ≡ false) × (b < a)) → is_le o ≡ nat_le a b
+at_least Less a b says (inl so) = sym so.0
+at_least Less a b says (inr other) = absurd (omega (arith, says, other.1))
+at_least Equal a b says (inl so) = sym so.0
+at_least Equal a b says (inr other) = absurd (omega (arith, says, other.1))
+at_least Greater a b says (inl so) = absurd (omega (arith, says, so.1))
+at_least Greater a b says (inr other) = sym other.0
+
+below : (o : Ordering) (a b : ℕ) → MatchOrdering o (a < b) (a ≡ b) (b < a) → ((leb (suc b) a ≡ true) × (suc b ≤ a)) ⊎ ((leb (suc b) a ≡ false) × (a < suc b)) → not (is_le o) ≡ nat_lt b a
+below Less a b says (inl so) = absurd (omega (arith, says, so.1))
+below Less a b says (inr other) = sym other.0
+below Equal a b says (inl so) = absurd (omega (arith, says, so.1))
+below Equal a b says (inr other) = sym other.0
+below Greater a b says (inl so) = sym so.0
+below Greater a b says (inr other) = absurd (omega (arith, says, other.1))
+
+-- the index keys between the least index keys of two ISD-AS
+pub between_numbers : (kind low high : ℕ) (q : IndexKey) (n : ℕ) → length q.id ≡ n
+    → (is_le (ordering_then (nat_cmp kind q.kind) (ordering_then (nat_cmp low q.isd_as) (slice_cmp nat_cmp (zeros n) q.id))) && not (is_le (ordering_then (nat_cmp kind q.kind) (ordering_then (nat_cmp high q.isd_as) (slice_cmp nat_cmp (zeros n) q.id)))))
+    ≡ stands_between kind low high q
+between_numbers kind low high q n long =
+    table_range (nat_cmp kind q.kind) (nat_cmp low q.isd_as) (nat_cmp high q.isd_as) (slice_cmp nat_cmp (zeros n) q.id) (zeros_first n q.id long)
+    ∙ ap (λ a. a && (is_le (nat_cmp low q.isd_as) && not (is_le (nat_cmp high q.isd_as)))) (same_number (nat_cmp kind q.kind) kind q.kind (ranks kind q.kind) (eqb_tells q.kind kind))
+    ∙ ap (λ b. (q.kind == kind) && (b && not (is_le (nat_cmp high q.isd_as)))) (at_least (nat_cmp low q.isd_as) low q.isd_as (ranks low q.isd_as) (leb_tells low q.isd_as))
+    ∙ ap (λ b. (q.kind == kind) && (nat_le low q.isd_as && b)) (below (nat_cmp high q.isd_as) high q.isd_as (ranks high q.isd_as) (leb_tells (suc q.isd_as) high))

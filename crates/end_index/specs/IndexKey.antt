@@ -1,5 +1,5 @@
 -- Index keys in an index, and their order.
-use Rattle.std.specs.Prelude.{ℕ, List, Bool, ◌==◌, ◌&&◌}
+use Rattle.std.specs.Prelude.{ℕ, List, Bool, nat_lt, nat_le, ◌==◌, ◌&&◌}
 use Rattle.std.specs.List.{list_any}
 use Rattle.std.specs.Ordering.{nat_cmp, is_eq, is_lt, ordering_then}
 use Rattle.std.specs.Cmp.Lexicographic.{slice_cmp}
@@ -21,6 +21,10 @@ has index_keys q = list_any (is_same q) index_keys
 -- An index key is of this type and of this ISD-AS.
 abbrev pub stands_at : ℕ → ℕ → IndexKey → Bool
 stands_at kind isd_as index_key = index_key.kind == kind && index_key.isd_as == isd_as
+
+-- An index key is of this type, and its ISD-AS is at least `low` and below `high`.
+abbrev pub stands_between : ℕ → ℕ → ℕ → IndexKey → Bool
+stands_between kind low high index_key = index_key.kind == kind && (nat_le low index_key.isd_as && nat_lt index_key.isd_as high)
 
 -- An index key's id is above this one.
 abbrev pub is_after_id : List ℕ → IndexKey → Bool

@@ -1,9 +1,9 @@
 //! The index: a set of index keys, in their order.
 
-ghost use Rattle.std.specs.Prelude.{◌≡◌, ◌+◌, ◌^◌, ◌<◌, [], ◌&&◌, ◌||◌, not, IfOk, OnOk, OnErr, filter};
+ghost use Rattle.std.specs.Prelude.{◌≡◌, ◌+◌, ◌^◌, ◌<◌, ◌≤◌, [], ◌&&◌, ◌||◌, not, IfOk, OnOk, OnErr, filter};
 ghost use Rattle.std.specs.List.Sorted.{IsStrictlySortedBy};
 ghost use Rattle.end_index.specs.declared.index_key.IndexKey.{IndexKey};
-ghost use Rattle.end_index.specs.IndexKey.{index_key_cmp, has, is_same, stands_at, is_after_id};
+ghost use Rattle.end_index.specs.IndexKey.{index_key_cmp, has, is_same, stands_at, stands_between, is_after_id};
 
 use crate::index_key::IndexKey;
 use std::alloc::{AllocError, Global};
@@ -113,5 +113,25 @@ impl EndIndex {
         };
         self.index_keys
             .range((Bound::Excluded(low), Bound::Excluded(high)))
+    }
+
+    /// The index keys of a type whose ISD-AS is at least `low` and below `high`, by rising ISD-AS
+    /// and then by rising id. No others are visited.
+    pub fn keys_between(&self, kind: u8, low: u64, high: u64) -> IndexKeys<'_>
+        requires { low ≤ high }
+        ensures same { result ≡ filter (stands_between kind low high) self.now }
+        ensures rising { IsStrictlySortedBy index_key_cmp self.now }
+    {
+        let first = IndexKey {
+            kind,
+            isd_as: low,
+            id: [0; 32],
+        };
+        let behind = IndexKey {
+            kind,
+            isd_as: high,
+            id: [0; 32],
+        };
+        self.index_keys.range(first..behind)
     }
 }

@@ -1,8 +1,8 @@
 //! An ordered index of rows by the ISD-AS at one of their ends.
 //!
 //! To the layer above: a set of index keys, each a type, an ISD-AS and an id. `keys_at` returns
-//! those of one type and one ISD-AS by rising id, and `keys_after` those of them whose ids are above
-//! a given one. Neither visits others.
+//! those of one type and one ISD-AS by rising id, `keys_after` those of them whose ids are above a
+//! given one, and `keys_between` those of one type and a range of ISD-AS. None visits others.
 #![tactic(auto)]
 
 mod index;

@@ -1,14 +1,14 @@
 -- Registrations commute, and can be repeated.
-use Rattle.std.proofs.Common.{◌≡◌, ℕ, true, List, refl, sym, ◌∙◌}
+use Rattle.std.proofs.Common.{◌≡◌, ℕ, List, sym, ◌∙◌}
 use Rattle.std.specs.List.{Contains, filter}
 use Rattle.std.proofs.lemmas.List.Elements.{Contains-append_right}
 use Rattle.std.specs.Option.{option_to_list}
 use Rattle.path_db.specs.declared.command.Command.TheVariants.{Register}
-use Rattle.path_db.specs.Database.{RowView, key_of, is_under, row_under}
+use Rattle.row_map.specs.Database.{RowView, is_under, row_under}
 use Rattle.path_db.specs.Command.{database_after, database_after_all}
 use Rattle.path_db.specs.CommandLaws.{candidates, KeysAreSeparate, CommandsKeepDatabase, DatabaseIsCanonical, RegisterLeavesNewest}
 use Rattle.path_db.specs.Agreement.{register_commands, all_rows_of, HaveDistinctTimestamps, RegistrationsCommute, RegistrationsRepeat}
-use Rattle.path_db.proofs.Keys.{its_key}
+use Rattle.row_map.proofs.Exports.{its_key}
 use Rattle.path_db.proofs.Members.{passed, passes_in}
 use Rattle.path_db.proofs.AgreedNewest.{agree, stays}
 use Rattle.path_db.proofs.Folds.{database_left, newest_left}

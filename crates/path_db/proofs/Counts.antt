@@ -1,20 +1,20 @@
 -- The counts of an outcome: for `outcome_laws`.
-use Rattle.std.proofs.Common.{◌≡◌, ℕ, ◌+◌, Bool, true, false, not, cond, List, [], ◌∷◌, length, if◌then◌else◌, Option, Some, refl, ap, arith}
+use Rattle.std.proofs.Common.{◌≡◌, ℕ, ◌+◌, ◌<◌, Bool, true, false, not, cond, List, [], ◌∷◌, length, if◌then◌else◌, Option, Some, refl, ap, arith}
 use Rattle.std.specs.List.{count_by}
 use Rattle.std.specs.Option.{is_some}
 use Rattle.std.specs.declared.cmp.Ordering.{Ordering}
 use Rattle.std.specs.declared.cmp.Ordering.TheVariants.{Less, Equal, Greater}
 use Rattle.std.proofs.lemmas.List.Sums.{sum_by-cons}
-use Rattle.path_db.specs.declared.change.Change.{Change}
-use Rattle.path_db.specs.declared.change.Change.TheVariants.{Inserted, Updated, Kept}
+use Rattle.row_map.specs.declared.change.Change.{Change}
+use Rattle.row_map.specs.declared.change.Change.TheVariants.{Inserted, Updated, Kept}
 use Rattle.path_db.specs.declared.command.Command.TheVariants.{Register, Purge, Remove}
-use Rattle.path_db.specs.Database.{RowView, key, key_order, IsRising, is_under, row_under}
-use Rattle.path_db.specs.Put.{is_newer, put_before, database_after_put, database_after_puts, change_before, change_of, changes_of}
+use Rattle.row_map.specs.Database.{RowView, key, key_order, IsRising, is_under, row_under}
+use Rattle.row_map.specs.Put.{is_newer, put_before, database_after_put, database_after_puts, change_before, change_of, changes_of}
 use Rattle.path_db.specs.Outcome.{capped, is_inserted, is_updated, is_kept}
-use Rattle.path_db.specs.Command.{is_valid_beyond, database_after, database_after_removal, outcome_of}
+use Rattle.path_db.specs.Command.{database_after, outcome_of}
+use Rattle.row_map.specs.Drops.{is_valid_beyond, database_after_removal}
 use Rattle.path_db.specs.OutcomeLaws.{EachPutIsCounted, RowsAreCounted}
-use Rattle.path_db.proofs.Keys.{others_behind}
-use Rattle.path_db.proofs.Found.{none_removed}
+use Rattle.row_map.proofs.Exports.{others_behind, none_removed}
 use Rattle.path_db.proofs.Drops.{left_and_dropped}
 
 abbrev pub one_if : Bool → ℕ
@@ -72,6 +72,10 @@ pub removed_counted : (k : List ℕ) (rows : List RowView) → IsRising rows →
 removed_counted k [] rising = refl
 removed_counted k (row ∷ rows) rising =
     removed_first (is_under k row) row rows (database_after_removal rows k) (row_under k rows) (λ e. none_removed k rows (others_behind k row rows e rising.0)) (removed_counted k rows rising.1)
+
+-- fewer rows are left after a row is removed
+pub fewer_after : (k : List ℕ) (row : RowView) (rows : List RowView) → IsRising rows → row_under k rows ≡ Some row → length (database_after_removal rows k) < length rows
+fewer_after k row rows rising found = omega (arith, removed_counted k rows rising, ap (λ f. one_if (is_some f)) found)
 
 capped_one : (b : Bool) → capped (one_if b) ≡ one_if b
 capped_one true = refl

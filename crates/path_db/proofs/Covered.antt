@@ -4,16 +4,13 @@ use Rattle.std.specs.List.{AllByRecursion}
 use Rattle.std.proofs.lemmas.Bool.{false≢true}
 use Rattle.end_index.specs.declared.index_key.IndexKey.{IndexKey}
 use Rattle.end_index.specs.IndexKey.{has}
-use Rattle.path_db.specs.Database.{RowView, key_of, IsRising, AreWhole, IsDatabase, is_under, row_under}
-use Rattle.path_db.specs.Put.{is_newer, database_after_puts}
-use Rattle.path_db.specs.CommandLaws.{winner, left_by_put, left_by_puts}
-use Rattle.path_db.specs.RowMap.{indexed_key}
-use Rattle.path_db.specs.EndKeys.{is_of, is_index_key, ends_at, stands, IsSeenTo, AreSeenTo, IsEndIndex, IsCovered, IsIndexGrown, HasAll}
-use Rattle.path_db.proofs.Keys.{its_key, puts_leave}
-use Rattle.path_db.proofs.PutRow.{found_is_under}
-use Rattle.path_db.proofs.Rising.{database_puts}
+use Rattle.row_map.specs.Database.{RowView, key_of, IsRising, AreWhole, IsDatabase, is_under, row_under}
+use Rattle.row_map.specs.Put.{is_newer, database_after_puts}
+use Rattle.row_map.specs.Left.{winner, left_by_put, left_by_puts}
+use Rattle.row_map.specs.RowMap.{indexed_key}
+use Rattle.row_map.specs.EndKeys.{is_of, is_index_key, ends_at, stands, IsSeenTo, AreSeenTo, IsEndIndex, IsCovered, IsIndexGrown, HasAll}
+use Rattle.row_map.proofs.Exports.{its_key, puts_leave, found_is_under, database_puts, EndOf, both_from, second_from}
 use Rattle.path_db.proofs.Restored.{stood_under}
-use Rattle.path_db.proofs.IndexKeys.{EndOf, both_from, second_from}
 
 -- the index keys of each new row, and of the row that was under its key, are touched or the same
 abbrev AreSeenIn : EndOf → List RowView → List IndexKey → List RowView → Type 0

@@ -2,9 +2,9 @@
 use Rattle.std.proofs.Common.{◌≡◌, ◌≤◌, ℕ, ◌+◌, ◌-◌, Bool, true, false, not, cond, List, [], ◌∷◌, length, refl, ap, ◌∙◌, arith}
 use Rattle.std.specs.List.{filter, count_by}
 use Rattle.std.proofs.lemmas.List.Sums.{sum_by-cons}
-use Rattle.path_db.specs.declared.row.Row.{Row}
-use Rattle.path_db.specs.Database.{RowView, row_len, rows_len}
-use Rattle.path_db.specs.Row.{row_view, row_views}
+use Rattle.row_map.specs.declared.row.Row.{Row}
+use Rattle.row_map.specs.Database.{RowView, row_len, rows_len}
+use Rattle.row_map.specs.Row.{row_view, row_views}
 
 views_tested : (row : Row) (rows : List Row) (b : Bool) → row_views (cond b (row ∷ rows) rows) ≡ cond b (row_view row ∷ row_views rows) (row_views rows)
 views_tested row rows true = refl

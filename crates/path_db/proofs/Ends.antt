@@ -1,14 +1,14 @@
--- The first and the last entry of a segment, and the last row: for `Wanted::is_shown` and
--- `is_above_last`.
-use Rattle.std.proofs.Common.{◌≡◌, ℕ, ◌-◌, List, [], ◌∷◌, length, map, Option, Some, None, Bor, refl, sym, ap, ◌∙◌, arith}
+-- The first and the last entry of a segment: for `Wanted::is_shown`.
+use Rattle.std.proofs.Common.{◌≡◌, ℕ, ◌-◌, List, [], ◌∷◌, length, Option, Some, None, Bor, refl, ap, ◌∙◌}
 use Rattle.std.specs.List.{slice_get}
-use Rattle.std.specs.Option.{option_map, option_copied, option_or}
-use Rattle.std.proofs.lemmas.Option.{slice_get-get_or}
+use Rattle.std.specs.Option.{option_map, option_copied}
 use Rattle.seg_core.specs.declared.entry.Entry.{Entry}
 use Rattle.seg_core.specs.SegmentView.{EntryView}
 use Rattle.seg_core.specs.EntryView.{entry_view, entry_views}
 use Rattle.seg_slots.specs.Message.{last_of}
-use Rattle.path_db.specs.Answer.{covers_entry, first_entry_of}
+use Rattle.path_db.specs.Answer.{covers_entry}
+use Rattle.row_map.proofs.Exports.{last_seen}
+use Rattle.row_map.specs.Ends.{first_entry_of}
 
 -- the view of the entry that a reference refers to
 abbrev pub seen : Option (Bor Entry) → Option EntryView
@@ -24,29 +24,6 @@ begins_first ia (e ∷ entries) = refl
 
 pub begins_is : (ia : ℕ) (entries : List Entry) (found : Option (Bor Entry)) → option_copied found ≡ slice_get entries 0 → covers_entry ia (seen found) ≡ covers_entry ia (first_entry_of (entry_views entries))
 begins_is ia entries found e = ap (covers_entry ia) (seen_copied found (slice_get entries 0) e) ∙ begins_first ia entries
-
--- the last element of a list is the element before its end
-last_get : {X : Type 0} (x : X) (xs : List X) → last_of (x ∷ xs) ≡ slice_get (x ∷ xs) (length xs)
-last_get x [] = refl
-last_get x (y ∷ xs) = ap (λ o. option_or o (Some x)) (last_get y xs) ∙ some_stays x y xs
-  where
-    some_stays : {X : Type 0} (x y : X) (xs : List X) → option_or (slice_get (y ∷ xs) (length xs)) (Some x) ≡ slice_get (y ∷ xs) (length xs)
-    some_stays x y xs =
-        let there = slice_get-get_or (y ∷ xs) (length xs) y (omega arith) in
-        ap (λ o. option_or o (Some x)) there ∙ sym there
-
-or_map : {X Y : Type 0} (view : X → Y) (o : Option X) (x : X) → option_or (option_map view o) (Some (view x)) ≡ option_map view (option_or o (Some x))
-or_map view None x = refl
-or_map view (Some y) x = refl
-
-last_of-map : {X Y : Type 0} (view : X → Y) (x : X) (xs : List X) → last_of (map view (x ∷ xs)) ≡ option_map view (last_of (x ∷ xs))
-last_of-map view x [] = refl
-last_of-map view x (y ∷ xs) = ap (λ o. option_or o (Some (view x))) (last_of-map view y xs) ∙ or_map view (last_of (y ∷ xs)) x
-
--- the last element of a list of views is the view of the last element
-pub last_seen : {X Y : Type 0} (view : X → Y) (xs : List X) → option_map view (slice_get xs (length xs - 1)) ≡ last_of (map view xs)
-last_seen view [] = refl
-last_seen view (x ∷ xs) = ap (λ n. option_map view (slice_get (x ∷ xs) n)) (omega arith) ∙ sym (last_of-map view x xs ∙ ap (option_map view) (last_get x xs))
 
 pub ends_is : (ia : ℕ) (entries : List Entry) (found : Option (Bor Entry)) → option_copied found ≡ slice_get entries (length entries - 1) → covers_entry ia (seen found) ≡ covers_entry ia (last_of (entry_views entries))
 ends_is ia entries found e = ap (covers_entry ia) (seen_copied found (slice_get entries (length entries - 1)) e ∙ last_seen entry_view entries)

@@ -1,9 +1,10 @@
 -- Several registrations, one after the other, as one registration of all their rows.
 use Rattle.std.proofs.Common.{◌≡◌, ℕ, List, [], ◌∷◌, ◌++◌, Option, refl, sym, ◌∙◌, subst}
 use Rattle.path_db.specs.declared.command.Command.TheVariants.{Register}
-use Rattle.path_db.specs.Database.{RowView, IsRising, IsDatabase, AreWhole, row_under}
+use Rattle.row_map.specs.Database.{RowView, IsRising, IsDatabase, AreWhole, row_under}
 use Rattle.path_db.specs.Command.{database_after, database_after_all}
-use Rattle.path_db.specs.CommandLaws.{left_by_put, left_by_puts, left_under_all, candidates, KeysAreSeparate, CommandsKeepDatabase, RegisterLeavesNewest}
+use Rattle.path_db.specs.CommandLaws.{left_under_all, candidates, KeysAreSeparate, CommandsKeepDatabase, RegisterLeavesNewest}
+use Rattle.row_map.specs.Left.{left_by_put, left_by_puts}
 use Rattle.path_db.specs.Agreement.{register_commands, all_rows_of}
 use Rattle.path_db.proofs.AgreedNewest.{IsNewestOf}
 

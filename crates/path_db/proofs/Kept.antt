@@ -3,10 +3,11 @@ use Rattle.std.proofs.Common.{◌≡◌, zero, suc, Bool, true, false, not, cond
 use Rattle.std.specs.List.{Contains, filter}
 use Rattle.std.proofs.lemmas.Bool.{ltb-true, lt-ltb, false≢true}
 use Rattle.seg_check.specs.Expiry.{expiry_of}
-use Rattle.path_db.specs.Database.{RowView, key, is_under}
-use Rattle.path_db.specs.Command.{is_valid_beyond, database_after}
+use Rattle.row_map.specs.Database.{RowView, key, is_under}
+use Rattle.path_db.specs.Command.{database_after}
+use Rattle.row_map.specs.Drops.{is_valid_beyond}
 use Rattle.path_db.specs.CommandLaws.{PurgeLeavesValid, RemoveLeavesOthers}
-use Rattle.path_db.proofs.Keys.{another_key, under_other}
+use Rattle.row_map.proofs.Exports.{another_key, under_other}
 
 Contains-head : (x : RowView) (xs : List RowView) → Contains (x ∷ xs) x
 Contains-head x xs = (0, omega arith, refl)

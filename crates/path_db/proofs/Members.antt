@@ -1,7 +1,7 @@
 -- Members of lists, and of the rows of a list that pass a test.
 use Rattle.std.proofs.Common.{◌≡◌, zero, suc, Bool, true, false, cond, List, [], ◌∷◌, refl, sym, ap, ◌∙◌, subst, arith}
 use Rattle.std.specs.List.{AllByRecursion, Contains, filter}
-use Rattle.path_db.specs.Database.{RowView}
+use Rattle.row_map.specs.Database.{RowView}
 
 pub contains_head : (x : RowView) (xs : List RowView) → Contains (x ∷ xs) x
 contains_head x xs = (0, omega arith, refl)

@@ -4,10 +4,11 @@ use Rattle.std.specs.List.{AllByRecursion, filter}
 use Rattle.std.specs.Option.{option_to_list}
 use Rattle.std.proofs.lemmas.Bool.{ltb-true, ltb-false}
 use Rattle.path_db.specs.declared.command.Command.TheVariants.{Register}
-use Rattle.path_db.specs.Database.{RowView, is_under, row_under}
-use Rattle.path_db.specs.Put.{is_newer}
-use Rattle.path_db.specs.CommandLaws.{winner, left_by_puts, candidates, IsNewest, RegisterLeavesNewest}
-use Rattle.path_db.proofs.Keys.{command_leaves}
+use Rattle.row_map.specs.Database.{RowView, is_under, row_under}
+use Rattle.row_map.specs.Put.{is_newer}
+use Rattle.path_db.specs.CommandLaws.{candidates, IsNewest, RegisterLeavesNewest}
+use Rattle.row_map.specs.Left.{winner, left_by_puts}
+use Rattle.path_db.proofs.Commands.{command_leaves}
 
 abbrev AreOlder : RowView → List RowView → Type 0
 AreOlder row rows = AllByRecursion (λ other. other.1.timestamp < row.1.timestamp) rows

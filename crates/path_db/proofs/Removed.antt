@@ -6,16 +6,12 @@ use Rattle.std.proofs.lemmas.Bool.{false≢true}
 use Rattle.std.proofs.lemmas.Map.Lookups.{exact_bytes}
 use Rattle.end_index.specs.declared.index_key.IndexKey.{IndexKey}
 use Rattle.end_index.specs.IndexKey.{has, is_same}
-use Rattle.path_db.specs.Database.{RowView, IsRising, is_under, row_under}
-use Rattle.path_db.specs.Command.{database_after_removal}
-use Rattle.path_db.specs.RowMap.{indexed_key}
-use Rattle.path_db.specs.Saved.{is_key}
-use Rattle.path_db.specs.EndKeys.{is_of, is_index_key, ends_at, stands, IsEndIndex}
-use Rattle.path_db.proofs.Keys.{its_key, equal_from}
-use Rattle.path_db.proofs.Rising.{rising_filtered}
-use Rattle.path_db.proofs.Canon.{database_is_canonical}
-use Rattle.path_db.proofs.PutRow.{found_is_under, removal_leaves, is_key_itself}
-use Rattle.path_db.proofs.IndexKeys.{EndOf, same_if, same_from, one_index_key, both_from}
+use Rattle.row_map.specs.Database.{RowView, IsRising, is_under, row_under}
+use Rattle.row_map.specs.Drops.{database_after_removal}
+use Rattle.row_map.specs.RowMap.{indexed_key}
+use Rattle.row_map.specs.Saved.{is_key}
+use Rattle.row_map.specs.EndKeys.{is_of, is_index_key, ends_at, stands, IsEndIndex}
+use Rattle.row_map.proofs.Exports.{its_key, equal_from, rising_filtered, database_is_canonical, found_is_under, removal_leaves, is_key_itself, EndOf, same_if, same_from, one_index_key, both_from}
 
 -- ---- a removal
 

@@ -2,10 +2,10 @@
 use Rattle.std.proofs.Common.{◌≡◌, ℕ, Bool, true, false, ◌||◌, List, [], ◌∷◌, ◌++◌, map, if◌then◌else◌, Option, Some, IsSome, refl, sym, ap, ◌∙◌, subst}
 use Rattle.std.specs.List.{AllByRecursion}
 use Rattle.std.proofs.lemmas.Bool.{false≢true}
-use Rattle.path_db.specs.Database.{RowView, key_of, IsRising, is_under, row_under}
-use Rattle.path_db.specs.CommandLaws.{winner, left_by_put, left_by_puts}
-use Rattle.path_db.specs.Saved.{Stood, is_saved, AreFirstPut, IsLeft}
-use Rattle.path_db.proofs.Keys.{puts_leave}
+use Rattle.row_map.specs.Database.{RowView, key_of, IsRising, is_under, row_under}
+use Rattle.row_map.specs.Left.{winner, left_by_put, left_by_puts}
+use Rattle.row_map.specs.Saved.{Stood, is_saved, AreFirstPut, IsLeft}
+use Rattle.row_map.proofs.Exports.{puts_leave}
 
 -- the row under the key of a row
 abbrev pub stood_under : List RowView → RowView → Stood

@@ -6,7 +6,7 @@ use Rattle.std.specs.List.{filter}
 use Rattle.std.proofs.lemmas.List.{take-map, length-map, map-append}
 use Rattle.std.proofs.Math.Seq.{take-append_seam}
 use Rattle.seg_core.specs.SegmentView.{SegmentView}
-use Rattle.path_db.specs.Database.{RowView}
+use Rattle.row_map.specs.Database.{RowView}
 use Rattle.path_db.specs.Answer.{segments_of}
 use Rattle.path_db.proofs.ShownLeft.{append_nil, take_few, take_some}
 

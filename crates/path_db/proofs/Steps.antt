@@ -2,11 +2,11 @@
 use Rattle.std.proofs.Common.{◌≡◌, ℕ, Bool, true, false, if◌then◌else◌, ◌+◌, List, [], ◌∷◌, ◌++◌, refl, ap, arith}
 use Rattle.std.specs.List.{count_by}
 use Rattle.std.proofs.lemmas.List.Sums.{sum_by-append}
-use Rattle.path_db.specs.declared.change.Change.{Change}
-use Rattle.path_db.specs.declared.change.Change.TheVariants.{Inserted, Updated, Kept}
+use Rattle.row_map.specs.declared.change.Change.{Change}
+use Rattle.row_map.specs.declared.change.Change.TheVariants.{Inserted, Updated, Kept}
 use Rattle.path_db.specs.declared.outcome.Outcome.{Outcome}
-use Rattle.path_db.specs.Database.{RowView}
-use Rattle.path_db.specs.Put.{database_after_put, database_after_puts, change_of, changes_of}
+use Rattle.row_map.specs.Database.{RowView}
+use Rattle.row_map.specs.Put.{database_after_put, database_after_puts, change_of, changes_of}
 use Rattle.path_db.specs.Outcome.{outcome_of_puts, outcome_after, is_inserted, is_updated, is_kept, capped}
 
 pub rows_after_more : (rows new : List RowView) (row : RowView) → database_after_puts rows (new ++ row ∷ []) ≡ database_after_put (database_after_puts rows new) row

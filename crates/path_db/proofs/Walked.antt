@@ -1,6 +1,6 @@
--- The rows at the index keys of one type and one ISD-AS: for `matching`.
-use Rattle.std.proofs.Common.{◌≡◌, ◌/◌, ◌%◌, ◌^◌, take, arith, inl, inr, ℕ, Bool, true, false, cond, ◌&&◌, ◌||◌, ◌==◌, List, [], ◌∷◌, ◌++◌, if◌then◌else◌, Option, Some, None, refl, sym, ap, ◌∙◌, subst}
-use Rattle.std.specs.List.{AllByRecursion, list_any, filter}
+-- The rows at the index keys of one type and one ISD-AS: for `shown_along`.
+use Rattle.std.proofs.Common.{◌≡◌, ◌/◌, ◌%◌, ◌^◌, arith, inl, inr, ℕ, Bool, true, false, cond, ◌&&◌, ◌||◌, ◌==◌, List, [], ◌∷◌, ◌++◌, if◌then◌else◌, Option, Some, None, refl, sym, ap, ◌∙◌, subst}
+use Rattle.std.specs.List.{AllByRecursion, filter}
 use Rattle.std.specs.List.Sorted.{IsStrictlySortedBy}
 use Rattle.std.specs.Ordering.{nat_cmp, is_eq, ordering_then}
 use Rattle.std.specs.Cmp.Lexicographic.{slice_cmp}
@@ -17,27 +17,20 @@ use Rattle.seg_check.proofs.Exports.{digest-length}
 use Rattle.std.proofs.lemmas.Map.Lookups.{exact_bytes}
 use Rattle.isd_as.specs.IsdAs.{part_covers, covers_number}
 use Rattle.seg_core.specs.declared.seg_type.SegType.{SegType}
+use Rattle.std.specs.Option.{option_map}
 use Rattle.seg_core.specs.SegmentView.{EntryView}
-use Rattle.seg_slots.specs.Message.{last_of}
 use Rattle.seg_core.specs.Registration.{type_number}
 use Rattle.seg_core.specs.Digest.{segment_digest}
 use Rattle.end_index.specs.declared.index_key.IndexKey.{IndexKey}
 use Rattle.end_index.specs.IndexKey.{index_key_cmp, is_same, has, stands_at}
-use Rattle.path_db.specs.Database.{RowView, key_of, IsRising, is_under, row_under}
-use Rattle.path_db.specs.CommandLaws.{kept_if}
-use Rattle.path_db.specs.RowMap.{indexed_key}
-use Rattle.path_db.specs.Saved.{is_key}
-use Rattle.path_db.specs.EndKeys.{entry_at_end, is_of, ends_at, IsEndIndex}
-use Rattle.path_db.specs.declared.end.End.TheVariants.{First, Last}
-use Rattle.path_db.specs.Answer.{covers_entry, first_entry_of, is_of_type, matches, is_shown, answer_of}
-use Rattle.path_db.specs.Command.{is_valid_beyond}
-use Rattle.path_db.specs.Walk.{IsExact, rows_at}
-use Rattle.path_db.proofs.Order.{AllAbove}
-use Rattle.path_db.proofs.Rising.{rising_filtered}
-use Rattle.path_db.proofs.Keys.{its_key, equal_from, test_leaves}
-use Rattle.path_db.proofs.Canon.{database_is_canonical}
-use Rattle.path_db.proofs.PutRow.{found_is_under, is_key_itself}
-use Rattle.path_db.proofs.IndexKeys.{EndOf, AreSame, same_from, both_from, first_from, second_from, either_from, or_first, or_second, number_itself}
+use Rattle.row_map.specs.Database.{RowView, key_of, IsRising, is_under, row_under}
+use Rattle.row_map.specs.Left.{kept_if}
+use Rattle.row_map.specs.RowMap.{indexed_key}
+use Rattle.row_map.specs.Saved.{is_key}
+use Rattle.row_map.specs.EndKeys.{is_of, ends_at, IsEndIndex}
+use Rattle.path_db.specs.Answer.{covers_entry}
+use Rattle.path_db.specs.Walk.{IsExact, rows_at, has_key}
+use Rattle.row_map.proofs.Exports.{AllAbove, rising_filtered, its_key, equal_from, test_leaves, database_is_canonical, found_is_under, is_key_itself, EndOf, AreSame, same_from, both_from, first_from, second_from, either_from, or_first, or_second, number_itself}
 
 pub equal_number : (a b : ℕ) → (a == b) ≡ true → a ≡ b
 equal_number a b e = elim (eqb_tells a b) [
@@ -93,10 +86,6 @@ module _ (rows : List RowView) (kind number : ℕ) where
 
 -- ---- the row under a key
 
--- one of the index keys has this key
-abbrev has_key : List ℕ → List IndexKey → Bool
-has_key k index_keys = list_any (λ q. is_key k (indexed_key q)) index_keys
-
 module _ (rows : List RowView) (k : List ℕ) where
   none_else : (b : Bool) (found : Option RowView) → found ≡ None → None ≡ (if b then found else None)
   none_else true found e = sym e
@@ -133,6 +122,23 @@ all_there index_keys =
     let set : BTreeSet IndexKey = record { keys = index_keys } in
     recursion_from_All (λ x. has index_keys x ≡ true) index_keys (All-set_contains index_key_total set)
 
+-- the index keys that pass a test have the key of an index key that passes it
+module _ (k : List ℕ) (test : IndexKey → Bool) (moves : (q x : IndexKey) → AreSame q x → test q ≡ true → test x ≡ true) where
+  same_tested : (q x : IndexKey) (b : Bool) (later : List IndexKey) → AreSame q x → test q ≡ true → is_key k (indexed_key q) ≡ true → test x ≡ b → has_key k (cond b (x ∷ later) later) ≡ true
+  same_tested q x true later same at key e = or_first (is_key k (indexed_key x)) (has_key k later) (rw (← same.kind, ← same.id) key)
+  same_tested q x false later same at key e = absurd (false≢true (sym e ∙ moves q x same at))
+
+  later_tested : (x : IndexKey) (b : Bool) (later : List IndexKey) → has_key k later ≡ true → has_key k (cond b (x ∷ later) later) ≡ true
+  later_tested x true later e = or_second (is_key k (indexed_key x)) (has_key k later) e
+  later_tested x false later e = e
+
+  pub key_there : (q : IndexKey) (xs : List IndexKey) → has xs q ≡ true → test q ≡ true → is_key k (indexed_key q) ≡ true → has_key k (filter test xs) ≡ true
+  key_there q [] e at key = absurd (false≢true e)
+  key_there q (x ∷ xs) e at key = elim (either_from (is_same q x) (has xs q) e) [
+    | inl same ↦ same_tested q x (test x) (filter test xs) (same_from q x same) at key refl
+    | inr later ↦ later_tested x (test x) (filter test xs) (key_there q xs later at key)
+  ]
+
 module _ (end : EndOf) (rows : List RowView) (index_keys : List IndexKey) (kind number : ℕ) (index : IsEndIndex end rows index_keys) where
   -- a row of the type, with this ISD-AS at its end
   abbrev is_there : RowView → Bool
@@ -141,23 +147,6 @@ module _ (end : EndOf) (rows : List RowView) (index_keys : List IndexKey) (kind 
   module _ (k : List ℕ) (r : RowView) (there : row_under k rows ≡ Some r) where
     key_is_its : k ≡ key_of r
     key_is_its = its_key k r (found_is_under k rows r there)
-
-    same_tested : (q x : IndexKey) (b : Bool) (later : List IndexKey) → AreSame q x → stands_at kind number q ≡ true → is_key k (indexed_key q) ≡ true → stands_at kind number x ≡ b → has_key k (cond b (x ∷ later) later) ≡ true
-    same_tested q x true later same at key e = or_first (is_key k (indexed_key x)) (has_key k later) (rw (← same.kind, ← same.id) key)
-    same_tested q x false later same at key e =
-        let at_x : stands_at kind number x ≡ true = rw (← same.kind, ← same.isd_as) at in
-        absurd (false≢true (sym e ∙ at_x))
-
-    later_tested : (x : IndexKey) (b : Bool) (later : List IndexKey) → has_key k later ≡ true → has_key k (cond b (x ∷ later) later) ≡ true
-    later_tested x true later e = or_second (is_key k (indexed_key x)) (has_key k later) e
-    later_tested x false later e = e
-
-    key_there : (q : IndexKey) (xs : List IndexKey) → has xs q ≡ true → stands_at kind number q ≡ true → is_key k (indexed_key q) ≡ true → has_key k (filter (stands_at kind number) xs) ≡ true
-    key_there q [] e at key = absurd (false≢true e)
-    key_there q (x ∷ xs) e at key = elim (either_from (is_same q x) (has xs q) e) [
-      | inl same ↦ same_tested q x (stands_at kind number x) (filter (stands_at kind number) xs) (same_from q x same) at key refl
-      | inr later ↦ later_tested x (stands_at kind number x) (filter (stands_at kind number) xs) (key_there q xs later at key)
-    ]
 
     its_index_key : IndexKey
     its_index_key = record { kind = type_number r.0; isd_as = number; id = segment_digest r.1; long = digest-length r.1 }
@@ -168,7 +157,7 @@ module _ (end : EndOf) (rows : List RowView) (index_keys : List IndexKey) (kind 
         let kinds = first_from (type_number r.0 == kind) (is_of (end r.1.entries) number) e in
         let of = second_from (type_number r.0 == kind) (is_of (end r.1.entries) number) e in
         let found = subst (λ l. row_under l rows ≡ Some r) key_is_its there in
-        key_there its_index_key index_keys (index its_index_key ∙ ap (ends_at end number) found ∙ of) (both_from (type_number r.0 == kind) (number == number) kinds (number_itself number))
+        key_there k (stands_at kind number) (λ q x same at. rw (← same.kind, ← same.isd_as) at) its_index_key index_keys (index its_index_key ∙ ap (ends_at end number) found ∙ of) (both_from (type_number r.0 == kind) (number == number) kinds (number_itself number))
         (subst (λ l. is_key k l ≡ true) key_is_its (is_key_itself k))
 
     of_index_key : (x : IndexKey) → has index_keys x ≡ true → stands_at kind number x ≡ true → is_key k (indexed_key x) ≡ true → is_there r ≡ true
@@ -211,7 +200,7 @@ module _ (end : EndOf) (rows : List RowView) (index_keys : List IndexKey) (kind 
 
 -- ---- the rows among them that a lookup asks for
 
-part_exact : (p n : ℕ) (b : Bool) → (p == 0) ≡ b → b ≡ false → part_covers p n ≡ true → p ≡ n
+pub part_exact : (p n : ℕ) (b : Bool) → (p == 0) ≡ b → b ≡ false → part_covers p n ≡ true → p ≡ n
 part_exact p n true e none covers = absurd (false≢true (sym none))
 part_exact p n false e none covers = equal_number p n (sym (ap (λ b. b || (p == n)) e) ∙ covers)
 
@@ -230,27 +219,9 @@ exact_number pattern number exact covers =
     let low = part_exact (pattern % 2 ^ 48) (number % 2 ^ 48) (pattern % 2 ^ 48 == 0) refl (or_false_second (pattern / 2 ^ 48 == 0) (pattern % 2 ^ 48 == 0) exact.parts) (second_from (part_covers (pattern / 2 ^ 48) (number / 2 ^ 48)) (part_covers (pattern % 2 ^ 48) (number % 2 ^ 48)) covers) in
     omega (arith, high, low)
 
-exact_entry : (pattern : ℕ) (o : Option EntryView) → IsExact pattern → covers_entry pattern o ≡ true → is_of o pattern ≡ true
+pub exact_entry : (pattern : ℕ) (o : Option EntryView) → IsExact pattern → covers_entry pattern o ≡ true → is_of (option_map (λ e. e.ia) o) pattern ≡ true
 exact_entry pattern None exact covers = absurd (false≢true covers)
 exact_entry pattern (Some e) exact covers = subst (λ n. (n == pattern) ≡ true) (sym (exact_number pattern e.ia exact covers)) (number_itself pattern)
-
-module _ (kind : SegType) (start end now : ℕ) (row : RowView) (shown : is_shown kind start end now row ≡ true) where
-  matched : matches kind start end row ≡ true
-  matched = first_from (matches kind start end row) (is_valid_beyond now row) shown
-
-  typed : (type_number row.0 == type_number kind) ≡ true
-  typed = first_from (type_number row.0 == type_number kind) (covers_entry start (first_entry_of row.1.entries) && covers_entry end (last_of row.1.entries)) matched
-
-  covered : (covers_entry start (first_entry_of row.1.entries) && covers_entry end (last_of row.1.entries)) ≡ true
-  covered = second_from (type_number row.0 == type_number kind) (covers_entry start (first_entry_of row.1.entries) && covers_entry end (last_of row.1.entries)) matched
-
-  pub last_shown : IsExact end → ((type_number row.0 == type_number kind) && is_of (last_of row.1.entries) end) ≡ true
-  last_shown exact = both_from (type_number row.0 == type_number kind) (is_of (last_of row.1.entries) end) typed
-      (exact_entry end (last_of row.1.entries) exact (second_from (covers_entry start (first_entry_of row.1.entries)) (covers_entry end (last_of row.1.entries)) covered))
-
-  pub first_shown : IsExact start → ((type_number row.0 == type_number kind) && is_of (first_entry_of row.1.entries) start) ≡ true
-  first_shown exact = both_from (type_number row.0 == type_number kind) (is_of (first_entry_of row.1.entries) start) typed
-      (exact_entry start (first_entry_of row.1.entries) exact (first_from (covers_entry start (first_entry_of row.1.entries)) (covers_entry end (last_of row.1.entries)) covered))
 
 -- a test that implies another selects the same rows after the other
 module _ (w p : RowView → Bool) (implied : (row : RowView) → w row ≡ true → p row ≡ true) where
@@ -262,23 +233,3 @@ module _ (w p : RowView → Bool) (implied : (row : RowView) → w row ≡ true 
   pub implied_kept : (rows : List RowView) → filter w (filter p rows) ≡ filter w rows
   implied_kept [] = refl
   implied_kept (row ∷ rows) = implied_tested row (p row) (w row) (filter p rows) rows refl refl (implied_kept rows)
-
-pub answer_at_last : (limit : ℕ) (rows : List RowView) (index_keys walk : List IndexKey) (kind : SegType) (start end now : ℕ) → IsRising rows → IsEndIndex (entry_at_end Last) rows index_keys → IsStrictlySortedBy index_key_cmp index_keys → IsExact end
-    → walk ≡ filter (stands_at (type_number kind) end) index_keys → answer_of limit (rows_at rows walk) kind start end now ≡ answer_of limit rows kind start end now
-unfolding answer_of
-answer_at_last limit rows index_keys walk kind start end now rising index sorted exact is =
-    ap (λ l. take limit (filter (is_shown kind start end now) l)) (ap (rows_at rows) is ∙ walked (entry_at_end Last) rows index_keys (type_number kind) end index rising sorted)
-    ∙ ap (take limit) (implied_kept (is_shown kind start end now) (λ row. (type_number row.0 == type_number kind) && is_of (last_of row.1.entries) end) (λ row shown. last_shown kind start end now row shown exact) rows)
-
-pub answer_at_first : (limit : ℕ) (rows : List RowView) (index_keys walk : List IndexKey) (kind : SegType) (start end now : ℕ) → IsRising rows → IsEndIndex (entry_at_end First) rows index_keys → IsStrictlySortedBy index_key_cmp index_keys → IsExact start
-    → walk ≡ filter (stands_at (type_number kind) start) index_keys → answer_of limit (rows_at rows walk) kind start end now ≡ answer_of limit rows kind start end now
-unfolding answer_of
-answer_at_first limit rows index_keys walk kind start end now rising index sorted exact is =
-    ap (λ l. take limit (filter (is_shown kind start end now) l)) (ap (rows_at rows) is ∙ walked (entry_at_end First) rows index_keys (type_number kind) start index rising sorted)
-    ∙ ap (take limit) (implied_kept (is_shown kind start end now) (λ row. (type_number row.0 == type_number kind) && is_of (first_entry_of row.1.entries) start) (λ row shown. first_shown kind start end now row shown exact) rows)
-
-pub answer_of_type : (limit : ℕ) (rows walk : List RowView) (kind : SegType) (start end now : ℕ) → walk ≡ filter (is_of_type kind) rows → answer_of limit walk kind start end now ≡ answer_of limit rows kind start end now
-unfolding answer_of
-answer_of_type limit rows walk kind start end now is =
-    ap (λ l. take limit (filter (is_shown kind start end now) l)) is
-    ∙ ap (take limit) (implied_kept (is_shown kind start end now) (is_of_type kind) (λ row shown. typed kind start end now row shown) rows)

@@ -3,7 +3,7 @@ use Rattle.std.specs.Prelude.{◌≡◌, ◌↔◌, List, map, Contains}
 use Rattle.std.specs.List.{flat_map}
 use Rattle.path_db.specs.declared.command.Command.{Command}
 use Rattle.path_db.specs.declared.command.Command.TheVariants.{Register}
-use Rattle.path_db.specs.Database.{RowView, key_of, AreWhole, IsDatabase}
+use Rattle.row_map.specs.Database.{RowView, key_of, AreWhole, IsDatabase}
 use Rattle.path_db.specs.Command.{database_after, database_after_all}
 
 -- The commands of registrations, each of some rows.

@@ -1,28 +1,19 @@
 -- The rows that a lookup shows.
-use Rattle.std.specs.Prelude.{ℕ, List, [], ◌∷◌, Bool, false, ◌==◌, ◌&&◌, take, filter, map, Option, Some, None}
-use Rattle.std.specs.Ordering.{nat_cmp, is_lt}
-use Rattle.std.specs.Cmp.Lexicographic.{slice_cmp}
+use Rattle.std.specs.Prelude.{ℕ, List, Bool, false, ◌==◌, ◌&&◌, take, filter, map, Option, Some, None}
 use Rattle.isd_as.specs.IsdAs.{covers_number}
 use Rattle.seg_core.specs.declared.seg_type.SegType.{SegType}
 use Rattle.seg_core.specs.SegmentView.{EntryView, SegmentView}
 use Rattle.seg_slots.specs.Message.{last_of}
 use Rattle.seg_core.specs.Registration.{type_number}
-use Rattle.path_db.specs.Database.{RowView, key, key_of}
-use Rattle.path_db.specs.Command.{is_valid_beyond}
+use Rattle.row_map.specs.Database.{RowView}
+use Rattle.row_map.specs.Drops.{is_valid_beyond}
+use Rattle.row_map.specs.Ranges.{is_after}
+use Rattle.row_map.specs.Ends.{first_entry_of}
 
 -- An entry is present, and its ISD-AS is covered by the pattern.
 abbrev pub covers_entry : ℕ → Option EntryView → Bool
 covers_entry pattern None = false
 covers_entry pattern (Some e) = covers_number pattern e.ia
-
--- The first entry of a list.
-abbrev pub first_entry_of : List EntryView → Option EntryView
-first_entry_of [] = None
-first_entry_of (e ∷ es) = Some e
-
--- A row is of this type.
-abbrev pub is_of_type : SegType → RowView → Bool
-is_of_type kind row = type_number row.0 == type_number kind
 
 -- A row is of the type, the start covers its first entry, and the end covers its last entry.
 abbrev pub matches : SegType → ℕ → ℕ → RowView → Bool
@@ -36,10 +27,6 @@ is_shown kind start end now row = matches kind start end row && is_valid_beyond 
 -- The first rows by key that match and are valid, at most `limit` of them.
 unfoldable pub answer_of : ℕ → List RowView → SegType → ℕ → ℕ → ℕ → List RowView
 answer_of limit rows kind start end now = take limit (filter (is_shown kind start end now) rows)
-
--- A row's key is above that of this type and this id.
-abbrev pub is_after : SegType → List ℕ → RowView → Bool
-is_after kind id row = is_lt (slice_cmp nat_cmp (key kind id) (key_of row))
 
 -- The first rows by key, of those above the key of the type and an id, that match and are valid, at
 -- most `limit` of them.

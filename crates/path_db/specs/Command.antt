@@ -1,25 +1,13 @@
 -- The database after commands, and their outcomes.
-use Rattle.std.specs.Prelude.{ℕ, List, [], ◌∷◌, Bool, not, nat_lt, filter, count_by, if◌then◌else◌}
+use Rattle.std.specs.Prelude.{List, [], ◌∷◌, not, count_by, if◌then◌else◌}
 use Rattle.std.specs.Option.{is_some}
-use Rattle.seg_check.specs.Expiry.{expiry_of}
 use Rattle.path_db.specs.declared.command.Command.{Command}
 use Rattle.path_db.specs.declared.command.Command.TheVariants.{Register, Purge, Remove}
 use Rattle.path_db.specs.declared.outcome.Outcome.{Outcome}
-use Rattle.path_db.specs.Database.{RowView, key, is_under, row_under, AreWhole}
-use Rattle.path_db.specs.Put.{database_after_puts, changes_of}
+use Rattle.row_map.specs.Database.{RowView, key, row_under, AreWhole}
+use Rattle.row_map.specs.Put.{database_after_puts, changes_of}
+use Rattle.row_map.specs.Drops.{is_valid_beyond, database_after_purge, database_after_removal}
 use Rattle.path_db.specs.Outcome.{outcome_of_puts, outcome_of_drops}
-
--- A row is valid beyond a moment where it expires after it. Moments are in half seconds since 1970.
-abbrev pub is_valid_beyond : ℕ → RowView → Bool
-is_valid_beyond moment row = nat_lt moment (expiry_of row.1)
-
--- The database after a purge, which keeps exactly the rows that are valid beyond its moment.
-abbrev pub database_after_purge : List RowView → ℕ → List RowView
-database_after_purge rows moment = filter (is_valid_beyond moment) rows
-
--- The database after a removal, which keeps exactly the rows that are not under its key.
-abbrev pub database_after_removal : List RowView → List ℕ → List RowView
-database_after_removal rows k = filter (λ row. not (is_under k row)) rows
 
 -- The database after a command.
 unfoldable pub database_after : List RowView → Command → List RowView

@@ -1,34 +1,15 @@
 -- The row under one key after commands, and laws of the database after commands.
-use Rattle.std.specs.Prelude.{◌≡◌, ◌≢◌, ◌↔◌, ℕ, ◌<◌, ◌≤◌, List, [], ◌∷◌, ◌++◌, Bool, not, filter, Contains, if◌then◌else◌, Option, Some, None, MatchOption}
+use Rattle.std.specs.Prelude.{◌≡◌, ◌≢◌, ◌↔◌, ℕ, ◌<◌, ◌≤◌, List, [], ◌∷◌, ◌++◌, not, filter, Contains, Option, MatchOption}
 use Rattle.std.specs.List.{AllByRecursion}
 use Rattle.std.specs.Option.{option_to_list}
 use Rattle.seg_core.specs.declared.seg_type.SegType.{SegType}
 use Rattle.seg_check.specs.Expiry.{expiry_of}
 use Rattle.path_db.specs.declared.command.Command.{Command}
 use Rattle.path_db.specs.declared.command.Command.TheVariants.{Register, Purge, Remove}
-use Rattle.path_db.specs.Database.{RowView, key, key_of, is_under, row_under, IsRising, IsDatabase}
-use Rattle.path_db.specs.Put.{is_newer}
-use Rattle.path_db.specs.Command.{is_valid_beyond, database_after, database_after_all, HasWholeSegments}
-
--- The row under a key after a put: the new row where there was none or the new one is newer, else
--- the old one.
-abbrev pub winner : RowView → Option RowView → RowView
-winner row None = row
-winner row (Some old) = if is_newer row old then row else old
-
--- The row under a key after a put, given the row before.
-abbrev pub left_by_put : List ℕ → Option RowView → RowView → Option RowView
-left_by_put k found row = if is_under k row then Some (winner row found) else found
-
--- The row under a key after several puts in order, given the row before.
-abbrev pub left_by_puts : List ℕ → Option RowView → List RowView → Option RowView
-left_by_puts k found [] = found
-left_by_puts k found (row ∷ new) = left_by_puts k (left_by_put k found row) new
-
--- The row, where there is one and it passes the test.
-abbrev pub kept_if : (RowView → Bool) → Option RowView → Option RowView
-kept_if p None = None
-kept_if p (Some row) = if p row then Some row else None
+use Rattle.row_map.specs.Database.{RowView, key, key_of, is_under, row_under, IsRising, IsDatabase}
+use Rattle.path_db.specs.Command.{database_after, database_after_all, HasWholeSegments}
+use Rattle.row_map.specs.Drops.{is_valid_beyond}
+use Rattle.row_map.specs.Left.{left_by_puts, kept_if}
 
 -- The row under a key after a command, given the row before.
 abbrev pub left_under : List ℕ → Option RowView → Command → Option RowView

@@ -1,9 +1,3 @@
-pub mod Database
-pub mod Put
-pub mod Row
-pub mod RowMap
-pub mod EndKeys
-pub mod Saved
 pub mod Walk
 pub mod Table
 pub mod Command
@@ -13,4 +7,3 @@ pub mod CommandLaws
 pub mod OutcomeLaws
 pub mod Agreement
 pub mod Wanted
-pub mod Purge

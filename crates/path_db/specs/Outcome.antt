@@ -1,7 +1,7 @@
 -- The counts of an outcome.
 use Rattle.std.specs.Prelude.{ℕ, ◌+◌, ◌-◌, ◌^◌, min, List, count_by, Bool, true, false}
-use Rattle.path_db.specs.declared.change.Change.{Change}
-use Rattle.path_db.specs.declared.change.Change.TheVariants.{Inserted, Updated, Kept}
+use Rattle.row_map.specs.declared.change.Change.{Change}
+use Rattle.row_map.specs.declared.change.Change.TheVariants.{Inserted, Updated, Kept}
 use Rattle.path_db.specs.declared.outcome.Outcome.{Outcome}
 
 -- A count, or 2^32 - 1 for a greater one.

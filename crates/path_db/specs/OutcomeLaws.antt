@@ -2,7 +2,7 @@
 use Rattle.std.specs.Prelude.{◌≡◌, ◌+◌, ◌^◌, ◌<◌, List, length}
 use Rattle.path_db.specs.declared.command.Command.{Command}
 use Rattle.path_db.specs.declared.command.Command.TheVariants.{Register, Purge, Remove}
-use Rattle.path_db.specs.Database.{RowView, IsRising}
+use Rattle.row_map.specs.Database.{RowView, IsRising}
 use Rattle.path_db.specs.Command.{database_after, outcome_of}
 
 -- A command registers fewer than 2^32 segments.

@@ -1,28 +1,29 @@
 //! The rows of a database that a lookup shows.
 
-ghost use Rattle.std.specs.Prelude.{◌≡◌, ◌<◌, ◌≤◌, ◌∷◌, ◌++◌, [], length, take, filter, IfOk, OnOk, OnErr, IsTrue};
+ghost use Rattle.std.specs.Prelude.{◌≡◌, ◌+◌, ◌<◌, ◌≤◌, ◌∷◌, ◌++◌, [], length, take, filter, None, IfSome, IfOk, OnOk, OnErr, IsTrue};
 ghost use Rattle.std.specs.List.{AllByRecursion};
 ghost use Rattle.std.specs.Option.{option_map};
 ghost use Rattle.isd_as.specs.IsdAs.{isd_as_number};
 ghost use Rattle.seg_core.specs.Encoding.{IsSegment};
 ghost use Rattle.seg_core.specs.EntryView.{entry_view, entry_views};
 ghost use Rattle.seg_slots.specs.Message.{last_of};
-ghost use Rattle.path_db.specs.Row.{row_view, row_views};
-ghost use Rattle.path_db.specs.Answer.{covers_entry, first_entry_of, matches, is_shown, segments_of};
-ghost use Rattle.path_db.specs.Wanted.{answer_to_wanted, is_wanted};
+ghost use Rattle.row_map.specs.Row.{row_view, row_views};
+ghost use Rattle.path_db.specs.Answer.{covers_entry, matches, segments_of};
+ghost use Rattle.row_map.specs.Ends.{first_entry_of};
+ghost use Rattle.row_map.specs.declared.end.By.TheVariants.{OneEnd, BothEnds};
+ghost use Rattle.path_db.specs.Wanted.{AllHave, answer_to_wanted, is_past, is_wanted, pattern_at};
 ghost use Rattle.path_db.specs.Walk.{IsExact, rows_at, rows_there};
 
-use crate::row::Row;
-use crate::row_map::RowMap;
-use crate::row_range::RowRange;
+use crate::visits::Visits;
 use end_index::{IndexKey, IndexKeys};
 use isd_as::{IsdAs, covers};
+use row_map::{By, End, Row, RowMap, RowRange, isds_number};
 use seg_check::expiry;
 use seg_core::{Entry, SegType, Segment};
 use std::alloc::{AllocError, Global};
 
-/// The rows that a lookup asks for: of a type, with a first and a last entry that are covered, and
-/// valid beyond a moment.
+/// The rows that a lookup asks for: of a type, with a first and a last entry that are covered,
+/// valid beyond a moment, and with an id above a given one.
 #[derive(Clone, Copy)]
 pub(crate) struct Wanted {
     pub kind: SegType,
@@ -30,18 +31,72 @@ pub(crate) struct Wanted {
     pub end: IsdAs,
     /// In half seconds since 1970.
     pub moment: u64,
+    /// The id after which the lookup goes on. `None` where it begins with the first row.
+    pub after: Option<[u8; 32]>,
 }
 
 impl Wanted {
     /// Whether the lookup asks for this row.
     fn is_shown(&self, row: &Row) -> bool
-        ensures { result ≡ is_shown self.now.kind (isd_as_number self.now.start) (isd_as_number self.now.end) self.now.moment (row_view row.now) }
+        ensures { result ≡ is_wanted self.now (row_view row.now) }
     {
-        self.matches(row) && self.moment < expiry(&row.segment)
+        self.matches(row) && self.moment < expiry(&row.segment) && self.is_past(row)
+    }
+
+    /// Whether the row's id is above the one after which the lookup goes on. The row is of the type.
+    fn is_past(&self, row: &Row) -> bool
+        ensures { result ≡ is_past self.now.kind self.now.after (row_view row.now) }
+    {
+        match &self.after {
+            Some(id) => row.cmp_key(self.kind, id).is_gt(),
+            None => true,
+        }
+    }
+
+    /// The pattern for an end.
+    pub(crate) fn pattern(&self, end: End) -> IsdAs
+        ensures { isd_as_number result ≡ pattern_at end self.now }
+    {
+        match end {
+            End::First => self.start,
+            End::Last => self.end,
+        }
+    }
+
+    /// The number by which an index has each row that the lookup asks for. `None` where the rows may
+    /// have several.
+    pub(crate) fn number(&self, by: By) -> Option<u64>
+        ensures { IfSome result (AllHave by self.now) }
+    {
+        match by {
+            By::OneEnd(end) => self.isd_as_at(end),
+            By::BothEnds => self.isds(),
+        }
+    }
+
+    /// The ISD-AS that the rows have at this end. `None` where the pattern covers several.
+    fn isd_as_at(&self, end: End) -> Option<u64>
+        ensures { IfSome result (AllHave (OneEnd end) self.now) }
+    {
+        let pattern = self.pattern(end);
+        if is_indexed(pattern) {
+            return Some(pattern.to_u64());
+        }
+        None
+    }
+
+    /// The ISDs that the rows have at both ends. `None` where a pattern covers several.
+    fn isds(&self) -> Option<u64>
+        ensures { IfSome result (AllHave BothEnds self.now) }
+    {
+        if self.start.isd == 0 || self.end.isd == 0 {
+            return None;
+        }
+        Some(isds_number(self.start.to_u64(), self.end.to_u64()))
     }
 
     /// The row, where there is one and the lookup asks for it.
-    fn shown<'a>(&self, row: Option<&'a Row>) -> Option<&'a Row>
+    pub(crate) fn shown<'a>(&self, row: Option<&'a Row>) -> Option<&'a Row>
         ensures { rows_there (result ∷ []) ≡ filter (is_wanted self.now) (rows_there (row.entry ∷ [])) }
     {
         match row {
@@ -93,28 +148,35 @@ pub(crate) fn is_indexed(pattern: IsdAs) -> bool
     pattern.isd != 0 && pattern.asn != 0 && pattern.to_u64() < u64::MAX
 }
 
-/// The segments of the first rows that the lookup asks for, at most `limit`.
+/// The segments of the first rows that the lookup asks for, at most `limit`. `None` means that not
+/// enough rows may be visited.
 pub(crate) fn first_shown(
     alloc: Global,
     rows: RowRange<'_>,
     wanted: Wanted,
     limit: usize,
-) -> Result<Vec<Segment>, AllocError>
-    ensures same { IfOk result (λ found. found.items ≡ segments_of (answer_to_wanted limit rows.entry wanted)) }
+    visits: &mut Visits,
+) -> Result<Option<Vec<Segment>>, AllocError>
+    ensures same { IfOk result (λ it. IfSome it (λ found. found.items ≡ segments_of (answer_to_wanted limit rows.entry wanted))) }
     ensures memory { OnErr result (0 < length (answer_to_wanted limit rows.entry wanted)) }
-    ensures few { IfOk result (λ found. length found.items ≤ limit) }
-    ensures whole { IfOk result (λ found. AllByRecursion IsSegment found.items) }
+    ensures few { IfOk result (λ it. IfSome it (λ found. length found.items ≤ limit)) }
+    ensures whole { IfOk result (λ it. IfSome it (λ found. AllByRecursion IsSegment found.items)) }
+    ensures ended { IfOk result (λ it. it ≡ None → visits.old.left < length rows.entry) }
+    ensures visited { visits.new.count ≤ visits.old.count + visits.old.left }
 {
     let mut found = Vec::new(alloc);
     for row in rows {
         if found.len() == limit {
             break;
         }
+        if !visits.take(1) {
+            return Ok(None);
+        }
         if wanted.is_shown(row) {
             found.push(row.segment.try_clone()?)?;
         }
     }
-    Ok(found)
+    Ok(Some(found))
 }
 
 /// The row at the next index key. `None` where no index key is left, or no row is at it.
@@ -134,10 +196,10 @@ fn next_shown<'a>(
     rows: &'a RowMap,
     index_key: &IndexKey,
     index_keys: &mut IndexKeys<'_>,
-    wanted: Wanted,
+    wanted: &Wanted,
 ) -> [Option<&'a Row>; 4]
-    ensures same { filter (is_wanted wanted) (rows_at rows.now (index_key.now ∷ index_keys.old))
-        ≡ rows_there result ++ filter (is_wanted wanted) (rows_at rows.now index_keys.new) }
+    ensures same { filter (is_wanted wanted.now) (rows_at rows.now (index_key.now ∷ index_keys.old))
+        ≡ rows_there result ++ filter (is_wanted wanted.now) (rows_at rows.now index_keys.new) }
     ensures fewer { length index_keys.new ≤ length index_keys.old }
 {
     let first = rows.at(index_key);
@@ -193,18 +255,21 @@ fn append_if_shown(
     Ok(())
 }
 
-/// The segments of the first rows at index keys that the lookup asks for, at most `limit`.
+/// The segments of the first rows at index keys that the lookup asks for, at most `limit`. `None`
+/// means that not enough rows may be visited.
 pub(crate) fn shown_at(
     alloc: Global,
     rows: &RowMap,
     index_keys: IndexKeys<'_>,
     wanted: Wanted,
     limit: usize,
-) -> Result<Vec<Segment>, AllocError>
-    ensures same { IfOk result (λ found. found.items ≡ segments_of (answer_to_wanted limit (rows_at rows.now index_keys.entry) wanted)) }
+    visits: &mut Visits,
+) -> Result<Option<Vec<Segment>>, AllocError>
+    ensures same { IfOk result (λ it. IfSome it (λ found. found.items ≡ segments_of (answer_to_wanted limit (rows_at rows.now index_keys.entry) wanted))) }
     ensures memory { OnErr result (0 < length (answer_to_wanted limit (rows_at rows.now index_keys.entry) wanted)) }
-    ensures few { IfOk result (λ found. length found.items ≤ limit) }
-    ensures whole { IfOk result (λ found. AllByRecursion IsSegment found.items) }
+    ensures few { IfOk result (λ it. IfSome it (λ found. length found.items ≤ limit)) }
+    ensures whole { IfOk result (λ it. IfSome it (λ found. AllByRecursion IsSegment found.items)) }
+    ensures visited { visits.new.count ≤ visits.old.count + visits.old.left }
 {
     let mut found = Vec::new(alloc);
     let mut index_keys = index_keys;
@@ -212,8 +277,11 @@ pub(crate) fn shown_at(
         if found.len() == limit {
             break;
         }
-        let shown = next_shown(rows, index_key, &mut index_keys, wanted);
+        if !visits.take(4) {
+            return Ok(None);
+        }
+        let shown = next_shown(rows, index_key, &mut index_keys, &wanted);
         append_shown(&mut found, &shown, limit)?;
     }
-    Ok(found)
+    Ok(Some(found))
 }

@@ -15,7 +15,7 @@ pub struct Registration {
 
 impl Model for Registration {
     ghost use Rattle.std.specs.Prelude.{List};
-    ghost use Rattle.path_db.specs.Database.{RowView};
+    ghost use Rattle.row_map.specs.Database.{RowView};
 
     ghost Value = { List RowView };
 

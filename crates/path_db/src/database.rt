@@ -1,33 +1,37 @@
 //! The database.
 
-ghost use Rattle.std.specs.Prelude.{◌≡◌, ◌-◌, ◌^◌, ◌<◌, ◌≤◌, [], ◌∷◌, ◌++◌, true, false, None, length, min, max, not, count_by, if◌then◌else◌, IfOk, IfErr, OnOk, OnErr};
+ghost use Rattle.std.specs.Prelude.{◌≡◌, ◌+◌, ◌-◌, ◌*◌, ◌^◌, ◌<◌, ◌≤◌, [], ◌∷◌, ◌++◌, true, false, None, length, min, max, not, count_by, if◌then◌else◌, IfOk, IfErr, OnOk, OnErr};
 ghost use Rattle.std.specs.List.{AllByRecursion};
 ghost use Rattle.std.specs.Option.{option_copied, option_map, is_some, ForSome};
 ghost use Rattle.path_db.specs.declared.error.ApplyError.TheVariants.{Full};
-ghost use Rattle.path_db.specs.Database.{IsDatabase, AreWhole, key, row_under, rows_len};
-ghost use Rattle.path_db.specs.Put.{database_after_puts, changes_of};
+ghost use Rattle.row_map.specs.Database.{IsDatabase, AreWhole, key, row_under, rows_len};
+ghost use Rattle.row_map.specs.Put.{database_after_puts, changes_of};
 ghost use Rattle.path_db.specs.Outcome.{outcome_of_puts, outcome_of_drops};
-ghost use Rattle.path_db.specs.Command.{database_after, database_after_purge, database_after_removal, is_valid_beyond, outcome_of, TakesMemory};
-ghost use Rattle.path_db.specs.Purge.{HasPassed};
-ghost use Rattle.path_db.specs.Row.{row_view, row_views};
+ghost use Rattle.path_db.specs.Command.{database_after, outcome_of, TakesMemory};
+ghost use Rattle.row_map.specs.Drops.{database_after_purge, database_after_removal, is_valid_beyond};
+ghost use Rattle.row_map.specs.declared.bucket_walk.BucketWalk.{BucketWalk};
+ghost use Rattle.row_map.specs.Buckets.{bucket_count};
+ghost use Rattle.row_map.specs.Purge.{HasPassed, AllOutlast, HasPassedBuckets};
+ghost use Rattle.row_map.specs.Row.{row_view, row_views};
 ghost use Rattle.path_db.specs.Answer.{answer_of, answer_after, segments_of};
+ghost use Rattle.row_map.specs.Ranges.{is_of_type};
+ghost use Rattle.path_db.specs.Wanted.{answer_to_wanted};
 ghost use Rattle.seg_core.specs.Encoding.{IsSegment};
 ghost use Rattle.isd_as.specs.IsdAs.{isd_as_number};
 
-use crate::answers::{Wanted, first_shown, is_indexed, shown_at};
+use crate::all_puts::{put_after, put_all};
+use crate::answers::Wanted;
 use crate::command::Command;
-use crate::end::End;
-use crate::end_keys::{add_both, index_key_of, index_of, sweep, touched_keys};
 use crate::error::ApplyError;
-use crate::format::type_byte;
 use crate::outcome::Outcome;
-use crate::purge_walk::PurgeWalk;
-use crate::row::Row;
-use crate::row_list::Rows;
-use crate::row_map::{RowMap, map_of};
-use crate::row_puts::{put_after, put_all, rows_of, saved_rows};
+use crate::visits::Visits;
+use crate::ways::{Indexes, shown_by_index, shown_by_rows};
 use end_index::EndIndex;
 use isd_as::IsdAs;
+use row_map::{
+    BUCKETS, BucketWalk, By, End, PurgeWalk, Row, RowMap, Rows, add_all, index_key_of, index_of,
+    map_of, rows_of, saved_rows, sweep, touched_keys,
+};
 use seg_core::{SegType, Segment};
 use std::alloc::{AllocError, Global};
 use std::marker::Model;
@@ -39,16 +43,19 @@ use std::marker::Model;
 pub struct PathDb {
     alloc: Global,
     rows: RowMap,
-    /// Whether the two indexes are kept. They are empty where they are not.
+    /// Whether the three indexes are kept. They are empty where they are not.
     indexed: bool,
     by_first: EndIndex,
     by_last: EndIndex,
+    by_isds: EndIndex,
     bytes: u128,
+    /// How many rows purges have visited, or 2^64 - 1 for more.
+    visited: u64,
 }
 
 impl Model for PathDb {
     ghost use Rattle.std.specs.Prelude.{List};
-    ghost use Rattle.path_db.specs.Database.{RowView};
+    ghost use Rattle.row_map.specs.Database.{RowView};
     ghost use Rattle.path_db.specs.Table.{rows_of_table, IsTable};
 
     ghost Value = { List RowView };
@@ -69,7 +76,9 @@ impl PathDb {
             indexed: true,
             by_first: EndIndex::new(alloc),
             by_last: EndIndex::new(alloc),
+            by_isds: EndIndex::new(alloc),
             bytes: 0,
+            visited: 0,
         }
     }
 
@@ -84,7 +93,9 @@ impl PathDb {
             indexed: _indexed,
             by_first: _by_first,
             by_last: _by_last,
+            by_isds: _by_isds,
             bytes,
+            visited,
         } = self;
         PathDb {
             alloc,
@@ -92,7 +103,9 @@ impl PathDb {
             indexed: false,
             by_first: EndIndex::new(alloc),
             by_last: EndIndex::new(alloc),
+            by_isds: EndIndex::new(alloc),
             bytes,
+            visited,
         }
     }
 
@@ -106,8 +119,9 @@ impl PathDb {
         if rows.is_empty() {
             return Ok(PathDb::new(alloc));
         }
-        let by_first = index_of(alloc, End::First, &rows)?;
-        let by_last = index_of(alloc, End::Last, &rows)?;
+        let by_first = index_of(alloc, By::OneEnd(End::First), &rows)?;
+        let by_last = index_of(alloc, By::OneEnd(End::Last), &rows)?;
+        let by_isds = index_of(alloc, By::BothEnds, &rows)?;
         let (rows, bytes) = map_of(alloc, rows)?;
         Ok(PathDb {
             alloc,
@@ -115,7 +129,9 @@ impl PathDb {
             indexed: true,
             by_first,
             by_last,
+            by_isds,
             bytes,
+            visited: 0,
         })
     }
 
@@ -231,12 +247,26 @@ impl PathDb {
         if !self.indexed {
             return put_all(&mut self.rows, &mut self.bytes, new, saved, most);
         }
-        let firsts = touched_keys(self.alloc, End::First, &new, &saved)?;
-        let lasts = touched_keys(self.alloc, End::Last, &new, &saved)?;
-        let added = add_both(&mut self.by_first, &firsts, &mut self.by_last, &lasts);
+        let firsts = touched_keys(self.alloc, By::OneEnd(End::First), &new, &saved)?;
+        let lasts = touched_keys(self.alloc, By::OneEnd(End::Last), &new, &saved)?;
+        let isds = touched_keys(self.alloc, By::BothEnds, &new, &saved)?;
+        let added = add_all(
+            &mut self.by_first,
+            &firsts,
+            &mut self.by_last,
+            &lasts,
+            &mut self.by_isds,
+            &isds,
+        );
         let put = put_after(added, &mut self.rows, &mut self.bytes, new, saved, most);
-        sweep(End::First, &mut self.by_first, &self.rows, &firsts);
-        sweep(End::Last, &mut self.by_last, &self.rows, &lasts);
+        sweep(
+            By::OneEnd(End::First),
+            &mut self.by_first,
+            &self.rows,
+            &firsts,
+        );
+        sweep(By::OneEnd(End::Last), &mut self.by_last, &self.rows, &lasts);
+        sweep(By::BothEnds, &mut self.by_isds, &self.rows, &isds);
         put
     }
 
@@ -252,24 +282,68 @@ impl PathDb {
             return Outcome::dropped(0);
         }
         let before = self.rows.len();
-        let mut walk = PurgeWalk::new(moment);
-        while self.drop_next(&mut walk) {}
+        let mut walk = BucketWalk::new(moment);
+        while self.purge_next(&mut walk) {}
         Outcome::dropped(before - self.len())
+    }
+
+    /// Drops the rows of the next buckets that expire at the walk's moment or before. `false` means
+    /// that all buckets were passed.
+    fn purge_next(&mut self, walk: &mut BucketWalk) -> bool
+        requires passed { HasPassedBuckets walk.old self.old }
+        requires within { walk.old.bucket ≤ bucket_count }
+        ensures others { database_after_purge self.new walk.old.moment ≡ database_after_purge self.old walk.old.moment }
+        ensures none { result ≡ false → database_after_purge self.new walk.old.moment ≡ self.new }
+        ensures passed { HasPassedBuckets walk.new self.new }
+        ensures onwards { result ≡ true → walk.old.bucket < walk.new.bucket }
+        ensures within { walk.new.bucket ≤ bucket_count }
+        ensures moment { walk.new.moment ≡ walk.old.moment }
+        ensures whole { IsDatabase self.new }
+    {
+        let end = self.rows.pass_lasting(walk);
+        if walk.bucket == BUCKETS {
+            self.rows.keep_least_expiry(walk.least);
+            return false;
+        }
+        let mut rows = PurgeWalk::new(walk.moment, walk.bucket, end);
+        self.purge_among(&mut rows);
+        walk.pass(&rows);
+        self.visited = self.visited.saturating_add(rows.visited);
+        true
+    }
+
+    /// Drops the rows of a walk's buckets that expire at its moment or before.
+    fn purge_among(&mut self, walk: &mut PurgeWalk)
+        requires passed { HasPassed walk.old self.old }
+        requires high { walk.old.high ≤ bucket_count }
+        ensures others { database_after_purge self.new walk.old.moment ≡ database_after_purge self.old walk.old.moment }
+        ensures outlast { AllOutlast walk.new self.new }
+        ensures buckets { (buckets : BucketWalk) → HasPassedBuckets buckets self.old → HasPassedBuckets buckets self.new }
+        ensures moment { walk.new.moment ≡ walk.old.moment }
+        ensures low { walk.new.low ≡ walk.old.low }
+        ensures high { walk.new.high ≡ walk.old.high }
+        ensures whole { IsDatabase self.new }
+    {
+        while self.drop_next(walk) {}
+        self.rows.keep_found(walk);
     }
 
     /// Drops the next row of a walk that expires at the walk's moment or before. `false` means that
     /// no such row is left.
     fn drop_next(&mut self, walk: &mut PurgeWalk) -> bool
-        requires { HasPassed walk.old self.old }
+        requires passed { HasPassed walk.old self.old }
+        requires high { walk.old.high ≤ bucket_count }
         ensures others { database_after_purge self.new walk.old.moment ≡ database_after_purge self.old walk.old.moment }
         ensures dropped { result ≡ true → length self.new < length self.old }
-        ensures none { result ≡ false → database_after_purge self.new walk.old.moment ≡ self.new }
+        ensures none { result ≡ false → AllOutlast walk.new self.new }
         ensures passed { HasPassed walk.new self.new }
         ensures moment { walk.new.moment ≡ walk.old.moment }
+        ensures low { walk.new.low ≡ walk.old.low }
+        ensures high { walk.new.high ≡ walk.old.high }
+        ensures buckets { (buckets : BucketWalk) → HasPassedBuckets buckets self.old → HasPassedBuckets buckets self.new }
         ensures whole { IsDatabase self.new }
     {
         let Some(row) = walk.next_expired(&self.rows) else {
-            self.rows.keep_least_expiry(walk.least);
             return false;
         };
         let kind = row.kind;
@@ -288,8 +362,11 @@ impl PathDb {
         let Some(row) = self.rows.remove(kind, id) else {
             return Outcome::dropped(0);
         };
-        self.by_first.remove(&index_key_of(End::First, &row));
-        self.by_last.remove(&index_key_of(End::Last, &row));
+        self.by_first
+            .remove(&index_key_of(By::OneEnd(End::First), &row));
+        self.by_last
+            .remove(&index_key_of(By::OneEnd(End::Last), &row));
+        self.by_isds.remove(&index_key_of(By::BothEnds, &row));
         self.bytes -= u128::from(row.len());
         Outcome::dropped(1)
     }
@@ -335,18 +412,9 @@ impl PathDb {
             start,
             end,
             moment: now,
+            after: None,
         };
-        if self.indexed {
-            if is_indexed(end) {
-                let index_keys = self.by_last.keys_at(type_byte(kind), end.to_u64());
-                return shown_at(self.alloc, &self.rows, index_keys, wanted, limit);
-            }
-            if is_indexed(start) {
-                let index_keys = self.by_first.keys_at(type_byte(kind), start.to_u64());
-                return shown_at(self.alloc, &self.rows, index_keys, wanted, limit);
-            }
-        }
-        first_shown(self.alloc, self.rows.of_type(kind), wanted, limit)
+        self.shown(wanted, limit, &mut Visits::none())
     }
 
     /// The same as `matching`, of the rows whose ids are above this one.
@@ -369,20 +437,73 @@ impl PathDb {
             start,
             end,
             moment: now,
+            after: Some(*id),
         };
+        self.shown(wanted, limit, &mut Visits::none())
+    }
+
+    /// The same as `matching`, and how many rows were visited.
+    pub fn matching_counted(
+        &self,
+        kind: SegType,
+        start: IsdAs,
+        end: IsdAs,
+        now: u64,
+        limit: usize,
+    ) -> Result<(Vec<Segment>, usize), AllocError>
+        ensures same { IfOk result (λ it. it.0.items ≡ segments_of (answer_of limit self.now kind (isd_as_number start) (isd_as_number end) now)) }
+        ensures memory { OnErr result (0 < length (answer_of limit self.now kind (isd_as_number start) (isd_as_number end) now)) }
+        ensures few { IfOk result (λ it. length it.0.items ≤ limit) }
+        ensures whole { IfOk result (λ it. AllByRecursion IsSegment it.0.items) }
+        ensures visited { IfOk result (λ it. it.1 ≤ 6 * (limit + 64) + 3 * length self.now) }
+    {
+        let wanted = Wanted {
+            kind,
+            start,
+            end,
+            moment: now,
+            after: None,
+        };
+        let mut visits = Visits::none();
+        let found = self.shown(wanted, limit, &mut visits)?;
+        Ok((found, visits.count))
+    }
+
+    /// The segments of the first rows that the lookup asks for, at most `limit`.
+    fn shown(
+        &self,
+        wanted: Wanted,
+        limit: usize,
+        visits: &mut Visits,
+    ) -> Result<Vec<Segment>, AllocError>
+        requires { visits.old.count ≡ 0 }
+        ensures same { IfOk result (λ found. found.items ≡ segments_of (answer_to_wanted limit self.now wanted)) }
+        ensures memory { OnErr result (0 < length (answer_to_wanted limit self.now wanted)) }
+        ensures few { IfOk result (λ found. length found.items ≤ limit) }
+        ensures whole { IfOk result (λ found. AllByRecursion IsSegment found.items) }
+        ensures visited { visits.new.count ≤ 6 * (limit + 64) + 3 * length self.now }
+    {
+        if limit == 0 {
+            return Ok(Vec::new(self.alloc));
+        }
         if self.indexed {
-            if is_indexed(end) {
-                let index_keys = self.by_last.keys_after(type_byte(kind), end.to_u64(), id);
-                return shown_at(self.alloc, &self.rows, index_keys, wanted, limit);
-            }
-            if is_indexed(start) {
-                let index_keys = self
-                    .by_first
-                    .keys_after(type_byte(kind), start.to_u64(), id);
-                return shown_at(self.alloc, &self.rows, index_keys, wanted, limit);
+            let found = shown_by_index(
+                self.alloc,
+                &self.rows,
+                Indexes {
+                    by_first: &self.by_first,
+                    by_last: &self.by_last,
+                    by_isds: &self.by_isds,
+                },
+                wanted,
+                limit,
+                visits,
+            )?;
+            if let Some(found) = found {
+                return Ok(found);
             }
         }
-        first_shown(self.alloc, self.rows.of_type_after(kind, id), wanted, limit)
+        shown_by_rows(self.alloc, &self.rows, wanted, limit, visits)
     }
 
     /// The number of rows. The call takes constant time.
@@ -391,6 +512,19 @@ impl PathDb {
         ensures whole { IsDatabase self.now }
     {
         self.rows.len()
+    }
+
+    /// The number of rows of a type. The call takes constant time.
+    pub fn len_of(&self, kind: SegType) -> usize
+        ensures { result ≡ count_by (is_of_type kind) self.now }
+    {
+        self.rows.len_of(kind)
+    }
+
+    /// How many rows the purges of this database have visited since it was made, or 2^64 - 1 for
+    /// more. No call depends on it.
+    pub fn visited_by_purges(&self) -> u64 {
+        self.visited
     }
 
     /// The bytes of all rows as records: for each the type (1), the length (4), and the segment's
@@ -418,7 +552,9 @@ impl PathDb {
             indexed: self.indexed,
             by_first: self.by_first.try_clone()?,
             by_last: self.by_last.try_clone()?,
+            by_isds: self.by_isds.try_clone()?,
             bytes: self.bytes,
+            visited: 0,
         })
     }
 }

@@ -10,25 +10,16 @@
 #![tactic(auto)]
 
 mod agreement;
+mod all_puts;
 mod answers;
-mod change;
 mod command;
 mod command_laws;
 mod database;
-mod end;
-mod end_keys;
 mod error;
-mod format;
-mod key_order;
 mod outcome;
 mod outcome_laws;
-mod purge_walk;
-mod row;
-mod row_key;
-mod row_list;
-mod row_map;
-mod row_puts;
-mod row_range;
+mod visits;
+mod ways;
 
 pub use agreement::{registrations_commute, registrations_repeat};
 pub use command::{Command, Registration};
@@ -38,8 +29,5 @@ pub use command_laws::{
 };
 pub use database::PathDb;
 pub use error::ApplyError;
-pub use format::{MOST_ROW_BYTES, ROW_HEAD, type_byte};
 pub use outcome::Outcome;
 pub use outcome_laws::{each_put_is_counted, rows_are_counted};
-pub use row::Row;
-pub use row_list::Rows;

@@ -3,7 +3,7 @@
 ghost use Rattle.std.specs.Prelude.{◌≡◌, []};
 ghost use Rattle.path_db.specs.Outcome.{outcome_of_puts, outcome_of_drops, outcome_after};
 
-use crate::change::Change;
+use row_map::Change;
 
 /// What a command did: how many segments it inserted, updated and kept, and how many rows it
 /// dropped. A count above 2^32 - 1 is 2^32 - 1.

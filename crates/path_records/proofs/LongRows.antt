@@ -11,7 +11,7 @@ use Rattle.seg_slots.specs.declared.error.SegError.TheVariants.{TooLarge}
 use Rattle.seg_core.specs.declared.seg_type.SegType.{SegType}
 use Rattle.seg_core.specs.Registration.{type_of}
 use Rattle.seg_core.specs.Segment.{segment_outline, segment_decoding}
-use Rattle.path_db.specs.Database.{RowView, IsDatabase}
+use Rattle.row_map.specs.Database.{RowView, IsDatabase}
 use Rattle.path_records.specs.declared.error.DbError.{DbError}
 use Rattle.path_records.specs.declared.error.DbError.TheVariants.{BadRecord}
 use Rattle.path_records.specs.RecordSteps.{◌>>=◌}

@@ -3,7 +3,7 @@
 use Rattle.std.proofs.Common.{◌≡◌, ◌<◌, length, arith, ℕ, Bool, true, false, List, [], ◌∷◌, Result, Ok, Err, IsOk, refl, sym, ap, subst}
 use Rattle.seg_slots.specs.declared.error.SegError.{SegError}
 use Rattle.path_records.specs.declared.error.DbError.{DbError}
-use Rattle.path_db.specs.Database.{RowView}
+use Rattle.row_map.specs.Database.{RowView}
 use Rattle.path_records.specs.RecordSteps.{◌>>=◌, demand}
 use Rattle.path_records.specs.RowRecord.{record_of, row_decoding, spelled_segment, HasOutline, rows_within, rows_decoding}
 use Rattle.path_records.proofs.Records.{outlined}

@@ -21,7 +21,7 @@ use Rattle.seg_core.specs.Encoding.{IsSegment, segment_encoding}
 use Rattle.seg_core.proofs.RoundTrip.{decoding-encoding}
 use Rattle.path_records.specs.declared.error.DbError.TheVariants.{BadRecord}
 use Rattle.path_db.specs.declared.command.Command.TheVariants.{Register, Purge, Remove}
-use Rattle.path_db.specs.Database.{RowView, AreWhole}
+use Rattle.row_map.specs.Database.{RowView, AreWhole}
 use Rattle.path_records.specs.RecordSteps.{◌>>=◌, demand}
 use Rattle.path_records.specs.RowRecord.{row_record, rows_encoding, row_size, has_row, record_of, spelled_segment, row_decoding}
 use Rattle.path_records.specs.CommandRecord.{segments_len, command_encoding, items_decoding, registration_record_decoding, purge_decoding, removal_decoding, command_decoding}

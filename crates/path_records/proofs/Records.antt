@@ -8,7 +8,7 @@ use Rattle.seg_slots.specs.Steps.{◌>>=◌ as ◌>>>◌}
 use Rattle.seg_core.specs.Segment.{segment_decoding, segment_outline}
 use Rattle.path_records.specs.declared.error.DbError.{DbError}
 use Rattle.path_records.specs.declared.error.DbError.TheVariants.{BadRecord}
-use Rattle.path_db.specs.Database.{RowView, AreWhole}
+use Rattle.row_map.specs.Database.{RowView, AreWhole}
 use Rattle.path_records.specs.RecordSteps.{◌>>=◌}
 use Rattle.path_records.specs.RowRecord.{row_decoding, row_size}
 use Rattle.path_records.specs.CommandRecord.{items_decoding}

@@ -15,7 +15,7 @@ use Rattle.seg_core.specs.Registration.{type_of}
 use Rattle.seg_core.specs.Segment.{segment_decoding}
 use Rattle.path_records.specs.declared.error.DbError.{DbError}
 use Rattle.path_records.specs.declared.error.DbError.TheVariants.{NoMemory, BadRecord, Order}
-use Rattle.path_db.specs.Database.{RowView, IsDatabase, AreWhole}
+use Rattle.row_map.specs.Database.{RowView, IsDatabase, AreWhole}
 use Rattle.path_records.specs.RecordSteps.{◌>>=◌, demand}
 use Rattle.path_records.specs.RowRecord.{row_record, rows_encoding, row_size, has_row, record_of, spelled_segment, row_decoding, is_row_above, rows_within, rows_decoding}
 use Rattle.path_records.specs.RecordRefusals.{HasNoRecord, HasLowerRow, BadRecordIsExact, OrderIsExact, RowsWantNoMemory}

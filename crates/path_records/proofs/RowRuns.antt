@@ -6,9 +6,9 @@ use Rattle.std.specs.Option.{option_copied}
 use Rattle.std.specs.Ordering.{is_lt}
 use Rattle.std.specs.declared.cmp.Ordering.TheVariants.{Less}
 use Rattle.seg_slots.specs.Message.{last_of}
-use Rattle.path_db.specs.declared.row.Row.{Row}
-use Rattle.path_db.specs.Database.{RowView, key_order, IsDatabase}
-use Rattle.path_db.specs.Row.{row_view, row_views}
+use Rattle.row_map.specs.declared.row.Row.{Row}
+use Rattle.row_map.specs.Database.{RowView, key_order, IsDatabase}
+use Rattle.row_map.specs.Row.{row_view, row_views}
 use Rattle.path_records.specs.RowRecord.{is_row_above}
 use Rattle.path_records.proofs.RowPieces.{database_more}
 use Rattle.path_records.proofs.RowsRead.{last_behind}

@@ -12,11 +12,11 @@ use Rattle.byte_lists.specs.Numbers.{four_at}
 use Rattle.byte_lists.proofs.Contents.{length-part}
 use Rattle.path_records.specs.declared.error.DbError.{DbError}
 use Rattle.path_records.specs.declared.error.DbError.TheVariants.{Order}
-use Rattle.path_db.specs.Database.{RowView, key_order, IsRising, AreWhole, row_len, rows_len}
+use Rattle.row_map.specs.Database.{RowView, key_order, IsRising, AreWhole, row_len, rows_len}
 use Rattle.path_records.specs.RecordSteps.{◌>>=◌, demand}
 use Rattle.path_records.specs.RowRecord.{row_record, rows_encoding, row_size, row_decoding, is_row_above, rows_within, rows_decoding}
 use Rattle.path_records.specs.RecordLaws.{WrittenRowsAreRead, WrittenRowsAreCounted, ReadRowsAreSpelled}
-use Rattle.path_db.proofs.Exports.{AllAbove, above_less}
+use Rattle.row_map.proofs.Exports.{AllAbove, above_less}
 use Rattle.path_records.proofs.Spelled.{went, segment_back, has_room, row_steps, row_spelled, row_whole, bytes_drop}
 use Rattle.path_records.proofs.ReadBack.{row_back, record_len}
 

@@ -7,12 +7,12 @@ use Rattle.std.proofs.lemmas.List.{length-drop}
 use Rattle.seg_slots.specs.Message.{last_of}
 use Rattle.path_records.specs.declared.error.DbError.{DbError}
 use Rattle.path_records.specs.declared.error.DbError.TheVariants.{Order}
-use Rattle.path_db.specs.declared.row.Row.{Row}
-use Rattle.path_db.specs.Database.{RowView}
+use Rattle.row_map.specs.declared.row.Row.{Row}
+use Rattle.row_map.specs.Database.{RowView}
 use Rattle.path_records.specs.RecordSteps.{◌>>=◌, demand}
-use Rattle.path_db.specs.Row.{row_view, row_views}
+use Rattle.row_map.specs.Row.{row_view, row_views}
 use Rattle.path_records.specs.RowRecord.{row_size, row_decoding, is_row_above, rows_within, rows_decoding}
-use Rattle.path_db.proofs.Exports.{last_seen}
+use Rattle.row_map.proofs.Exports.{last_seen}
 use Rattle.path_records.proofs.Records.{one_more}
 
 -- ---- the last row

@@ -25,7 +25,7 @@ use Rattle.path_records.specs.declared.error.DbError.{DbError}
 use Rattle.path_records.specs.declared.error.DbError.TheVariants.{BadRecord}
 use Rattle.path_db.specs.declared.command.Command.{Command}
 use Rattle.path_db.specs.declared.command.Command.TheVariants.{Register, Purge, Remove}
-use Rattle.path_db.specs.Database.{RowView}
+use Rattle.row_map.specs.Database.{RowView}
 use Rattle.path_records.specs.RecordSteps.{◌>>=◌, demand}
 use Rattle.path_records.specs.RowRecord.{row_record, rows_encoding, row_size, has_row, record_of, spelled_segment, row_decoding}
 use Rattle.path_records.specs.CommandRecord.{command_encoding, items_decoding, registration_record_decoding, purge_decoding, removal_decoding, command_decoding}

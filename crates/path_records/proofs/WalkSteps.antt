@@ -7,7 +7,7 @@ use Rattle.seg_core.specs.Encoding.{IsSegment}
 use Rattle.seg_slots.specs.Message.{last_of}
 use Rattle.path_records.specs.declared.error.DbError.{DbError}
 use Rattle.path_records.specs.declared.error.DbError.TheVariants.{Order}
-use Rattle.path_db.specs.Database.{RowView, key_of}
+use Rattle.row_map.specs.Database.{RowView, key_of}
 use Rattle.path_records.specs.RowRecord.{rows_encoding, row_size, has_row, row_decoding, is_row_above}
 use Rattle.path_records.specs.RowsReader.{AreRefused}
 use Rattle.path_records.specs.RowWalk.{WalkView, HasGiven, is_above_bytes, IsNoNextRow}

@@ -13,7 +13,7 @@ use Rattle.seg_core.specs.Registration.{type_of}
 use Rattle.path_records.specs.declared.error.DbError.TheVariants.{BadRecord}
 use Rattle.path_db.specs.declared.command.Command.{Command}
 use Rattle.path_db.specs.declared.command.Command.TheVariants.{Register, Purge, Remove}
-use Rattle.path_db.specs.Database.{RowView, AreWhole}
+use Rattle.row_map.specs.Database.{RowView, AreWhole}
 use Rattle.path_records.specs.RecordSteps.{◌>>=◌, demand}
 use Rattle.path_records.specs.RowRecord.{row_size, record_of, row_decoding}
 use Rattle.path_records.specs.CommandRecord.{segments_len, items_decoding, registration_record_decoding, purge_decoding, removal_decoding, command_decoding}

@@ -1,6 +1,6 @@
 -- The bytes of keys.
 use Rattle.std.specs.Prelude.{ℕ, List}
-use Rattle.path_db.specs.Database.{key}
+use Rattle.row_map.specs.Database.{key}
 use Rattle.path_records.specs.declared.key.Key.{Key}
 
 -- The bytes of a key: the type's number, then the id's bytes.

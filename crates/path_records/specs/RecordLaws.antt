@@ -4,7 +4,7 @@ use Rattle.byte_lists.specs.Content.{AreBytes}
 use Rattle.path_db.specs.declared.command.Command.{Command}
 use Rattle.path_db.specs.declared.command.Command.TheVariants.{Register, Purge, Remove}
 use Rattle.path_db.specs.Command.{HasWholeSegments}
-use Rattle.path_db.specs.Database.{RowView, IsDatabase, rows_len}
+use Rattle.row_map.specs.Database.{RowView, IsDatabase, rows_len}
 use Rattle.path_records.specs.RowRecord.{rows_encoding, rows_decoding}
 use Rattle.path_records.specs.CommandRecord.{IsWithinLimits, command_encoding, command_decoding}
 

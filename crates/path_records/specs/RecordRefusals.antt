@@ -6,7 +6,7 @@ use Rattle.seg_slots.specs.Message.{last_of}
 use Rattle.path_db.specs.declared.command.Command.{Command}
 use Rattle.path_records.specs.declared.error.DbError.{DbError}
 use Rattle.path_records.specs.declared.error.DbError.TheVariants.{NoMemory, BadRecord, Order}
-use Rattle.path_db.specs.Database.{RowView, IsDatabase}
+use Rattle.row_map.specs.Database.{RowView, IsDatabase}
 use Rattle.path_records.specs.RowRecord.{row_record, rows_encoding, is_row_above, rows_decoding}
 use Rattle.path_records.specs.CommandRecord.{command_encoding, command_decoding}
 use Rattle.path_records.specs.RecordLaws.{HasCommandRecord}

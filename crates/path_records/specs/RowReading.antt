@@ -5,9 +5,9 @@ use Rattle.std.specs.Global.{Global}
 use denote.Param.Members.{Shared}
 use Rattle.path_records.specs.declared.error.DbError.{DbError}
 use Rattle.path_records.specs.declared.error.DbError.TheVariants.{NoMemory}
-use Rattle.path_db.specs.declared.row.Row.{Row}
-use Rattle.path_db.specs.Database.{IsDatabase}
-use Rattle.path_db.specs.Row.{row_views}
+use Rattle.row_map.specs.declared.row.Row.{Row}
+use Rattle.row_map.specs.Database.{IsDatabase}
+use Rattle.row_map.specs.Row.{row_views}
 use Rattle.path_records.specs.RowRecord.{rows_encoding}
 use Rattle.path_records.specs.RowsReader.{AreRefused, AreReadOn}
 

@@ -13,7 +13,7 @@ use Rattle.seg_core.specs.Segment.{segment_decoding, segment_outline}
 use Rattle.seg_core.specs.Encoding.{segment_encoding}
 use Rattle.path_records.specs.declared.error.DbError.{DbError}
 use Rattle.path_records.specs.declared.error.DbError.TheVariants.{BadRecord, Order}
-use Rattle.path_db.specs.Database.{RowView, key_order}
+use Rattle.row_map.specs.Database.{RowView, key_order}
 use Rattle.path_records.specs.RecordSteps.{◌>>=◌, demand}
 
 -- ---- writing

@@ -8,7 +8,7 @@ use Rattle.byte_lists.specs.Content.{AreBytes}
 use Rattle.byte_lists.specs.Numbers.{four_at}
 use Rattle.seg_core.specs.Encoding.{IsSegment}
 use Rattle.seg_slots.specs.Message.{last_of}
-use Rattle.path_db.specs.Database.{RowView, key_of, IsDatabase}
+use Rattle.row_map.specs.Database.{RowView, key_of, IsDatabase}
 use Rattle.path_records.specs.declared.error.DbError.{DbError}
 use Rattle.path_records.specs.declared.error.DbError.TheVariants.{BadRecord, Order}
 use Rattle.path_records.specs.declared.key.Key.{Key}

@@ -2,8 +2,8 @@
 use Rattle.std.specs.Prelude.{◌≡◌, ℕ, ◌≤◌, false, List, ◌++◌, length, drop, Err}
 use Rattle.path_records.specs.declared.error.DbError.{DbError}
 use Rattle.path_records.specs.declared.rows_reader.RowsReader.TheInside.{Inside}
-use Rattle.path_db.specs.Database.{RowView, IsDatabase}
-use Rattle.path_db.specs.Row.{row_views}
+use Rattle.row_map.specs.Database.{RowView, IsDatabase}
+use Rattle.row_map.specs.Row.{row_views}
 use Rattle.path_records.specs.RowRecord.{rows_encoding, rows_decoding, has_row}
 
 -- The bytes that were fed: the records of the rows that were read, and the bytes after them.

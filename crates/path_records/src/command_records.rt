@@ -6,7 +6,7 @@ ghost use Rattle.seg_core.specs.Encoding.{IsSegment};
 ghost use Rattle.seg_core.specs.Registration.{type_number};
 ghost use Rattle.path_records.specs.declared.error.DbError.TheVariants.{NoMemory};
 ghost use Rattle.path_records.specs.RecordSteps.{GivesRecord, ReadsRecord};
-ghost use Rattle.path_db.specs.Database.{AreWhole};
+ghost use Rattle.row_map.specs.Database.{AreWhole};
 ghost use Rattle.path_db.specs.Command.{HasWholeSegments};
 ghost use Rattle.path_records.specs.RowRecord.{rows_encoding, HasOutline};
 ghost use Rattle.path_records.specs.CommandRecord.{IsWithinLimits, command_encoding, items_decoding, registration_record_decoding, purge_decoding, removal_decoding, command_decoding, WantsItems, CommandWantsMemory};
@@ -15,7 +15,8 @@ use crate::error::DbError;
 use crate::format::{PURGE_KIND, REGISTER_KIND, REMOVE_KIND};
 use crate::row_records::{put_row, read_row, type_from};
 use byte_lists::read_u64;
-use path_db::{Command, ROW_HEAD, Registration, type_byte};
+use path_db::{Command, Registration};
+use row_map::{ROW_HEAD, type_byte};
 use seg_core::{MOST_REGISTERED, MOST_REGISTERED_BYTES, SegType, Segment};
 use std::alloc::{AllocError, Global};
 

@@ -2,12 +2,13 @@
 
 ghost use Rattle.std.specs.Prelude.{◌≡◌, ◌↔◌, ◌+◌, ◌*◌, ◌≤◌, true, length, IsTrue};
 ghost use Rattle.path_db.specs.declared.command.Command.TheVariants.{Register};
-ghost use Rattle.path_db.specs.Database.{AreWhole};
+ghost use Rattle.row_map.specs.Database.{AreWhole};
 ghost use Rattle.path_records.specs.CommandRecord.{IsWithinLimits, segments_len, command_encoding};
 ghost use Rattle.path_records.specs.RecordLaws.{HasCommandRecord};
 
 use crate::format::{COMMAND_HEAD, PURGE_RECORD};
-use path_db::{Command, ROW_HEAD};
+use path_db::Command;
+use row_map::ROW_HEAD;
 use seg_core::{MOST_REGISTERED, MOST_REGISTERED_BYTES, SegType, Segment, encoded_len};
 
 /// The number of bytes of a command's record.

@@ -2,15 +2,15 @@
 
 ghost use Rattle.std.specs.Prelude.{◌≡◌, ◌≢◌, ◌≤◌, ◌++◌, true, false, length, drop, IfSome, IfOk, IfErr};
 ghost use Rattle.path_records.specs.declared.error.DbError.TheVariants.{NoMemory};
-ghost use Rattle.path_db.specs.Database.{IsDatabase};
-ghost use Rattle.path_db.specs.Row.{row_views};
+ghost use Rattle.row_map.specs.Database.{IsDatabase};
+ghost use Rattle.row_map.specs.Row.{row_views};
 ghost use Rattle.path_records.specs.RowRecord.{rows_encoding, has_row};
 ghost use Rattle.path_records.specs.RowsReader.{AreRowsOf, AreRefused, AreReadOn};
 
 use crate::error::DbError;
 use crate::row_reading::read_on;
 use crate::row_records::{is_above_last, size_of_row};
-use path_db::Row;
+use row_map::Row;
 use std::alloc::Global;
 use std::thread::{Threads, join};
 

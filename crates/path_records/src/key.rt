@@ -3,11 +3,11 @@
 ghost use Rattle.std.specs.Prelude.{◌≡◌};
 ghost use Rattle.std.specs.Ordering.{nat_cmp};
 ghost use Rattle.std.specs.Cmp.Lexicographic.{slice_cmp};
-ghost use Rattle.path_db.specs.Database.{key_of};
-ghost use Rattle.path_db.specs.Row.{row_view};
+ghost use Rattle.row_map.specs.Database.{key_of};
+ghost use Rattle.row_map.specs.Row.{row_view};
 ghost use Rattle.path_records.specs.Key.{key_bytes};
 
-use path_db::Row;
+use row_map::Row;
 use seg_check::seg_id;
 use seg_core::{SegType, Segment};
 use std::cmp::Ordering;
@@ -23,7 +23,7 @@ pub struct Key {
 
 impl Key {
     /// The key of a segment of a type. The call computes the id.
-    #[tactic(auto, unfolding(path_db::specs::Database::key_of))]
+    #[tactic(auto, unfolding(row_map::specs::Database::key_of))]
     pub fn of(kind: SegType, segment: &Segment) -> Key
         ensures { key_bytes result ≡ key_of (kind, segment.now) }
     {
@@ -34,7 +34,7 @@ impl Key {
     }
 
     /// The key of a row. The id is the row's.
-    #[tactic(auto, unfolding(path_db::specs::Database::key_of))]
+    #[tactic(auto, unfolding(row_map::specs::Database::key_of))]
     pub fn of_row(row: &Row) -> Key
         ensures { key_bytes result ≡ key_of (row_view row.now) }
     {

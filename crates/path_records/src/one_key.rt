@@ -2,14 +2,16 @@
 
 ghost use Rattle.std.specs.Prelude.{◌≡◌, not, IfOk};
 ghost use Rattle.std.specs.Option.{option_map};
-ghost use Rattle.path_db.specs.Database.{key, is_under};
-ghost use Rattle.path_db.specs.CommandLaws.{left_by_put, left_by_puts, kept_if, left_under, left_under_all};
-ghost use Rattle.path_db.specs.Command.{is_valid_beyond};
-ghost use Rattle.path_db.specs.Row.{row_view};
+ghost use Rattle.row_map.specs.Database.{key, is_under};
+ghost use Rattle.path_db.specs.CommandLaws.{left_under, left_under_all};
+ghost use Rattle.row_map.specs.Left.{left_by_put, left_by_puts, kept_if};
+ghost use Rattle.row_map.specs.Drops.{is_valid_beyond};
+ghost use Rattle.row_map.specs.Row.{row_view};
 ghost use Rattle.path_records.specs.Key.{key_bytes};
 
 use crate::key::Key;
-use path_db::{Command, Row};
+use path_db::Command;
+use row_map::Row;
 use seg_check::expiry;
 use seg_core::{SegType, Segment};
 use std::alloc::AllocError;

@@ -6,14 +6,15 @@ ghost use Rattle.seg_core.specs.Registration.{type_of};
 ghost use Rattle.seg_core.specs.Segment.{segment_outline};
 ghost use Rattle.path_records.specs.declared.error.DbError.TheVariants.{NoMemory, BadRecord};
 ghost use Rattle.path_records.specs.RecordSteps.{GivesRecord, ReadsRecord};
-ghost use Rattle.path_db.specs.Database.{IsDatabase, AreWhole};
-ghost use Rattle.path_db.specs.Row.{row_view, row_views};
+ghost use Rattle.row_map.specs.Database.{IsDatabase, AreWhole};
+ghost use Rattle.row_map.specs.Row.{row_view, row_views};
 ghost use Rattle.path_records.specs.RowRecord.{row_record, rows_encoding, row_size, has_row, record_of, row_decoding, spelled_segment, HasOutline, is_row_above, rows_decoding};
 ghost use Rattle.seg_slots.specs.Message.{last_of};
 
 use crate::error::DbError;
 use byte_lists::read_u32;
-use path_db::{PathDb, ROW_HEAD, Row, Rows, type_byte};
+use path_db::PathDb;
+use row_map::{ROW_HEAD, Row, Rows, type_byte};
 use seg_core::{
     SegError, SegType, Segment, encoded_len, is_encoding_of, put_segment, read_segment,
 };

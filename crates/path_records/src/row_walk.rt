@@ -2,8 +2,8 @@
 
 ghost use Rattle.std.specs.Prelude.{◌≡◌, ◌≢◌, ◌≤◌, ◌<◌, ◌∷◌, ◌++◌, [], List, ℕ, length, drop, true, false, IfOk, IfErr, IfSome, IfNone, OnOk, OnErr, MatchOption, nat_lt, IsTrue, ◌↔◌};
 ghost use Rattle.path_records.specs.declared.error.DbError.TheVariants.{NoMemory, BadRecord};
-ghost use Rattle.path_db.specs.Database.{RowView};
-ghost use Rattle.path_db.specs.Row.{row_view};
+ghost use Rattle.row_map.specs.Database.{RowView};
+ghost use Rattle.row_map.specs.Row.{row_view};
 ghost use Rattle.path_records.specs.RowRecord.{has_row, row_size, HasOutline};
 ghost use Rattle.path_records.specs.RowsReader.{AreRefused};
 ghost use Rattle.path_records.specs.RowWalk.{HasGiven, IsNextRow, IsNoNextRow, IsRowTooLong, IsRowCutShort, is_above_key};
@@ -12,7 +12,7 @@ use crate::error::DbError;
 use crate::key::Key;
 use crate::row_records::{read_row, size_of_row};
 use byte_lists::{drop_front, read_u32};
-use path_db::{ROW_HEAD, Row};
+use row_map::{ROW_HEAD, Row};
 use seg_core::MOST_SEGMENT_BYTES;
 use std::alloc::{AllocError, Global};
 use std::marker::Model;

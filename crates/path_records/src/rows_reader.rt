@@ -3,13 +3,14 @@
 ghost use Rattle.std.specs.Prelude.{◌≡◌, ◌≢◌, ◌<◌, ◌≤◌, ◌++◌, [], length, drop, IfOk, IfErr, IsOk};
 ghost use Rattle.path_records.specs.declared.error.DbError.TheVariants.{NoMemory};
 ghost use Rattle.path_records.specs.RecordSteps.{GivesRecord};
-ghost use Rattle.path_db.specs.Database.{IsDatabase};
+ghost use Rattle.row_map.specs.Database.{IsDatabase};
 ghost use Rattle.path_records.specs.RowRecord.{rows_decoding};
 ghost use Rattle.path_records.specs.RowsReader.{AreRefused};
 
 use crate::error::DbError;
 use crate::row_reading::{OneThread, RowReading};
-use path_db::{PathDb, Row};
+use path_db::PathDb;
+use row_map::Row;
 use std::alloc::{AllocError, Global};
 use std::marker::Model;
 

@@ -14,9 +14,10 @@ use Rattle.std.proofs.lemmas.List.{length-take, length-append, take-append-drop,
 use Rattle.std.proofs.lemmas.List.Elements.{filter_agree, filter_passes, recursion_from_All}
 use Rattle.seg_core.specs.Registration.{type_number}
 use Rattle.seg_core.specs.Digest.{segment_digest}
-use Rattle.path_db.specs.Database.{RowView, key, key_of, key_order, IsRising}
-use Rattle.path_db.specs.Command.{is_valid_beyond}
-use Rattle.path_db.specs.Answer.{matches, is_after, is_shown, answer_of}
+use Rattle.row_map.specs.Database.{RowView, key, key_of, key_order, IsRising}
+use Rattle.row_map.specs.Drops.{is_valid_beyond}
+use Rattle.path_db.specs.Answer.{matches, is_shown, answer_of}
+use Rattle.row_map.specs.Ranges.{is_after}
 use Rattle.seg_lookup.specs.Query.{QueryView}
 use Rattle.seg_lookup.specs.Page.{rows_after, wanted_after, has_more}
 use Rattle.seg_lookup.specs.PageLaws.{FirstPageIsTheAnswer, PagesFollowEachOther, pages_after, last_id, PagesAreComplete}

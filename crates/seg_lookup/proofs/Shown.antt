@@ -6,8 +6,8 @@ use Rattle.std.proofs.lemmas.Bool.{and_parts, lt-ltb}
 use Rattle.std.proofs.lemmas.List.{length-take, take-append-drop}
 use Rattle.std.proofs.lemmas.List.Elements.{Contains-append_left, All-from_recursion}
 use Rattle.seg_check.specs.Expiry.{expiry_of}
-use Rattle.path_db.specs.Database.{RowView, key_order, IsRising}
-use Rattle.path_db.specs.Command.{is_valid_beyond}
+use Rattle.row_map.specs.Database.{RowView, key_order, IsRising}
+use Rattle.row_map.specs.Drops.{is_valid_beyond}
 use Rattle.path_db.specs.Answer.{matches, is_shown, answer_of}
 use Rattle.seg_lookup.specs.Query.{QueryView}
 use Rattle.seg_lookup.specs.AnswerLaws.{IsWanted, IsFullBelow, AnswersAreShort, AnswersAreWanted, AnswersRise, AnswersAreComplete}

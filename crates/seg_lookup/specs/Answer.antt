@@ -1,6 +1,6 @@
 -- The rows of a database that a query shows.
 use Rattle.std.specs.Prelude.{ℕ, List}
-use Rattle.path_db.specs.Database.{RowView}
+use Rattle.row_map.specs.Database.{RowView}
 use Rattle.path_db.specs.Answer.{answer_of}
 use Rattle.seg_lookup.specs.declared.answers.TheConstants.{ANSWER_LIMIT}
 use Rattle.seg_lookup.specs.Query.{QueryView}

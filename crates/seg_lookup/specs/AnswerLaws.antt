@@ -3,7 +3,7 @@ use Rattle.std.specs.Prelude.{◌≡◌, ℕ, ◌<◌, ◌≤◌, ◌⊎◌, Lis
 use Rattle.std.specs.List.{Contains, AllByRecursion}
 use Rattle.std.specs.declared.cmp.Ordering.TheVariants.{Less}
 use Rattle.seg_check.specs.Expiry.{expiry_of}
-use Rattle.path_db.specs.Database.{RowView, key_order, IsRising}
+use Rattle.row_map.specs.Database.{RowView, key_order, IsRising}
 use Rattle.path_db.specs.Answer.{matches}
 use Rattle.seg_lookup.specs.Query.{QueryView}
 use Rattle.seg_lookup.specs.Answer.{answer_within}

@@ -1,7 +1,8 @@
 -- Pages of what a query shows. A page begins after an id, or at the first row.
 use Rattle.std.specs.Prelude.{ℕ, List, Bool, length, filter, nat_lt, Option, Some, None}
-use Rattle.path_db.specs.Database.{RowView}
-use Rattle.path_db.specs.Answer.{is_after, is_shown}
+use Rattle.row_map.specs.Database.{RowView}
+use Rattle.path_db.specs.Answer.{is_shown}
+use Rattle.row_map.specs.Ranges.{is_after}
 use Rattle.seg_lookup.specs.declared.answers.TheConstants.{ANSWER_LIMIT}
 use Rattle.seg_lookup.specs.Query.{QueryView}
 use Rattle.seg_lookup.specs.Answer.{answer_to}

@@ -3,7 +3,7 @@ use Rattle.std.specs.Prelude.{◌≡◌, ℕ, zero, suc, ◌*◌, ◌≤◌, Lis
 use Rattle.std.specs.List.{last_or}
 use Rattle.std.specs.Option.{option_map}
 use Rattle.seg_core.specs.Digest.{segment_digest}
-use Rattle.path_db.specs.Database.{RowView, IsRising}
+use Rattle.row_map.specs.Database.{RowView, IsRising}
 use Rattle.seg_lookup.specs.Query.{QueryView}
 use Rattle.seg_lookup.specs.Answer.{answer_to}
 use Rattle.seg_lookup.specs.Page.{wanted_after, answer_after, has_more}

@@ -1,16 +1,13 @@
 use Rattle.std.proofs.Common.{rules, ◌≡◌, ◌<◌, true, [], ◌∷◌, length, subst, arith}
-use Rattle.isd_as.specs.IsdAs.{isd_as_number}
-use Rattle.path_db.specs.Answer.{is_shown, answer_of}
-use Rattle.path_db.specs.Row.{row_view}
+use Rattle.row_map.specs.Row.{row_view}
+use Rattle.path_db.specs.Wanted.{is_wanted}
 use Rattle.path_db.proofs.ShownLeft.{ShowsAll, shown_enough, shown_whole, some_left}
 use Rattle.path_db.proofs.answers.first_shown.Goals as goal
 use Rattle.path_db.proofs.answers.first_shown.Goals.{in-None, in-Some+then-len-limit}
 
 pub returns-clause-same : goal.returns-clause-same
-unfolding answer_of
 returns-clause-same c =
-    let query = c.args.wanted in
-    let wanted = is_shown query.kind (isd_as_number query.start) (isd_as_number query.end) query.moment in
+    let wanted = is_wanted c.args.wanted in
     elim c.match-next.branch [
       | in-None w ↦
           let none : c.loop-row.row-iterator ≡ [] = search (rules, w.in-None) in
@@ -21,10 +18,8 @@ returns-clause-same c =
     ]
 
 pub returns-in_err-try_clone-clause-memory : goal.returns-in_err-try_clone-clause-memory
-unfolding answer_of
 returns-in_err-try_clone-clause-memory c =
-    let query = c.args.wanted in
-    let wanted = is_shown query.kind (isd_as_number query.start) (isd_as_number query.end) query.moment in
+    let wanted = is_wanted c.args.wanted in
     let asked : length c.loop-row.found.items < c.args.limit = omega (arith, c.loop-row.invariant.few, c.if-len-limit.false, c.len.ensures, c.loop-row.found.ok.0) in
     let row = row_view c.in-Some.row.now in
     let passes : wanted row ≡ true = search (rules, c.if-is_shown) in
@@ -35,10 +30,8 @@ returns-in_err-try_clone-clause-memory c =
     search (rules, some)
 
 pub returns-in_err-push-clause-memory : goal.returns-in_err-push-clause-memory
-unfolding answer_of
 returns-in_err-push-clause-memory c =
-    let query = c.args.wanted in
-    let wanted = is_shown query.kind (isd_as_number query.start) (isd_as_number query.end) query.moment in
+    let wanted = is_wanted c.args.wanted in
     let asked : length c.loop-row.found.items < c.args.limit = omega (arith, c.loop-row.invariant.few, c.if-len-limit.false, c.len.ensures, c.loop-row.found.ok.0) in
     let row = row_view c.in-Some.row.now in
     let passes : wanted row ≡ true = search (rules, c.if-is_shown) in

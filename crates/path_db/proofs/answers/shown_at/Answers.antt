@@ -1,6 +1,5 @@
 use Rattle.std.proofs.Common.{rules, ◌≡◌, [], ◌∷◌, length, ap, ◌∙◌, arith}
 use Rattle.std.specs.List.{filter}
-use Rattle.path_db.specs.Answer.{answer_of}
 use Rattle.path_db.specs.Wanted.{is_wanted}
 use Rattle.path_db.specs.Walk.{rows_at, rows_there}
 use Rattle.path_db.proofs.ShownFirst.{first_enough, first_whole, first_some}
@@ -8,7 +7,6 @@ use Rattle.path_db.proofs.answers.shown_at.Goals as goal
 use Rattle.path_db.proofs.answers.shown_at.Goals.{in-Some+then-len-limit, in_default}
 
 pub returns-clause-same : goal.returns-clause-same
-unfolding answer_of
 returns-clause-same c =
     let wanted = is_wanted c.args.wanted in
     let all = rows_at c.args.rows.now c.args.index_keys in
@@ -23,7 +21,6 @@ returns-clause-same c =
     ]
 
 pub returns-in_err-append_shown-clause-memory : goal.returns-in_err-append_shown-clause-memory
-unfolding answer_of
 returns-in_err-append_shown-clause-memory c =
     let wanted = is_wanted c.args.wanted in
     let all = rows_at c.args.rows.now c.args.index_keys in

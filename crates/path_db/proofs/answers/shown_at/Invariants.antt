@@ -1,4 +1,4 @@
-use Rattle.std.proofs.Common.{◌≤◌, length}
+use Rattle.std.proofs.Common.{◌+◌, ◌≤◌, length}
 use Rattle.std.specs.List.{AllByRecursion}
 use Rattle.seg_core.specs.Encoding.{IsSegment}
 use Rattle.path_db.specs.Walk.{rows_at}
@@ -11,6 +11,7 @@ invariant-loop-index_key l = record {
   shown : ShowsFirst l.limit (is_wanted l.wanted) (rows_at l.rows l.fn.index_keys) l.found.items (rows_at l.rows l.index_keys);
   few : length l.found.items ≤ l.limit;
   whole : AllByRecursion IsSegment l.found.items;
+  counted : l.visits.count + l.visits.left ≤ l.fn.visits.count + l.fn.visits.left;
 }
 
 abbrev pub decreases-loop-index_key : goal.decreases-loop-index_key

@@ -1,4 +1,4 @@
-use Rattle.path_db.proofs.Keys.{commands_append}
+use Rattle.path_db.proofs.Commands.{commands_append}
 use Rattle.path_db.proofs.command_laws.commands_append.Goals as goal
 
 pub returns : goal.returns

@@ -1,4 +1,4 @@
-use Rattle.path_db.proofs.Keys.{commands_keep_database}
+use Rattle.path_db.proofs.Commands.{commands_keep_database}
 use Rattle.path_db.proofs.command_laws.commands_keep_database.Goals as goal
 
 pub returns-clause-empty : goal.returns-clause-empty

@@ -1,4 +1,4 @@
-use Rattle.path_db.proofs.Canon.{database_is_canonical}
+use Rattle.row_map.proofs.Exports.{database_is_canonical}
 use Rattle.path_db.proofs.command_laws.database_is_canonical.Goals as goal
 
 pub returns : goal.returns

@@ -1,4 +1,4 @@
-use Rattle.path_db.proofs.Keys.{keys_are_separate}
+use Rattle.path_db.proofs.Commands.{keys_are_separate}
 use Rattle.path_db.proofs.command_laws.keys_are_separate.Goals as goal
 
 pub returns : goal.returns

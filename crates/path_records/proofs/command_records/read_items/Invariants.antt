@@ -1,5 +1,5 @@
 use Rattle.std.proofs.Common.{◌≡◌, ◌-◌, ◌<◌}
-use Rattle.path_db.specs.Database.{AreWhole}
+use Rattle.row_map.specs.Database.{AreWhole}
 use Rattle.path_records.specs.RowRecord.{HasOutline}
 use Rattle.path_records.specs.CommandRecord.{items_decoding}
 use Rattle.path_records.proofs.Records.{items_behind}

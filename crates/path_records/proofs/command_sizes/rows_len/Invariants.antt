@@ -1,5 +1,5 @@
 use Rattle.std.proofs.Common.{◌≡◌, ◌+◌, ◌*◌, ◌≤◌, take}
-use Rattle.path_db.specs.Database.{AreWhole}
+use Rattle.row_map.specs.Database.{AreWhole}
 use Rattle.path_records.specs.CommandRecord.{segments_len}
 use Rattle.path_records.proofs.command_sizes.rows_len.Given as goal
 

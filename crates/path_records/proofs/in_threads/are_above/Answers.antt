@@ -1,5 +1,5 @@
 use Rattle.std.proofs.Common.{sym, ◌∙◌}
-use Rattle.path_db.specs.Row.{row_views}
+use Rattle.row_map.specs.Row.{row_views}
 use Rattle.path_records.proofs.RowRuns.{database_behind, found_above}
 use Rattle.path_records.proofs.in_threads.are_above.Goals as goal
 

@@ -1,7 +1,7 @@
 use Rattle.std.proofs.Common.{◌≡◌, drop}
 use Rattle.std.specs.Option.{option_map}
 use Rattle.path_db.specs.CommandLaws.{left_under_all}
-use Rattle.path_db.specs.Row.{row_view}
+use Rattle.row_map.specs.Row.{row_view}
 use Rattle.path_records.specs.Key.{key_bytes}
 use Rattle.path_records.proofs.one_key.row_after.Given as goal
 

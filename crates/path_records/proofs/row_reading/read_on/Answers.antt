@@ -3,8 +3,8 @@ use Rattle.std.proofs.lemmas.List.{map-append}
 use Rattle.std.proofs.lemmas.Result.{err_from_is_err_and}
 use Rattle.byte_lists.specs.Content.{AreBytes}
 use Rattle.seg_slots.specs.Message.{last_of}
-use Rattle.path_db.specs.Database.{RowView}
-use Rattle.path_db.specs.Row.{row_view, row_views}
+use Rattle.row_map.specs.Database.{RowView}
+use Rattle.row_map.specs.Row.{row_view, row_views}
 use Rattle.path_records.specs.RowRecord.{has_row, row_size, is_row_above}
 use Rattle.path_records.proofs.Spelled.{bytes_drop, has_room}
 use Rattle.path_records.proofs.RowPieces.{database_more, encoded_more, refused_on, falls_on, left_more}

@@ -1,6 +1,6 @@
 use Rattle.std.proofs.Common.{◌≡◌, ◌≤◌, ◌-◌, ◌++◌, length, drop}
-use Rattle.path_db.specs.Database.{IsDatabase}
-use Rattle.path_db.specs.Row.{row_views}
+use Rattle.row_map.specs.Database.{IsDatabase}
+use Rattle.row_map.specs.Row.{row_views}
 use Rattle.path_records.specs.RowRecord.{rows_encoding}
 use Rattle.path_records.proofs.row_reading.read_on.Given as goal
 

@@ -1,8 +1,8 @@
 use Rattle.std.proofs.Common.{ℕ, List, ap, ◌∙◌}
 use Rattle.std.specs.Ordering.{nat_cmp, is_lt}
 use Rattle.std.specs.Cmp.Lexicographic.{slice_cmp}
-use Rattle.path_db.specs.Database.{key, key_of}
-use Rattle.path_db.specs.Row.{row_view}
+use Rattle.row_map.specs.Database.{key, key_of}
+use Rattle.row_map.specs.Row.{row_view}
 use Rattle.path_records.proofs.RowsRead.{above_seen}
 use Rattle.path_records.proofs.row_records.is_above_last.Goals as goal
 

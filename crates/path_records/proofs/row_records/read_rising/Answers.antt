@@ -2,8 +2,8 @@ use Rattle.std.proofs.Common.{rules, ◌≡◌, ◌<◌, true, false, [], ◌∷
 use Rattle.std.proofs.lemmas.List.{map-append}
 use Rattle.seg_slots.specs.Message.{last_of}
 use Rattle.path_records.specs.declared.error.DbError.{DbError}
-use Rattle.path_db.specs.Database.{RowView}
-use Rattle.path_db.specs.Row.{row_view, row_views}
+use Rattle.row_map.specs.Database.{RowView}
+use Rattle.row_map.specs.Row.{row_view, row_views}
 use Rattle.path_records.specs.RowRecord.{row_decoding, rows_decoding, is_row_above}
 use Rattle.path_records.proofs.Records.{whole_more}
 use Rattle.path_records.proofs.RowsRead.{rows_begun, row_next, row_refused, row_falls, rows_done}

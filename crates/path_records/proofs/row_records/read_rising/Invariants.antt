@@ -1,6 +1,6 @@
 use Rattle.std.proofs.Common.{◌≡◌, length, ◌⊎◌}
-use Rattle.path_db.specs.Database.{AreWhole}
-use Rattle.path_db.specs.Row.{row_views}
+use Rattle.row_map.specs.Database.{AreWhole}
+use Rattle.row_map.specs.Row.{row_views}
 use Rattle.path_records.specs.RowRecord.{rows_decoding, HasOutline}
 use Rattle.path_records.proofs.RowsRead.{rows_behind}
 use Rattle.path_records.proofs.row_records.read_rising.Given as goal

@@ -1,6 +1,6 @@
 use Rattle.std.proofs.Common.{rules, ◌<◌, length, arith}
 use Rattle.std.proofs.lemmas.List.{length-map}
-use Rattle.path_db.specs.Row.{row_view, row_views}
+use Rattle.row_map.specs.Row.{row_view, row_views}
 use Rattle.path_records.proofs.Outlined.{some_outlined}
 use Rattle.path_records.proofs.RowsBack.{rows_read}
 use Rattle.path_records.proofs.row_records.read_rows.Goals as goal

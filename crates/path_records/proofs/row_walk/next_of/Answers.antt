@@ -1,7 +1,7 @@
 use Rattle.std.proofs.Common.{rules, arith, inl, inr, ◌≡◌, ℕ, List, true, false, drop, refl, sym, ap, subst, ◌∙◌}
 use Rattle.std.proofs.lemmas.Result.{err_from_is_err_and}
-use Rattle.path_db.specs.Database.{RowView}
-use Rattle.path_db.specs.Row.{row_view}
+use Rattle.row_map.specs.Database.{RowView}
+use Rattle.row_map.specs.Row.{row_view}
 use Rattle.path_records.specs.RowRecord.{has_row, row_decoding}
 use Rattle.path_records.specs.RowWalk.{is_above_key}
 use Rattle.path_records.proofs.row_walk.next_of.Goals as goal

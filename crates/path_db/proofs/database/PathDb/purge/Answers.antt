@@ -1,7 +1,7 @@
 use Rattle.std.proofs.Common.{◌≡◌, ◌-◌, ℕ, List, not, length, sym, ap, ◌∙◌, arith}
 use Rattle.std.specs.List.{count_by}
-use Rattle.path_db.specs.Database.{RowView, rows_len}
-use Rattle.path_db.specs.Command.{is_valid_beyond, database_after_purge}
+use Rattle.row_map.specs.Database.{RowView, rows_len}
+use Rattle.row_map.specs.Drops.{is_valid_beyond, database_after_purge}
 use Rattle.path_db.specs.Outcome.{outcome_of_drops}
 use Rattle.path_db.proofs.Drops.{dropped_count, fewer_left, fewer_bytes}
 use Rattle.path_db.proofs.database.PathDb.purge.Goals as goal
@@ -15,15 +15,16 @@ returns-then-outlasts-clause-outcome c =
     c.dropped.ensures ∙ ap outcome_of_drops none ∙ ap (λ l. outcome_of_drops (count_by (λ row. not (is_valid_beyond c.args.moment row)) l)) c.self.view_is
 
 pub loop-walk-smaller : goal.loop-walk-smaller
-loop-walk-smaller c = c.drop_next.ensures.dropped c.loop-walk-test.true
+loop-walk-smaller c = omega (arith, c.purge_next.ensures.onwards c.loop-walk-test.true, c.purge_next.ensures.within)
 
 pub loop-walk-preserved : goal.loop-walk-preserved
 loop-walk-preserved c =
     let at = c.loop-walk.invariant.moment in
     record {
-      purged = sym (ap (database_after_purge c.drop_next.new.self) at) ∙ c.drop_next.ensures.others ∙ ap (database_after_purge c.loop-walk.self) at ∙ c.loop-walk.invariant.purged;
-      passed = c.drop_next.ensures.passed;
-      moment = c.drop_next.ensures.moment ∙ at;
+      purged = sym (ap (database_after_purge c.purge_next.new.self) at) ∙ c.purge_next.ensures.others ∙ ap (database_after_purge c.loop-walk.self) at ∙ c.loop-walk.invariant.purged;
+      passed = c.purge_next.ensures.passed;
+      within = c.purge_next.ensures.within;
+      moment = c.purge_next.ensures.moment ∙ at;
     }
 
 -- the rows once no expired one is left
@@ -33,12 +34,12 @@ purged_all moment at start before now e others none purged = sym none ∙ others
 
 pub returns-clause-database : goal.returns-clause-database
 returns-clause-database c =
-    purged_all c.args.moment c.loop-walk.walk.moment c.args.self.now c.loop-walk.self c.drop_next.new.self c.loop-walk.invariant.moment c.drop_next.ensures.others (c.drop_next.ensures.none c.loop-walk-test.false) c.loop-walk.invariant.purged
+    purged_all c.args.moment c.loop-walk.walk.moment c.args.self.now c.loop-walk.self c.purge_next.new.self c.loop-walk.invariant.moment c.purge_next.ensures.others (c.purge_next.ensures.none c.loop-walk-test.false) c.loop-walk.invariant.purged
 
 pub overflow_sub-before : goal.overflow_sub-before
 overflow_sub-before c =
     let rows = c.args.self.now in
-    let now = purged_all c.args.moment c.loop-walk.walk.moment rows c.loop-walk.self c.drop_next.new.self c.loop-walk.invariant.moment c.drop_next.ensures.others (c.drop_next.ensures.none c.loop-walk-test.false) c.loop-walk.invariant.purged in
+    let now = purged_all c.args.moment c.loop-walk.walk.moment rows c.loop-walk.self c.purge_next.new.self c.loop-walk.invariant.moment c.purge_next.ensures.others (c.purge_next.ensures.none c.loop-walk-test.false) c.loop-walk.invariant.purged in
     omega (arith, c.len-before.ensures.same, ap length c.self.view_is, ap length now, fewer_left (is_valid_beyond c.args.moment) rows, c.len.ensures.count)
 
 pub returns-clause-fewer : goal.returns-clause-fewer

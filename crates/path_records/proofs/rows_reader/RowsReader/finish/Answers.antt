@@ -1,6 +1,6 @@
 use Rattle.std.proofs.Common.{rules, arith, ◌≡◌, ◌<◌, ℕ, List, length, IsOk, subst}
 use Rattle.std.proofs.lemmas.List.{length-map}
-use Rattle.path_db.specs.Row.{row_view, row_views}
+use Rattle.row_map.specs.Row.{row_view, row_views}
 use Rattle.path_records.specs.RowRecord.{rows_decoding}
 use Rattle.path_records.proofs.RowPieces.{all_read, cut_off, wanted_at}
 use Rattle.path_records.proofs.rows_reader.RowsReader.finish.Goals as goal

@@ -1,6 +1,0 @@
--- One goal, which the search finds itself.
-use Rattle.std.proofs.Common.{rules}
-use Rattle.path_db.proofs.row.Row.try_clone.Goals as goal
-
-pub returns-clause-view : goal.returns-clause-view
-returns-clause-view c = search rules

@@ -1,6 +1,0 @@
--- One goal, which the search finds itself.
-use Rattle.std.proofs.Common.{rules}
-use Rattle.path_db.proofs.row_map.row_key.Goals as goal
-
-pub returns : goal.returns
-returns c = search rules

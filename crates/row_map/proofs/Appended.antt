@@ -1,0 +1,101 @@
+-- A row whose key is above all others: for `put_last`, `map_of` and `index_of`.
+use Rattle.std.proofs.Common.{◌≡◌, ℕ, ◌+◌, ◌<◌, length, get_or, take, drop, Bool, true, false, ◌||◌, List, [], ◌∷◌, ◌++◌, if◌then◌else◌, Some, None, refl, sym, ap, ◌∙◌, subst}
+use Rattle.std.specs.Ordering.{is_eq}
+use Rattle.std.specs.declared.cmp.Ordering.TheVariants.{Less}
+use Rattle.std.proofs.lemmas.Bool.{false≢true}
+use Rattle.std.proofs.lemmas.List.{map-append, take-append-drop}
+use Rattle.end_index.specs.declared.index_key.IndexKey.{IndexKey}
+use Rattle.end_index.specs.IndexKey.{is_same, has}
+use Rattle.row_map.specs.declared.row.Row.{Row}
+use Rattle.row_map.specs.Row.{row_view, row_views}
+use Rattle.row_map.specs.Database.{RowView, key_of, key_order, IsRising, is_under, row_under}
+use Rattle.row_map.specs.RowMap.{HasRowPut, indexed_key}
+use Rattle.row_map.specs.EndKeys.{is_of, is_index_key, ends_at, stands, IsEndIndex}
+use Rattle.row_map.proofs.Order.{AllAbove, turned_less}
+use Rattle.row_map.proofs.Keys.{its_key, under_first}
+use Rattle.row_map.proofs.Canon.{database_is_canonical}
+use Rattle.row_map.proofs.IndexKeys.{EndOf, same_if, same_from, one_index_key, index_key_same, views_more}
+
+-- ---- the first ones of rows
+
+above_front : (low : RowView) (rows more : List RowView) → AllAbove low (rows ++ more) → AllAbove low rows
+above_front low [] more all = tt
+above_front low (row ∷ rows) more all = (all.0, above_front low rows more all.1)
+
+rising_front : (rows more : List RowView) → IsRising (rows ++ more) → IsRising rows
+rising_front [] more rising = tt
+rising_front (row ∷ rows) more rising = (above_front row rows more rising.0, rising_front rows more rising.1)
+
+-- the rows before an index and the one at it
+pub rising_next : (rows : List Row) (i : ℕ) (row : Row) → i < length rows → row ≡ get_or rows i row → IsRising (row_views rows) → IsRising (row_views (take i rows) ++ row_view row ∷ [])
+rising_next rows i row lt is all =
+    let parts = sym (ap row_views (take-append-drop (i + 1) rows)) ∙ map-append row_view (take (i + 1) rows) (drop (i + 1) rows) in
+    subst IsRising (views_more rows i row lt is) (rising_front (row_views (take (i + 1) rows)) (row_views (drop (i + 1) rows)) (subst IsRising parts all))
+
+-- ---- the last one
+
+last_above : (low : RowView) (rows : List RowView) (row : RowView) → AllAbove low (rows ++ row ∷ []) → key_order low row ≡ Less
+last_above low [] row all = all.0
+last_above low (r ∷ rows) row all = last_above low rows row all.1
+
+none_last : (rows : List RowView) (row : RowView) → IsRising (rows ++ row ∷ []) → row_under (key_of row) rows ≡ None
+none_last [] row rising = refl
+none_last (old ∷ rows) row rising =
+    under_first (key_of row) old rows false (ap is_eq (turned_less old row (last_above old rows row rising.0))) ∙ none_last rows row rising.1
+
+-- a key of both rows would be that of one row
+under_first_or_last : (k : List ℕ) (old row : RowView) (rows : List RowView) (b c : Bool) → is_under k old ≡ b → is_under k row ≡ c → key_order old row ≡ Less
+    → row_under k (rows ++ row ∷ []) ≡ (if c then Some row else row_under k rows) → (if b then Some old else row_under k (rows ++ row ∷ [])) ≡ (if c then Some row else (if b then Some old else row_under k rows))
+under_first_or_last k old row rows true true e f below later =
+    let both : is_under (key_of row) old ≡ true = subst (λ l. is_under l old ≡ true) (its_key k row f) e in
+    absurd (false≢true (sym (ap is_eq (turned_less old row below)) ∙ both))
+under_first_or_last k old row rows true false e f below later = refl
+under_first_or_last k old row rows false c e f below later = later
+
+under_last : (k : List ℕ) (rows : List RowView) (row : RowView) → IsRising (rows ++ row ∷ []) → row_under k (rows ++ row ∷ []) ≡ (if is_under k row then Some row else row_under k rows)
+under_last k [] row rising = refl
+under_last k (old ∷ rows) row rising =
+    under_first_or_last k old row rows (is_under k old) (is_under k row) refl refl (last_above old rows row rising.0) (under_last k rows row rising.1)
+
+pub rows_last : (rows new : List RowView) (row : RowView) → IsRising (rows ++ row ∷ []) → IsRising new → HasRowPut rows row new → new ≡ rows ++ row ∷ []
+rows_last rows new row rising after holds = database_is_canonical new (rows ++ row ∷ []) after rising (λ k. holds k ∙ sym (under_last k rows row rising))
+
+-- ---- an index
+
+-- the tests of an index key and of a row's index key are the same
+same_key : (end : EndOf) (p q : IndexKey) (row : RowView) → is_index_key end p row ≡ true → is_same q p ≡ is_index_key end q row
+same_key end p q row its = both (is_same q p) (is_index_key end q row)
+    (λ same. index_key_same end q p row (same_from q p same) ∙ its)
+    (λ other. same_if q p (one_index_key end q p row other its))
+  where
+    both : (a b : Bool) → (a ≡ true → b ≡ true) → (b ≡ true → a ≡ true) → a ≡ b
+    both true b there back = sym (there refl)
+    both false true there back = back refl
+    both false false there back = refl
+
+pub index_last : (end : EndOf) (rows : List RowView) (row : RowView) (p : IndexKey) (before after : List IndexKey) → IsRising (rows ++ row ∷ []) → IsEndIndex end rows before
+    → is_index_key end p row ≡ true → ((q : IndexKey) → has after q ≡ (is_same q p || has before q)) → IsEndIndex end (rows ++ row ∷ []) after
+index_last end rows row p before after rising index its added q =
+    added q ∙ ap (λ b. b || has before q) (same_key end p q row its) ∙ ap (λ b. is_index_key end q row || b) (index q) ∙ at_key (is_under (indexed_key q) row) refl
+    ∙ ap (ends_at end q.isd_as) (sym (under_last (indexed_key q) rows row rising))
+  where
+    or_none : (b : Bool) → (b || false) ≡ b
+    or_none true = refl
+    or_none false = refl
+
+    at_key : (b : Bool) → is_under (indexed_key q) row ≡ b
+        → (is_index_key end q row || stands end rows q) ≡ ends_at end q.isd_as (if is_under (indexed_key q) row then Some row else row_under (indexed_key q) rows)
+    at_key true e =
+        let none : row_under (indexed_key q) rows ≡ None = subst (λ l. row_under l rows ≡ None) (sym (its_key (indexed_key q) row e)) (none_last rows row rising) in
+        rw (e, none) (or_none (is_of (end row.1.entries) q.isd_as))
+    at_key false e = rw e refl
+
+-- an index key more at the end
+pub has_push : (index_keys : List IndexKey) (p q : IndexKey) → has (index_keys ++ p ∷ []) q ≡ (is_same q p || has index_keys q)
+has_push [] p q = refl
+has_push (first ∷ index_keys) p q = ap (λ b. is_same q first || b) (has_push index_keys p q) ∙ exchanged (is_same q first) (is_same q p) (has index_keys q)
+  where
+    exchanged : (a b c : Bool) → (a || (b || c)) ≡ (b || (a || c))
+    exchanged true true c = refl
+    exchanged true false c = refl
+    exchanged false b c = refl

@@ -1,0 +1,18 @@
+mod Lens
+mod Order
+mod Rising
+mod Indices
+mod Ends
+mod Found
+mod Keyed
+mod Typed
+mod After
+mod Tallied
+mod IndexKeys
+mod Keys
+mod Canon
+mod PutRow
+mod Appended
+mod Bucketed
+mod Purged
+pub mod Exports

@@ -1,0 +1,13 @@
+pub mod Database
+pub mod Put
+pub mod Drops
+pub mod Left
+pub mod Ranges
+pub mod Ends
+pub mod Row
+pub mod Buckets
+pub mod RowMap
+pub mod EndKeys
+pub mod Saved
+pub mod TypeCounts
+pub mod Purge

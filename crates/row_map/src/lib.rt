@@ -1,0 +1,37 @@
+//! Rows by their keys, a type and an id, and puts, removals and purges of rows.
+//!
+//! To the layer above, a `RowMap` has the rows that the definitions give after a put and after a
+//! removal, and returns the rows of a type, those after an id, and the one at an index key. It keeps
+//! lower bounds of the moments at which its rows expire: by these `PurgeWalk` finds the next row
+//! that a purge drops. `end_keys.rt` keeps an index of the rows by the ISD-AS at one of their ends.
+#![tactic(auto)]
+
+mod bucket_walk;
+mod change;
+mod end;
+mod end_keys;
+mod expiry_bounds;
+mod format;
+mod key_order;
+mod purge_walk;
+mod row;
+mod row_key;
+mod row_list;
+mod row_map;
+mod row_puts;
+mod row_range;
+mod type_counts;
+
+pub use bucket_walk::BucketWalk;
+pub use change::Change;
+pub use end::{By, End};
+pub use end_keys::{add_all, index_key_of, index_of, isds_number, sweep, touched_keys};
+pub use expiry_bounds::BUCKETS;
+pub use format::{MOST_ROW_BYTES, ROW_HEAD, type_byte};
+pub use purge_walk::PurgeWalk;
+pub use row::Row;
+pub use row_key::RowKey;
+pub use row_list::Rows;
+pub use row_map::{RowMap, map_of};
+pub use row_puts::{Saved, put_row, restore, rows_of, saved_rows};
+pub use row_range::RowRange;
