@@ -7,7 +7,7 @@ use Rattle.byte_lists.specs.Numbers.{four_at, eight_at}
 use Rattle.store_layout.specs.GroupReading.{refuse_unless}
 use Rattle.store_layout.specs.Checkpoint as laws
 use Rattle.store_layout.specs.CheckpointReading.{PairRefusal, BadCheckpoint, NewerFormat, head_in, rows_size, rows_count, with_rows, checkpoint_in}
-use Rattle.path_db.specs.Database.{RowView}
+use Rattle.row_map.specs.Database.{RowView}
 use Rattle.path_records.specs.RowRecord.{rows_decoding, HasOutline}
 use Rattle.ckpt_pair.specs.declared.error.PairError.{PairError}
 use Rattle.ckpt_pair.specs.declared.reading.Front.{Front}

@@ -5,7 +5,7 @@ use Rattle.std.proofs.lemmas.List.{length-append}
 use Rattle.std.proofs.lemmas.List.Concat.{flat_map-cons}
 use Rattle.std.proofs.lemmas.List.Sums.{sum_by-cons}
 use Rattle.seg_core.specs.Encoding.{segment_encoding}
-use Rattle.path_db.specs.Database.{RowView, row_len, rows_len}
+use Rattle.row_map.specs.Database.{RowView, row_len, rows_len}
 use Rattle.path_records.specs.RowRecord.{row_record, rows_encoding}
 
 record_len : (row : RowView) → length (row_record row) ≡ row_len row

@@ -5,7 +5,7 @@ use Rattle.byte_lists.specs.Content.{part}
 use Rattle.byte_lists.proofs.Contents.{bytes-part}
 use Rattle.store_layout.specs.Checkpoint as laws
 use Rattle.store_layout.specs.CheckpointReading.{PairRefusal, head_in, rows_size, rows_count, db_in, with_rows}
-use Rattle.path_db.specs.Database.{RowView}
+use Rattle.row_map.specs.Database.{RowView}
 use Rattle.path_records.specs.RowRecord.{rows_decoding}
 use Rattle.path_records.proofs.RowsBack.{rows_back, rows_spelled}
 use Rattle.store_layout.specs.Limits.{latest}

@@ -2,7 +2,7 @@
 use Rattle.std.proofs.Common.{◌≡◌, ◌≢◌, ℕ, zero, suc, ◌+◌, ◌-◌, ◌<◌, ◌≤◌, Bool, true, false, List, [], ◌∷◌, ◌++◌, length, take, drop, refl, sym, ap, subst, ◌∙◌, arith, append-nil, Ok, Err, Some, None, ne_eqb, eq-eqb}
 use Rattle.std.specs.Prelude.{Result, Option, if◌then◌else◌}
 use Rattle.std.proofs.lemmas.List.{length-append, length-take}
-use Rattle.path_db.specs.Database.{RowView}
+use Rattle.row_map.specs.Database.{RowView}
 use Rattle.path_records.specs.declared.error.DbError.{DbError}
 use Rattle.path_records.specs.RowRecord.{rows_decoding, has_row}
 use Rattle.path_records.specs.RowWalk.{WalkView, HasGiven}

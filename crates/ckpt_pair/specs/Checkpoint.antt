@@ -5,7 +5,7 @@ use Rattle.store_layout.specs.Checkpoint as laws
 use Rattle.store_layout.specs.Checkpoint.{CanBeHead, CanBeCheckpoint}
 use Rattle.store_layout.specs.CheckpointReading.{checkpoint_in}
 use Rattle.store_layout.specs.StoreFormat.{IsStorable}
-use Rattle.path_db.specs.Database.{RowView, IsDatabase, rows_len}
+use Rattle.row_map.specs.Database.{RowView, IsDatabase, rows_len}
 use Rattle.store_layout.specs.Limits.{latest}
 use Rattle.ckpt_pair.specs.Rows.{rows_format}
 

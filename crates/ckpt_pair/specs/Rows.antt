@@ -3,7 +3,7 @@ use Rattle.std.specs.Prelude.{◌≡◌, ℕ, Bool, true, false, List, length, R
 use Rattle.std.proofs.Common.{refl, sym, ap, ◌∙◌, eqb-true}
 use Rattle.store_layout.specs.StoreFormat.{RowsFormat}
 use Rattle.path_records.specs.declared.error.DbError.{DbError}
-use Rattle.path_db.specs.Database.{RowView}
+use Rattle.row_map.specs.Database.{RowView}
 use Rattle.path_records.specs.RowRecord.{rows_encoding, rows_decoding}
 use Rattle.path_records.proofs.RowsBack.{rows_spelled}
 

@@ -2,7 +2,7 @@
 
 ghost use Rattle.std.specs.Prelude.{◌≡◌, ◌<◌, ◌^◌, ◌++◌, List, length, IfOk, OnOk};
 ghost use Rattle.store_layout.specs.Checkpoint.{checkpoint_bytes, checkpoint_encoding, CanBeCheckpoint};
-ghost use Rattle.path_db.specs.Database.{RowView, IsDatabase, rows_len};
+ghost use Rattle.row_map.specs.Database.{RowView, IsDatabase, rows_len};
 ghost use Rattle.path_records.specs.RowRecord.{rows_encoding};
 ghost use Rattle.ckpt_pair.specs.Rows.{rows_format};
 ghost use Rattle.ckpt_pair.specs.Checkpoint.{written_checkpoint};

@@ -2,7 +2,7 @@
 //! memory for them.
 
 ghost use Rattle.std.specs.Prelude.{◌≡◌, ◌≢◌, ◌<◌, ◌++◌, length, IfOk, IfErr, IsOk};
-ghost use Rattle.path_db.specs.Database.{IsDatabase};
+ghost use Rattle.row_map.specs.Database.{IsDatabase};
 ghost use Rattle.path_records.specs.RowRecord.{rows_decoding};
 ghost use Rattle.ckpt_pair.specs.declared.error.PairError.TheVariants.{NoMemory, BadCheckpoint};
 ghost use Rattle.ckpt_pair.specs.Refusals.{GivesPair};

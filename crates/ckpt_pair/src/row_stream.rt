@@ -2,8 +2,8 @@
 //! not kept.
 
 ghost use Rattle.std.specs.Prelude.{◌≡◌, ◌≢◌, ◌+◌, ◌≤◌, ◌<◌, ◌∷◌, ◌++◌, [], List, ℕ, length, take, IfOk, IfErr, IfSome, IfNone, OnOk, OnErr, Some, None, false};
-ghost use Rattle.path_db.specs.Database.{RowView};
-ghost use Rattle.path_db.specs.Row.{row_view};
+ghost use Rattle.row_map.specs.Database.{RowView};
+ghost use Rattle.row_map.specs.Row.{row_view};
 ghost use Rattle.path_records.specs.RowRecord.{rows_decoding, has_row, HasOutline};
 ghost use Rattle.path_records.specs.RowWalk.{HasGiven};
 ghost use Rattle.ckpt_pair.specs.declared.error.PairError.TheVariants.{NoMemory, BadCheckpoint};
@@ -11,8 +11,8 @@ ghost use Rattle.ckpt_pair.specs.Rows.{as_counted};
 ghost use Rattle.ckpt_pair.specs.Stream.{HasStreamed, AreNoStreamedRows, IsRefusedWalk};
 
 use crate::error::PairError;
-use path_db::Row;
 use path_records::{DbError, RowWalk};
+use row_map::Row;
 use std::alloc::{AllocError, Global};
 use std::marker::Model;
 

@@ -7,7 +7,7 @@ use Rattle.byte_lists.proofs.Contents.{bytes-part}
 use Rattle.byte_lists.proofs.Padding.{length-padded}
 use Rattle.sector_dev.specs.Disk.{Disk, IsHonest, reads_of}
 use Rattle.path_db.specs.declared.command.Command.{Command}
-use Rattle.path_db.specs.Database.{RowView, rows_len}
+use Rattle.row_map.specs.Database.{RowView, rows_len}
 use Rattle.path_db.specs.Command.{database_after, database_after_all}
 use Rattle.path_records.specs.RowRecord.{rows_encoding, rows_decoding}
 use Rattle.path_records.proofs.RowsBack.{rows_counted, rows_spelled}
@@ -28,7 +28,7 @@ use Rattle.gate_journal.specs.Scanning.{reading_of}
 use Rattle.ckpt_pair.specs.Reading.{with_head}
 use Rattle.ckpt_pair.specs.Checkpoint.{written_checkpoint}
 use Rattle.ckpt_pair.specs.Rows.{rows_format, as_counted, counted_rows}
-use Rattle.row_edits.specs.Pouring.{PourView, untaken, untaken_len}
+use Rattle.row_edits.specs.Rewriting.{RewriteView, untaken, untaken_len}
 use Rattle.store_open.specs.PathStores.{store_format}
 use Rattle.store_open.specs.declared.error.OpenError.{OpenError}
 use Rattle.store_open.specs.declared.error.OpenError.TheVariants.{NotAStore, Device, Pair, Journal, NoMemory}
@@ -38,7 +38,7 @@ use Rattle.store_open.specs.declared.sealed.SealedError.TheVariants.{NoMemory as
 use Rattle.store_open.specs.Refusals.{ScansSo}
 use Rattle.store_open.specs.Sealed.{SealedHalf, folded_by, folded_behind, folded_in, sealed_half, sealed_error_of}
 use Rattle.ckpt_stream.specs.Merge.{MergeView, IsReady}
-use Rattle.ckpt_stream.specs.Beginning.{checkpoint_from, PoursCheckpoint, MakesFrom, IsMergeOf, MergesSealed}
+use Rattle.ckpt_stream.specs.Beginning.{checkpoint_from, RewritesCheckpoint, MakesFrom, IsMergeOf, MergesSealed}
 use Rattle.ckpt_stream.specs.OldArea.{FrontSo}
 use Rattle.ckpt_stream.specs.Sums.{sums_in, AreSummed}
 use Rattle.ckpt_stream.specs.OldRows.{RowsRefused}
@@ -61,14 +61,16 @@ Area geometry half image head found = checkpoint_in rows_format latest (area_of 
 abbrev pub scan_in : Geometry → Half → List ℕ → Head → Result (Reading Command) JournalRefusal
 scan_in geometry half image head = journal_scan command_format (limits_of head.version) (journal_of geometry half image) head.place
 
-pub half_read : (geometry : Geometry) (half : Half) (image : List ℕ) (head : Head) (found : Option (List RowView)) (rows : List RowView) (scan : Scan)
-    → Area geometry half image head found → found ≡ Some rows → scan_in geometry half image head ≡ Ok (reading_of scan) → scan.sealed ≡ true
-    → sealed_half geometry half image ≡ Some (record { head = head; place = scan.place; rows = database_after_all rows scan.commands.items })
-half_read geometry half image head found rows scan area is scanned sealed =
+pub half_read : (geometry : Geometry) (half : Half) (image : List ℕ) (head : Head) (found : Option (List RowView)) (rows : List RowView) (reading : Reading Command) (place : ℕ) (after : List RowView)
+    → Area geometry half image head found → found ≡ Some rows → scan_in geometry half image head ≡ Ok reading → reading.sealed ≡ true
+    → reading.place ≡ place → after ≡ database_after_all rows reading.commands
+    → sealed_half geometry half image ≡ Some (record { head = head; place = place; rows = after })
+half_read geometry half image head found rows reading place after area is scanned sealed there folded =
     ap (folded_in geometry half image) (area ∙ ap (with_head head) is)
     ∙ ap (folded_behind (record { head = head; db = rows })) scanned
-    ∙ ap (λ (b : Bool). folded_by b (record { head = head; db = rows }) (reading_of scan)) sealed
-    ∙ ap (λ (l : List RowView). let o : Option SealedHalf = Some (record { head = head; place = scan.place; rows = l }) in o) (folded_rows rows scan.commands.items)
+    ∙ ap (λ (b : Bool). folded_by b (record { head = head; db = rows }) reading) sealed
+    ∙ ap (λ (l : List RowView). let o : Option SealedHalf = Some (record { head = head; place = reading.place; rows = l }) in o) (folded_rows rows reading.commands ∙ sym folded)
+    ∙ ap (λ (n : ℕ). let o : Option SealedHalf = Some (record { head = head; place = n; rows = after }) in o) there
 
 -- no rows, or no journal
 none_of_rows : (geometry : Geometry) (half : Half) (image : List ℕ) (head : Head) (found : Option (List RowView)) → Area geometry half image head found → found ≡ None
@@ -205,23 +207,17 @@ pub sectors_len : (epoch place : ℕ) (rows : List RowView) (n : ℕ) → n ≡ 
 sectors_len epoch place rows n is =
     omega (arith, is, length-padded (checkpoint_bytes rows_format (written_checkpoint epoch place rows)), bytes_len epoch place rows)
 
-module _ (geometry : Geometry) (half : Half) (epoch : ℕ) (disk : Disk) (head : Head) (at size count : ℕ) (rows : List RowView) (scan : Scan) (pour made : PourView) (sums : List ℕ)
+module _ (geometry : Geometry) (half : Half) (epoch : ℕ) (disk : Disk) (head : Head) (at size count : ℕ) (rows after : List RowView) (place : ℕ) (commands : List Command) (rewrite made : RewriteView) (sums : List ℕ)
     (area : IsHonest disk → Area geometry half (reads_of disk) head (as_counted count (rows_decoding (part at size (reads_of disk)))))
     (read : IsHonest disk → as_counted count (rows_decoding (part at size (reads_of disk))) ≡ Some rows)
-    (each : IsHonest disk → AreBytes (reads_of disk)) (pours : PoursCheckpoint epoch scan.place rows scan.commands.items pour)
-    (same : IsHonest disk → untaken made (part at size (reads_of disk)) ≡ untaken pour (part at size (reads_of disk)))
+    (each : IsHonest disk → AreBytes (reads_of disk)) (folded : after ≡ database_after_all rows commands) (rewrites : RewritesCheckpoint epoch place rows commands rewrite)
+    (same : IsHonest disk → untaken made (part at size (reads_of disk)) ≡ untaken rewrite (part at size (reads_of disk)))
     (summed : IsHonest disk → AreSummed sums (part at size (reads_of disk)))
   where
-    abbrev After : List RowView
-    After = database_after_all rows scan.commands.items
-
-    abbrev ours : SealedHalf
-    ours = record { head = head; place = scan.place; rows = After }
-
-    makes_from : (note : List RowView) (old : Checkpoint (List RowView)) → note ≡ After → rows_len rows ≡ size → IsHonest disk
+    makes_from : (old : Checkpoint (List RowView)) → rows_len rows ≡ size → IsHonest disk
         → checkpoint_in rows_format latest (area_of geometry half (reads_of disk)) ≡ Ok old
-        → MakesFrom (record { pour = made; size = size; sums = sums; rows = note; epoch = epoch; place = scan.place }) old
-    makes_from note old noted sized honest is =
+        → MakesFrom (record { rewrite = made; size = size; sums = sums; rows = after; epoch = epoch; place = place }) old
+    makes_from old sized honest is =
         let db : rows ≡ old.db = rows_of head rows old (sym (area honest ∙ ap (with_head head) (read honest)) ∙ is) in
         let bytes : part at size (reads_of disk) ≡ rows_encoding old.db =
         rows_bytes (reads_of disk) at size count rows (each honest) (read honest) ∙ ap rows_encoding db in
@@ -230,28 +226,27 @@ module _ (geometry : Geometry) (half : Half) (epoch : ℕ) (disk : Disk) (head :
           makes =
               ap (untaken made) (sym bytes)
               ∙ same honest
-              ∙ ap (untaken pour) (bytes ∙ ap rows_encoding (sym db))
-              ∙ pours.makes
-              ∙ ap (λ (l : List RowView). checkpoint_bytes rows_format (written_checkpoint epoch scan.place l)) (sym noted);
+              ∙ ap (untaken rewrite) (bytes ∙ ap rows_encoding (sym db))
+              ∙ rewrites.makes
+              ∙ ap (λ (l : List RowView). checkpoint_bytes rows_format (written_checkpoint epoch place l)) (sym folded);
           sums = summed honest ∙ ap (sums_in (length sums) 0) bytes;
         }
 
-    pub begun : (note : List RowView) → note ≡ After → rows_len rows ≡ size
-        → (IsHonest disk → scan_in geometry half (reads_of disk) head ≡ Ok (reading_of scan)) → (IsHonest disk → scan.sealed ≡ true)
-        → CanBeCheckpoint rows_format (written_checkpoint epoch scan.place After)
-        → 32 + rows_len After ≤ 512 * geometry.checkpoint → 32 + size ≤ 512 * geometry.checkpoint
-        → untaken_len made ≡ untaken_len pour → IsReady made
-        → IsMergeOf geometry half epoch disk (record { pour = made; size = size; sums = sums; rows = note; epoch = epoch; place = scan.place })
-    begun note noted sized scanned sealed can fits inside len ready = record {
-      sealed = ours;
-      reads = λ honest. half_read geometry half (reads_of disk) head (as_counted count (rows_decoding (part at size (reads_of disk)))) rows scan (area honest) (read honest) (scanned honest) (sealed honest);
-      rows = noted;
+    pub begun : rows_len rows ≡ size → (IsHonest disk → sealed_half geometry half (reads_of disk) ≡ Some (record { head = head; place = place; rows = after }))
+        → CanBeCheckpoint rows_format (written_checkpoint epoch place after)
+        → 32 + rows_len after ≤ 512 * geometry.checkpoint → 32 + size ≤ 512 * geometry.checkpoint
+        → untaken_len made ≡ untaken_len rewrite → IsReady made
+        → IsMergeOf geometry half epoch disk (record { rewrite = made; size = size; sums = sums; rows = after; epoch = epoch; place = place })
+    begun sized sealed can fits inside len ready = record {
+      sealed = record { head = head; place = place; rows = after };
+      reads = sealed;
+      rows = refl;
       place = refl;
       epoch_is = refl;
       can = can;
-      fits = omega (arith, fits, rows_counted After);
+      fits = omega (arith, fits, rows_counted after);
       inside = inside;
-      len = omega (arith, len, pours.len, bytes_len epoch scan.place note, ap rows_len noted);
+      len = omega (arith, len, rewrites.len, bytes_len epoch place after, ap rows_len folded);
       ready = ready;
-      makes = λ honest old is. makes_from note old noted sized honest is;
+      makes = λ honest old is. makes_from old sized honest is;
     }

@@ -5,8 +5,9 @@ use Rattle.std.proofs.lemmas.List.{drop-drop}
 use Rattle.byte_lists.specs.Content.{AreBytes, part}
 use Rattle.byte_lists.specs.Sectors.{whole_sectors, sectors_of}
 use Rattle.byte_lists.proofs.Contents.{length-part, bytes-part}
-use Rattle.path_db.specs.Database.{RowView}
+use Rattle.row_map.specs.Database.{RowView}
 use Rattle.path_db.specs.declared.command.Command.{Command}
+use Rattle.path_db.specs.Command.{database_after_all}
 use Rattle.path_records.specs.RowRecord.{rows_encoding, rows_decoding}
 use Rattle.path_records.proofs.RowsBack.{rows_spelled}
 use Rattle.store_layout.specs.declared.half.Half.{Half}
@@ -29,11 +30,11 @@ use Rattle.store_open.specs.Sealed.{folded_in, folded_behind, sealed_half}
 use Rattle.store_open.proofs.FirstSectors.{part_in_front}
 use Rattle.store_open.proofs.Journals.{journal_sectors, journal_size}
 use Rattle.ckpt_stream.specs.declared.half_read.HalfRead.{HalfRead}
-use Rattle.ckpt_stream.specs.declared.half_read.HalfRead.TheVariants.{Unread, Journal, Rows, Planned}
+use Rattle.ckpt_stream.specs.declared.half_read.HalfRead.TheVariants.{Unread, Journal, Rows, Settled, Planned}
 use Rattle.ckpt_stream.specs.Sums.{sums_in}
 use Rattle.ckpt_stream.specs.OldArea.{IsReadByFront}
-use Rattle.ckpt_stream.specs.HalfRead.{IsHalfRead, IsWithin, IsReadOn}
-use Rattle.ckpt_stream.specs.Preparation.{SealedContents, HasSealed, IsFrontFrom, sealed_reading, IsReadFrom}
+use Rattle.ckpt_stream.specs.HalfRead.{IsHalfRead, IsWithin, AreAllRead, IsReadOn}
+use Rattle.ckpt_stream.specs.Preparation.{SealedContents, HasSealed, IsFrontFrom, sealed_reading, AreAllFrom, IsReadFrom}
 use Rattle.ckpt_stream.proofs.SameJournal.{read_alike, scanned_as}
 
 area_inside : (geometry : Geometry) (half : Half) → area_at geometry half + geometry.checkpoint ≤ image_sectors geometry
@@ -184,6 +185,34 @@ module _ (geometry : Geometry) (half : Half) (reads : List ℕ) (allowed : IsGeo
     row_bytes : (front : Front) → IsFrontFrom contents front → part At front.size reads ≡ rows_encoding db
     row_bytes front from = (λ i. part At (from.size i) reads) ∙ bytes_there
 
+    -- ---- all rows
+
+    all_read : (front : Front) (place : ℕ) (before after : List RowView) (sums : List ℕ) → AreAllFrom contents front place before after sums → AreAllRead geometry half reads front place before after sums
+    all_read front place before after sums from = record {
+      front = front_read front from.front;
+      reading = sealed_reading contents;
+      scanned = scan_read front (sealed_reading contents) from.front refl;
+      sealed = refl;
+      place = from.place;
+      rows = rows_counted front from.front ∙ ap (λ (l : List RowView). Some l) (sym from.rows);
+      after = from.after;
+      summed = from.summed ∙ ap (sums_in (length sums) 0) (sym (row_bytes front from.front));
+    }
+
+    all_from : (front : Front) (place : ℕ) (before after : List RowView) (sums : List ℕ) → 32 + front.size ≤ 512 * geometry.checkpoint
+        → AreAllRead geometry half reads front place before after sums → AreAllFrom contents front place before after sums
+    all_from front place before after sums within on =
+        let from = front_from front within on.front in
+        let found = rows_counted front from in
+        let same : on.reading ≡ sealed_reading contents = scan_from front on.reading from on.scanned in
+        record {
+          front = from;
+          place = sym (ap (λ (r : Reading Command). r.place) same) ∙ on.place;
+          rows = let same = sym on.rows ∙ found in cc;
+          after = on.after ∙ ap (λ (r : Reading Command). database_after_all before r.commands) same;
+          summed = on.summed ∙ ap (sums_in (length sums) 0) (row_bytes front from);
+        }
+
     -- ---- all that is read
 
     pub read_on_half : (read : HalfRead) → IsHalfRead read → IsReadFrom geometry contents read → IsReadOn geometry half reads read
@@ -199,17 +228,13 @@ module _ (geometry : Geometry) (half : Half) (reads : List ℕ) (allowed : IsGeo
     read_on_half (Rows rows) is from = record {
       front = front_read rows.front from.front;
       journal = record { scanned = scan_read rows.front (reading_of rows.journal) from.front from.journal; sealed = ap (λ (r : Reading Command). r.sealed) from.journal };
-      streamed = streams_same rows.front.size rows.front.count from.pushed (part At (512 * rows.first - 32) reads) rows.note.rows rows.stream
+      streamed = streams_same rows.front.size rows.front.count from.pushed (part At (512 * rows.first - 32) reads) rows.note.value rows.stream
           (from.long ∙ sym (pushed_long rows.front rows.first from.front is.inside))
           (from.same ∙ sym (pushed_same rows.front (512 * rows.first - 32) from.front)) from.streamed;
       summed = from.summed ∙ ap (sums_in rows.first 0) (sym (row_bytes rows.front from.front));
     }
-    read_on_half (Planned planned) is from = record {
-      front = front_read planned.front from.front;
-      journal = record { scanned = scan_read planned.front (reading_of planned.journal) from.front from.journal; sealed = ap (λ (r : Reading Command). r.sealed) from.journal };
-      rows = rows_counted planned.front from.front ∙ ap (λ (l : List RowView). Some l) (sym from.rows);
-      summed = from.summed ∙ ap (sums_in (length planned.sums.items) 0) (sym (row_bytes planned.front from.front));
-    }
+    read_on_half (Settled settled) is from = all_read settled.front settled.place settled.note.value settled.after.value settled.sums.items from
+    read_on_half (Planned planned) is from = all_read planned.front planned.place planned.note.value planned.after.value planned.sums.items from
 
     pub read_of_contents : (read : HalfRead) → IsHalfRead read → IsWithin geometry read → IsReadOn geometry half reads read → IsReadFrom geometry contents read
     read_of_contents Unread is within on = tt
@@ -232,15 +257,8 @@ module _ (geometry : Geometry) (half : Half) (reads : List ℕ) (allowed : IsGeo
           streamed = on.streamed;
           summed = on.summed ∙ ap (sums_in rows.first 0) (row_bytes rows.front from);
         }
-    read_of_contents (Planned planned) is within on =
-        let from = front_from planned.front within on.front in
-        let found = rows_counted planned.front from in
-        record {
-          front = from;
-          journal = scan_from planned.front (reading_of planned.journal) from on.journal.scanned;
-          rows = let same = sym on.rows ∙ found in cc;
-          summed = on.summed ∙ ap (sums_in (length planned.sums.items) 0) (row_bytes planned.front from);
-        }
+    read_of_contents (Settled settled) is within on = all_from settled.front settled.place settled.note.value settled.after.value settled.sums.items within on
+    read_of_contents (Planned planned) is within on = all_from planned.front planned.place planned.note.value planned.after.value planned.sums.items within on
 
     -- such a half is a sealed one
     pub is_sealed : sealed_half geometry half reads ≡ None → ⊥

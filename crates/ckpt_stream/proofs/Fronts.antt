@@ -1,6 +1,6 @@
 -- A front that is refused, as the checkpoint that it begins.
 use Rattle.std.proofs.Common.{ℕ, List}
-use Rattle.path_db.specs.Database.{RowView}
+use Rattle.row_map.specs.Database.{RowView}
 use Rattle.store_layout.specs.declared.half.Half.{Half}
 use Rattle.store_layout.specs.Checkpoint.{Checkpoint}
 use Rattle.store_layout.specs.CheckpointReading.{checkpoint_in}

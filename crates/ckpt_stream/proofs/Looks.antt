@@ -1,7 +1,7 @@
 -- A device that is looked at by several calls.
 use Rattle.std.proofs.Common.{◌≡◌, ◌∙◌, ℕ, List, Ok, Err, refl, sym, ap, subst}
 use Rattle.std.specs.Prelude.{Result, IfErr}
-use Rattle.path_db.specs.Database.{RowView}
+use Rattle.row_map.specs.Database.{RowView}
 use Rattle.ckpt_pair.specs.Stream.{StreamView}
 use Rattle.ckpt_stream.specs.OldRows.{RefusesRows}
 use Rattle.ckpt_stream.specs.declared.error.PieceError.{PieceError}

@@ -3,7 +3,7 @@ use Rattle.std.proofs.Common.{◌≡◌, ℕ, ◌+◌, ◌-◌, ◌*◌, ◌≤�
 use Rattle.std.specs.Prelude.{Result, OnOk, IfErr}
 use Rattle.std.proofs.lemmas.List.{drop-drop, take-take, length-take, length-drop, length-append}
 use Rattle.byte_lists.specs.Content.{part}
-use Rattle.path_db.specs.Database.{RowView, rows_len}
+use Rattle.row_map.specs.Database.{RowView, rows_len}
 use Rattle.path_records.specs.RowRecord.{rows_decoding}
 use Rattle.path_records.proofs.RowsBack.{rows_read}
 use Rattle.ckpt_pair.specs.Rows.{as_counted, counted_rows}
@@ -12,25 +12,22 @@ use Rattle.store_open.proofs.FirstSectors.{part_in_front}
 use Rattle.store_open.proofs.Feeds.{split_part}
 use Rattle.store_open.specs.declared.error.OpenError.{OpenError}
 use Rattle.store_open.specs.declared.error.OpenError.TheVariants.{NotAStore, Device, Pair, Journal, NoMemory}
-use Rattle.path_db.specs.declared.command.Command.{Command}
+use Rattle.path_db.specs.Command.{database_after_all}
 use Rattle.store_layout.specs.declared.half.Half.{Half}
-use Rattle.store_layout.specs.GroupReading.{JournalRefusal}
-use Rattle.store_layout.specs.Journal.{Reading}
 use Rattle.store_layout.specs.JournalReading.{journal_scan}
 use Rattle.store_layout.specs.declared.half.Half.TheVariants.{First, Second}
 use Rattle.byte_lists.specs.Sectors.{sectors_of}
 use Rattle.store_layout.specs.Layout.{Geometry, image_sectors, area_at, journal_of}
 use Rattle.store_layout.specs.Limits.{limits_of}
-use Rattle.gate_journal.specs.declared.scanner.Scan.{Scan}
 use Rattle.gate_journal.specs.Commands.{command_format}
 use Rattle.gate_journal.specs.Scanning.{reading_of}
 use Rattle.ckpt_pair.specs.declared.reading.Front.{Front}
 use Rattle.ckpt_stream.specs.declared.old_rows.RowsRead.{RowsRead}
-use Rattle.ckpt_stream.specs.declared.old_rows.PlannedRows.{PlannedRows}
+use Rattle.ckpt_stream.specs.declared.settled.RowsSettled.{RowsSettled}
 use Rattle.ckpt_stream.specs.Sums.{sums_in}
 use Rattle.ckpt_stream.specs.OldArea.{IsReadByFront}
 use Rattle.ckpt_stream.specs.OldRows.{AreStreamed, rows_in, RefusesRows, RowsRefused, GoesOnInRows}
-use Rattle.ckpt_stream.specs.HalfRead.{AreRowsReadOn, ArePlannedOn}
+use Rattle.ckpt_stream.specs.HalfRead.{AreRowsReadOn, AreSettledOn}
 
 -- what was pushed, and the bytes of a window after it
 pub pushed_more : (reads now pushed window : List ℕ) (area first count start : ℕ) → start ≤ 32 → 1 ≤ count → 512 * first + start ≡ 32 + (512 * first - 32)
@@ -99,21 +96,22 @@ pub goes_on : (area : ℕ) (reads : List ℕ) (old new : RowsRead) (result : Res
 goes_on area reads old new (Ok done) on off = on
 goes_on area reads old new (Err e) on off = off
 
--- all rows of a half are planned
-pub planned_on : (geometry : Geometry) (half : Half) (reads : List ℕ) (rows : RowsRead) (planned : PlannedRows) → planned.front ≡ rows.front → planned.journal ≡ rows.journal
-    → planned.sums.items ≡ rows.sums.items → length rows.sums.items ≡ rows.first → AreRowsReadOn geometry half reads rows → rows_in (area_at geometry half) reads rows ≡ Some planned.note.rows → ArePlannedOn geometry half reads planned
-planned_on geometry half reads rows planned front journal sums counted on is = record {
+-- all rows of a half are read
+pub settled_on : (geometry : Geometry) (half : Half) (reads : List ℕ) (rows : RowsRead) (settled : RowsSettled) → settled.front ≡ rows.front → settled.place ≡ rows.journal.place
+    → settled.after.value ≡ database_after_all settled.note.value rows.journal.commands.items → settled.sums.items ≡ rows.sums.items → length rows.sums.items ≡ rows.first
+    → AreRowsReadOn geometry half reads rows → rows_in (area_at geometry half) reads rows ≡ Some settled.note.value → AreSettledOn geometry half reads settled
+settled_on geometry half reads rows settled front place after sums counted on is = record {
   front = subst (λ (f : Front). IsReadByFront f geometry half reads) (sym front) on.front;
-  journal = record {
-    scanned = (λ i. journal_scan command_format (limits_of (front i).head.version) (journal_of geometry half reads) (front i).head.place) ∙ on.journal.scanned
-        ∙ ap (λ (s : Scan). let r : Result (Reading Command) JournalRefusal = Ok (reading_of s) in r) (sym journal);
-    sealed = ap (λ (s : Scan). s.sealed) journal ∙ on.journal.sealed;
-  };
+  reading = reading_of rows.journal;
+  scanned = (λ i. journal_scan command_format (limits_of (front i).head.version) (journal_of geometry half reads) (front i).head.place) ∙ on.journal.scanned;
+  sealed = on.journal.sealed;
+  place = sym place;
   rows = (λ i. as_counted (front i).count (rows_decoding (part (512 * area_at geometry half + 32) (front i).size reads))) ∙ is;
+  after = after;
   summed = sums ∙ on.summed ∙ sym (λ i. sums_in (number i) 0 (part (512 * area_at geometry half + 32) (front i).size reads));
 }
   where
-    number : length planned.sums.items ≡ rows.first
+    number : length settled.sums.items ≡ rows.first
     number = ap length sums ∙ counted
 
 -- the error of rows that are seen
@@ -134,7 +132,7 @@ rows_long geometry half reads first size room fits is =
 
 -- nothing is pushed before the first sector is read
 pub streamed_start : (area : ℕ) (reads : List ℕ) (rows : RowsRead) (front : Front) → rows.front ≡ front → rows.first ≡ 0
-    → HasStreamed front.size front.count [] rows.note.rows rows.stream → AreStreamed area reads rows
+    → HasStreamed front.size front.count [] rows.note.value rows.stream → AreStreamed area reads rows
 streamed_start area reads rows front same none is =
-    subst (λ (f : Front). HasStreamed f.size f.count (part (512 * area + 32) (512 * rows.first - 32) reads) rows.note.rows rows.stream) (sym same)
-    (subst (λ (n : ℕ). HasStreamed front.size front.count (part (512 * area + 32) (512 * n - 32) reads) rows.note.rows rows.stream) (sym none) is)
+    subst (λ (f : Front). HasStreamed f.size f.count (part (512 * area + 32) (512 * rows.first - 32) reads) rows.note.value rows.stream) (sym same)
+    (subst (λ (n : ℕ). HasStreamed front.size front.count (part (512 * area + 32) (512 * n - 32) reads) rows.note.value rows.stream) (sym none) is)

@@ -36,11 +36,11 @@ padded_in made copy window zeros size k is copied filled =
     rest : (size + 511) / 512 * 512 - size ≡ 512 * ((length (take 131072 made) + 511) / 512) - length (take 131072 made)
     rest = omega (arith, front_size made size is)
 
--- what is poured of a window are bytes of the rows of the area
-pub poured_is : (window reads : List ℕ) (area first count size start to from : ℕ) → take (512 * count) window ≡ part (512 * (area + first)) (512 * count) reads
+-- what is rewritten of a window are bytes of the rows of the area
+pub rewritten_is : (window reads : List ℕ) (area first count size start to from : ℕ) → take (512 * count) window ≡ part (512 * (area + first)) (512 * count) reads
     → start ≤ to → to ≤ 512 * count → 512 * count ≤ length window → from + 32 ≡ 512 * first + start → 512 * first + to ≤ 32 + size
     → take (length (take (to - start) (drop start window))) (drop from (part (512 * area + 32) size reads)) ≡ take (to - start) (drop start window)
-poured_is window reads area first count size start to from shows some fits room place inside =
+rewritten_is window reads area first count size start to from shows some fits room place inside =
     ap (λ (n : ℕ). part from n (part (512 * area + 32) size reads)) long
     ∙ part_in_front from (to - start) size (drop (512 * area + 32) reads) (omega (arith, place, inside, some))
     ∙ ap (take (to - start)) (drop-drop from (512 * area + 32) reads)

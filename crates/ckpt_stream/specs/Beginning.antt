@@ -3,7 +3,7 @@ use Rattle.std.specs.Prelude.{◌≡◌, ℕ, ◌+◌, ◌*◌, ◌≤◌, List,
 use Rattle.byte_lists.specs.declared.format.TheConstants.{SECTOR}
 use Rattle.sector_dev.specs.Disk.{Disk, IsHonest, reads_of}
 use Rattle.path_db.specs.declared.command.Command.{Command}
-use Rattle.path_db.specs.Database.{RowView, rows_len}
+use Rattle.row_map.specs.Database.{RowView, rows_len}
 use Rattle.path_db.specs.Command.{database_after_all}
 use Rattle.path_records.specs.RowRecord.{rows_encoding}
 use Rattle.store_layout.specs.declared.format.TheConstants.{BEFORE_ROWS}
@@ -17,7 +17,7 @@ use Rattle.ckpt_pair.specs.Rows.{rows_format}
 use Rattle.store_open.specs.Sealed.{SealedHalf, sealed_half}
 use Rattle.store_open.specs.declared.sealed.SealedError.{SealedError}
 use Rattle.store_open.specs.declared.sealed.SealedError.TheVariants.{Fault, NoMemory, Damaged}
-use Rattle.row_edits.specs.Pouring.{PourView, untaken, untaken_len, edits_end}
+use Rattle.row_edits.specs.Rewriting.{RewriteView, untaken, untaken_len, edits_end}
 use Rattle.ckpt_stream.specs.Sums.{AreSummed}
 use Rattle.ckpt_stream.specs.Merge.{MergeView, bytes_made, IsReady}
 
@@ -26,19 +26,19 @@ use Rattle.ckpt_stream.specs.Merge.{MergeView, bytes_made, IsReady}
 abbrev pub checkpoint_from : ℕ → SealedHalf → Checkpoint (List RowView)
 checkpoint_from epoch sealed = written_checkpoint epoch sealed.place sealed.rows
 
--- A pour of which nothing is taken yet makes the checkpoint of rows after commands.
-pub record PoursCheckpoint (epoch place : ℕ) (rows : List RowView) (commands : List Command) (pour : PourView) : Type 0 where
+-- A rewrite of which nothing is taken yet makes the checkpoint of rows after commands.
+pub record RewritesCheckpoint (epoch place : ℕ) (rows : List RowView) (commands : List Command) (rewrite : RewriteView) : Type 0 where
   -- It makes the checkpoint's bytes from the records of these rows.
-  pub makes : untaken pour (rows_encoding rows) ≡ checkpoint_bytes rows_format (written_checkpoint epoch place (database_after_all rows commands))
+  pub makes : untaken rewrite (rows_encoding rows) ≡ checkpoint_bytes rows_format (written_checkpoint epoch place (database_after_all rows commands))
   -- It makes as many bytes.
-  pub len : untaken_len pour ≡ BEFORE_ROWS + rows_len (database_after_all rows commands)
+  pub len : untaken_len rewrite ≡ BEFORE_ROWS + rows_len (database_after_all rows commands)
   -- Its edits read exactly the records of these rows.
-  pub end : edits_end pour ≡ rows_len rows
+  pub end : edits_end rewrite ≡ rows_len rows
 
 -- A merge makes its checkpoint from the rows of the old checkpoint in the half's area.
 pub record MakesFrom (merge : MergeView) (old : Checkpoint (List RowView)) : Type 0 where
   pub size : merge.size ≡ length (rows_encoding old.db)
-  pub makes : untaken merge.pour (rows_encoding old.db) ≡ bytes_made merge
+  pub makes : untaken merge.rewrite (rows_encoding old.db) ≡ bytes_made merge
   -- The sums are those of these rows.
   pub sums : AreSummed merge.sums (rows_encoding old.db)
 
@@ -57,8 +57,8 @@ pub record IsMergeOf (geometry : Geometry) (half : Half) (epoch : ℕ) (disk : D
   -- The rows of the old area end within it.
   pub inside : BEFORE_ROWS + merge.size ≤ SECTOR * geometry.checkpoint
   -- All bytes of the checkpoint are still to be taken, and the first ones are made.
-  pub len : untaken_len merge.pour ≡ length (bytes_made merge)
-  pub ready : IsReady merge.pour
+  pub len : untaken_len merge.rewrite ≡ length (bytes_made merge)
+  pub ready : IsReady merge.rewrite
   -- On an honest device the checkpoint is made from the rows of the old area.
   pub makes : IsHonest disk → (old : Checkpoint (List RowView)) → checkpoint_in rows_format latest (area_of geometry half (reads_of disk)) ≡ Ok old → MakesFrom merge old
 

@@ -7,20 +7,20 @@ use Rattle.sector_dev.specs.Disk.{Disk, IsHonest, reads_of}
 use Rattle.sector_dev.specs.Calls.{Keeps, one_more}
 use Rattle.ckpt_stream.specs.declared.error.PieceError.{PieceError}
 use Rattle.ckpt_stream.specs.declared.error.PieceError.TheVariants.{Fault, Damaged}
-use Rattle.path_db.specs.Database.{RowView}
+use Rattle.row_map.specs.Database.{RowView}
 use Rattle.store_layout.specs.declared.format.TheConstants.{BEFORE_ROWS}
 use Rattle.store_layout.specs.Checkpoint.{checkpoint_bytes, checkpoint_encoding}
 use Rattle.ckpt_pair.specs.Checkpoint.{written_checkpoint}
 use Rattle.ckpt_pair.specs.Rows.{rows_format}
 use Rattle.row_edits.specs.declared.edit.Edit.TheVariants.{Keep}
-use Rattle.row_edits.specs.Pouring.{PourView, untaken, untaken_len, edits_end}
+use Rattle.row_edits.specs.Rewriting.{RewriteView, untaken, untaken_len, edits_end}
 use Rattle.path_records.specs.declared.format.TheConstants.{PIECE}
 use Rattle.ckpt_stream.specs.declared.merge.Merge.TheInside.{Inside}
 
 -- A merge as contracts see it.
 pub record MergeView : Type 0 where
   -- The bytes that are made and not written, and those that are still to be made.
-  pub pour : PourView
+  pub rewrite : RewriteView
   -- The number of bytes of the rows in the old area.
   pub size : ℕ
   -- The sums of the sectors of the old area, as they were planned.
@@ -34,7 +34,7 @@ pub record MergeView : Type 0 where
 
 -- A merge's fields as contracts see them.
 abbrev pub merge_view : Inside → MergeView
-merge_view s = record { pour = s.pour; size = s.size; sums = s.sums.items; rows = s.note.rows; epoch = s.epoch; place = s.place }
+merge_view s = record { rewrite = s.rewrite; size = s.size; sums = s.sums.items; rows = s.note.value; epoch = s.epoch; place = s.place }
 
 -- The bytes of the checkpoint.
 abbrev pub bytes_made : MergeView → List ℕ
@@ -56,22 +56,22 @@ pub record IsMerge (s : Inside) : Type 0 where
   -- The sectors of the checkpoint are counted.
   pub sectors : SECTOR * s.sectors ≡ length (encoding_made (merge_view s))
   -- The edits read exactly the rows of the old area.
-  pub end : edits_end s.pour ≡ s.size
+  pub end : edits_end s.rewrite ≡ s.size
   -- Each sector up to the end of those rows has a sum.
   pub summed : length s.sums.items ≡ sectors_of (BEFORE_ROWS + s.size)
 
 -- The bytes that are written next: at most 256 sectors of what is made, with zeros up to a whole
 -- sector.
-abbrev pub next_piece : PourView → List ℕ
-next_piece pour = padded (take PIECE pour.out)
+abbrev pub next_piece : RewriteView → List ℕ
+next_piece rewrite = padded (take PIECE rewrite.out)
 
--- The pour after the next piece is written.
-abbrev pub after_piece : PourView → PourView
-after_piece pour = record pour { out = drop PIECE pour.out }
+-- The rewrite after the next piece is written.
+abbrev pub after_piece : RewriteView → RewriteView
+after_piece rewrite = record rewrite { out = drop PIECE rewrite.out }
 
 -- A piece can be written: a whole piece is made, or nothing is left to be made.
-abbrev pub IsReady : PourView → Type 0
-IsReady pour = (PIECE ≤ length pour.out) ⊎ (pour.edits ≡ Keep 0 ∷ [])
+abbrev pub IsReady : RewriteView → Type 0
+IsReady rewrite = (PIECE ≤ length rewrite.out) ⊎ (rewrite.edits ≡ Keep 0 ∷ [])
 
 -- The result of the write of a piece: it was written also where what is made next is damaged.
 abbrev pub as_write : Result (Unit {0}) PieceError → Result (Unit {0}) PieceError
@@ -93,7 +93,7 @@ pub record LooksForPiece (result : Result (Unit {0}) PieceError) (old new : Disk
   pub history : IsHonest old → new.history ≡ old.history
 
 -- More is made from the rows of an area, which have `size` bytes.
-pub record MakesOn (disk : Disk) (area size : ℕ) (old new : PourView) : Type 0 where
+pub record MakesOn (disk : Disk) (area size : ℕ) (old new : RewriteView) : Type 0 where
   -- On an honest device, the bytes that are not taken are the same as before.
   pub same : IsHonest disk → untaken new (part (SECTOR * area + BEFORE_ROWS) size (reads_of disk)) ≡ untaken old (part (SECTOR * area + BEFORE_ROWS) size (reads_of disk))
   -- They are as many as before.

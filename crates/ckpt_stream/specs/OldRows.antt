@@ -3,27 +3,32 @@ use Rattle.std.specs.Prelude.{◌≡◌, ℕ, ◌+◌, ◌-◌, ◌*◌, ◌≤�
 use Rattle.byte_lists.specs.Content.{part}
 use Rattle.byte_lists.specs.Sectors.{sectors_of}
 use Rattle.byte_lists.specs.declared.format.TheConstants.{SECTOR}
-use Rattle.path_db.specs.Database.{RowView, IsDatabase, rows_len}
+use Rattle.row_map.specs.Database.{RowView, IsDatabase, rows_len}
+use Rattle.path_db.specs.declared.command.Command.{Command}
+use Rattle.path_db.specs.Command.{database_after_all}
 use Rattle.path_records.specs.RowRecord.{rows_decoding}
+use Rattle.ckpt_pair.specs.declared.reading.Front.{Front}
 use Rattle.ckpt_pair.specs.Rows.{as_counted}
 use Rattle.ckpt_pair.specs.Stream.{StreamView, HasStreamed}
 use Rattle.store_open.specs.declared.error.OpenError.{OpenError}
 use Rattle.store_open.specs.declared.error.OpenError.TheVariants.{NotAStore, Device, Pair, Journal, NoMemory}
 use Rattle.row_edits.specs.Planner.{HasSeen, IsPlanOf}
+use Rattle.row_edits.specs.Settling.{Settles}
 use Rattle.store_layout.specs.declared.format.TheConstants.{BEFORE_ROWS}
 use Rattle.ckpt_stream.specs.Sums.{sums_in}
 use Rattle.ckpt_stream.specs.declared.old_rows.RowsRead.{RowsRead}
-use Rattle.ckpt_stream.specs.declared.old_rows.PlannedRows.{PlannedRows}
+use Rattle.ckpt_stream.specs.declared.settled.RowsSettled.{RowsSettled}
+use Rattle.ckpt_stream.specs.declared.settled.PlannedRows.{PlannedRows}
 
 -- The rows in the first sectors of an area are read and planned.
 pub record AreRowsRead (rows : RowsRead) : Type 0 where
   -- The planner has seen the rows.
-  pub seen : HasSeen rows.journal.commands.items rows.note.rows rows.planner
+  pub seen : HasSeen rows.journal.commands.items rows.note.value rows.planner
   -- The bytes of these sectors after the front were pushed to the stream, which has returned the
   -- rows.
   pub pushed : List ℕ
   pub long : length pushed ≡ SECTOR * rows.first - BEFORE_ROWS
-  pub streamed : HasStreamed rows.front.size rows.front.count pushed rows.note.rows rows.stream
+  pub streamed : HasStreamed rows.front.size rows.front.count pushed rows.note.value rows.stream
   -- Each of these sectors has a sum.
   pub summed : length rows.sums.items ≡ rows.first
   -- No sector after the rows is read.
@@ -32,7 +37,7 @@ pub record AreRowsRead (rows : RowsRead) : Type 0 where
 -- The bytes of the first sectors of an area were pushed to the stream.
 abbrev pub AreStreamed : ℕ → List ℕ → RowsRead → Type 0
 AreStreamed area reads rows =
-    HasStreamed rows.front.size rows.front.count (part (SECTOR * area + BEFORE_ROWS) (SECTOR * rows.first - BEFORE_ROWS) reads) rows.note.rows rows.stream
+    HasStreamed rows.front.size rows.front.count (part (SECTOR * area + BEFORE_ROWS) (SECTOR * rows.first - BEFORE_ROWS) reads) rows.note.value rows.stream
 
 -- The sums are those of the first sectors of an area.
 abbrev pub AreSummedOn : ℕ → List ℕ → RowsRead → Type 0
@@ -69,9 +74,21 @@ abbrev pub GoesOnInRows : ℕ → List ℕ → RowsRead → RowsRead → Result 
 GoesOnInRows area reads old new (Ok done) = AreStreamed area reads old → AreStreamed area reads new
 GoesOnInRows area reads old new (Err e) = AreStreamed area reads old → RowsRefused e (rows_in area reads old)
 
+-- All rows of an area are read: `before` and `left` are the rows before and after commands.
+pub record AreAll (front : Front) (before left : List RowView) (sums : List ℕ) (commands : List Command) : Type 0 where
+  pub after : left ≡ database_after_all before commands
+  pub database : IsDatabase before
+  pub size : rows_len before ≡ front.size
+  pub summed : length sums ≡ sectors_of (BEFORE_ROWS + front.size)
+
+-- All rows of an area are read, and what some commands leave is settled in part.
+pub record AreSettled (settled : RowsSettled) : Type 0 where
+  pub commands : List Command
+  pub settles : Settles settled.note.value commands settled.settling
+  pub all : AreAll settled.front settled.note.value settled.after.value settled.sums.items commands
+
 -- All rows of an area are read and planned.
 pub record ArePlanned (planned : PlannedRows) : Type 0 where
-  pub plan : IsPlanOf planned.note.rows planned.journal.commands.items planned.plan
-  pub database : IsDatabase planned.note.rows
-  pub size : rows_len planned.note.rows ≡ planned.front.size
-  pub summed : length planned.sums.items ≡ sectors_of (BEFORE_ROWS + planned.front.size)
+  pub commands : List Command
+  pub plan : IsPlanOf planned.note.value commands planned.plan
+  pub all : AreAll planned.front planned.note.value planned.after.value planned.sums.items commands

@@ -3,4 +3,4 @@ use Rattle.std.specs.Prelude.{ℕ, ◌^◌}
 
 -- A bound on the number of pieces of a whole half.
 abbrev pub all_pieces : ℕ
-all_pieces = 2 ^ 40
+all_pieces = 2 ^ 70

@@ -2,8 +2,9 @@
 use Rattle.std.specs.Prelude.{◌≡◌, ℕ, ◌+◌, ◌-◌, ◌*◌, ◌⊎◌, Bool, true, false, List, length, take, Ok}
 use Rattle.byte_lists.specs.Sectors.{whole_sectors}
 use Rattle.byte_lists.specs.declared.format.TheConstants.{SECTOR}
-use Rattle.path_db.specs.Database.{RowView}
+use Rattle.row_map.specs.Database.{RowView}
 use Rattle.path_db.specs.declared.command.Command.{Command}
+use Rattle.path_db.specs.Command.{database_after_all}
 use Rattle.path_records.specs.RowRecord.{rows_encoding}
 use Rattle.store_layout.specs.declared.format.TheConstants.{BEFORE_ROWS}
 use Rattle.store_layout.specs.declared.half.Half.{Half}
@@ -19,10 +20,9 @@ use Rattle.ckpt_pair.specs.Heads.{head_view}
 use Rattle.ckpt_pair.specs.Stream.{HasStreamed}
 use Rattle.ckpt_pair.specs.Rows.{rows_format}
 use Rattle.ckpt_stream.specs.declared.half_read.HalfRead.{HalfRead}
-use Rattle.ckpt_stream.specs.declared.half_read.HalfRead.TheVariants.{Unread, Journal, Rows, Planned}
+use Rattle.ckpt_stream.specs.declared.half_read.HalfRead.TheVariants.{Unread, Journal, Rows, Settled, Planned}
 use Rattle.ckpt_stream.specs.declared.old_journal.JournalRead.{JournalRead}
 use Rattle.ckpt_stream.specs.declared.old_rows.RowsRead.{RowsRead}
-use Rattle.ckpt_stream.specs.declared.old_rows.PlannedRows.{PlannedRows}
 use Rattle.ckpt_stream.specs.declared.preparation.Preparation.TheInside.{Inside}
 use Rattle.ckpt_stream.specs.Sums.{sums_in, AreSummed}
 use Rattle.ckpt_stream.specs.HalfRead.{IsHalfRead, IsWithin, pieces_to_come}
@@ -74,6 +74,7 @@ abbrev pub is_planned : HalfRead → Bool
 is_planned Unread = false
 is_planned (Journal journal) = false
 is_planned (Rows rows) = false
+is_planned (Settled settled) = false
 is_planned (Planned planned) = true
 
 -- Everything is read.
@@ -112,23 +113,27 @@ pub record AreRowsFrom (contents : SealedContents) (rows : RowsRead) : Type 0 wh
   pub pushed : List ℕ
   pub long : length pushed ≡ SECTOR * rows.first - BEFORE_ROWS
   pub same : take rows.front.size pushed ≡ take (SECTOR * rows.first - BEFORE_ROWS) (rows_encoding contents.checkpoint.db)
-  pub streamed : HasStreamed rows.front.size rows.front.count pushed rows.note.rows rows.stream
+  pub streamed : HasStreamed rows.front.size rows.front.count pushed rows.note.value rows.stream
   -- The sums are those of these sectors.
   pub summed : rows.sums.items ≡ sums_in rows.first 0 (rows_encoding contents.checkpoint.db)
 
--- The front, the journal and all rows are those of a half with these contents.
-pub record ArePlannedFrom (contents : SealedContents) (planned : PlannedRows) : Type 0 where
-  pub front : IsFrontFrom contents planned.front
-  pub journal : reading_of planned.journal ≡ sealed_reading contents
-  pub rows : planned.note.rows ≡ contents.checkpoint.db
-  pub summed : AreSummed planned.sums.items (rows_encoding contents.checkpoint.db)
+-- What is known of all rows of a half with these contents, by what is kept of them: its area's front,
+-- the place that its journal reaches, the rows before and after the journal's commands, and the sums
+-- of their sectors.
+pub record AreAllFrom (contents : SealedContents) (area : Front) (reached : ℕ) (before left : List RowView) (sums : List ℕ) : Type 0 where
+  pub front : IsFrontFrom contents area
+  pub place : sealed_place contents ≡ reached
+  pub rows : before ≡ contents.checkpoint.db
+  pub after : left ≡ database_after_all before (all_of contents.groups)
+  pub summed : AreSummed sums (rows_encoding contents.checkpoint.db)
 
 -- What is read so far is of a half with these contents.
 abbrev pub IsReadFrom : Geometry → SealedContents → HalfRead → Type 0
 IsReadFrom geometry contents Unread = Unit {0}
 IsReadFrom geometry contents (Journal journal) = IsJournalFrom geometry contents journal
 IsReadFrom geometry contents (Rows rows) = AreRowsFrom contents rows
-IsReadFrom geometry contents (Planned planned) = ArePlannedFrom contents planned
+IsReadFrom geometry contents (Settled settled) = AreAllFrom contents settled.front settled.place settled.note.value settled.after.value settled.sums.items
+IsReadFrom geometry contents (Planned planned) = AreAllFrom contents planned.front planned.place planned.note.value planned.after.value planned.sums.items
 
 -- What is prepared is of a half that has these contents. It says nothing of a device, so that it
 -- holds as long as the half has them.

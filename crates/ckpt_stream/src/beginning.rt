@@ -2,7 +2,7 @@
 
 ghost use Rattle.std.specs.Prelude.{◌≡◌, ◌+◌, ◌*◌, ◌<◌, ◌≤◌, ◌^◌, List, IfOk, OnOk};
 ghost use Rattle.byte_lists.specs.declared.format.TheConstants.{SECTOR};
-ghost use Rattle.path_db.specs.Database.{RowView, IsDatabase, rows_len};
+ghost use Rattle.row_map.specs.Database.{RowView, IsDatabase, rows_len};
 ghost use Rattle.path_db.specs.declared.command.Command.{Command};
 ghost use Rattle.store_layout.specs.declared.format.TheConstants.{BEFORE_ROWS};
 ghost use Rattle.store_layout.specs.Checkpoint.{CanBeCheckpoint};
@@ -13,7 +13,7 @@ ghost use Rattle.ckpt_pair.specs.Rows.{rows_format};
 ghost use Rattle.store_open.specs.Sealed.{LooksAtHalf};
 ghost use Rattle.row_edits.specs.Edits.{bytes_in};
 ghost use Rattle.row_edits.specs.Planner.{IsPlanOf};
-ghost use Rattle.ckpt_stream.specs.Beginning.{MergesSealed, PoursCheckpoint};
+ghost use Rattle.ckpt_stream.specs.Beginning.{MergesSealed, RewritesCheckpoint};
 ghost use Rattle.ckpt_stream.specs.HalfRead.{IsHalfRead, IsWithin, IsReadOn, ReadsAll, ArePlannedOn};
 ghost use Rattle.ckpt_stream.specs.OldRows.{ArePlanned};
 ghost use Rattle.ckpt_stream.specs.Preparation.{SealedContents, IsUnread, IsPreparedFrom, IsPreparedFor};
@@ -23,11 +23,11 @@ use crate::error::PieceError;
 use crate::half_read::HalfRead;
 use crate::making::make_piece;
 use crate::merge::{Merge, WINDOW};
-use crate::old_rows::PlannedRows;
 use crate::preparation::Preparation;
+use crate::settled::PlannedRows;
 use byte_lists::sector_count;
 use ckpt_pair::{area_room, checkpoint_front};
-use row_edits::{Plan, Pour};
+use row_edits::{Plan, Rewrite};
 use sector_dev::Device;
 use std::alloc::{AllocError, Global};
 use std::mem::replace;
@@ -125,19 +125,18 @@ fn merge_of<D: Device>(
     ensures looks { LooksAtHalf result (D.disk device.old) (D.disk device.new) }
     ensures merges { MergesSealed (geometry_view geometry) half epoch result (D.disk device.old) }
 {
-    let (size, place) = (planned.front.size, planned.journal.place);
-    let note = planned.note.after(&planned.journal.commands);
+    let (size, place, note) = (planned.front.size, planned.place, planned.after);
     let (plan, sums) = (planned.plan, planned.sums);
     if plan.size > area_room(geometry.checkpoint) {
         return Err(SealedError::Damaged);
     }
     let sectors = sector_count(BEFORE_ROWS + plan.size as usize) as u64;
     let mut window = vec![in alloc; 0; WINDOW]?;
-    let mut pour = pour_of(alloc, epoch, place, plan)?;
+    let mut rewrite = rewrite_of(alloc, epoch, place, plan)?;
     let area = geometry.area_at(half);
-    match make_piece(device, area, size, &sums, &mut pour, &mut window) {
+    match make_piece(device, area, size, &sums, &mut rewrite, &mut window) {
         Ok(()) => Ok(Merge {
-            pour,
+            rewrite,
             window,
             size,
             sums,
@@ -151,16 +150,16 @@ fn merge_of<D: Device>(
     }
 }
 
-/// The pour that makes the checkpoint of a plan. It has made only the 32 bytes before the rows.
-fn pour_of(alloc: Global, epoch: u64, place: u64, plan: Plan) -> Result<Pour, AllocError>
+/// The rewrite that makes the checkpoint of a plan. It has made only the 32 bytes before the rows.
+fn rewrite_of(alloc: Global, epoch: u64, place: u64, plan: Plan) -> Result<Rewrite, AllocError>
     requires edits { bytes_in plan.edits.items < 2 ^ 33 }
     requires size { plan.size < 2 ^ 32 }
     requires count { plan.count < 2 ^ 32 }
-    ensures poured { IfOk result (λ pour. (rows : List RowView) (commands : List Command)
-        → IsPlanOf rows commands plan → PoursCheckpoint epoch place rows commands pour) }
+    ensures rewritten { IfOk result (λ rewrite. (rows : List RowView) (commands : List Command)
+        → IsPlanOf rows commands plan → RewritesCheckpoint epoch place rows commands rewrite) }
     ensures can { OnOk result ((rows : List RowView)
         → IsDatabase rows → rows_len rows < 2 ^ 32 → CanBeCheckpoint rows_format (written_checkpoint epoch place rows)) }
 {
     let head = checkpoint_front(epoch, place, plan.size as u32, plan.count as u32);
-    Pour::new(alloc, &head, plan.edits, plan.rows)
+    Rewrite::new(alloc, &head, plan.edits, plan.rows)
 }

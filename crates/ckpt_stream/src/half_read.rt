@@ -11,7 +11,8 @@ ghost use Rattle.ckpt_stream.specs.HalfRead.{IsHalfRead, IsWithin, pieces_to_com
 
 use crate::old_area::read_half_front;
 use crate::old_journal::{JournalRead, scan_on};
-use crate::old_rows::{PlannedRows, RowsRead, rows_on};
+use crate::old_rows::{RowsRead, rows_on};
+use crate::settled::{PlannedRows, RowsSettled, settle_more};
 use byte_lists::SECTOR;
 use sector_dev::Device;
 use std::alloc::Global;
@@ -27,6 +28,8 @@ pub(crate) enum HalfRead {
     Journal(JournalRead),
     /// The front, the journal, and the rows in the first sectors of the area.
     Rows(RowsRead),
+    /// All that has to be read, and what the journal's commands leave, settled in part.
+    Settled(RowsSettled),
     /// Everything: the rows after the journal's commands are planned.
     Planned(PlannedRows),
 }
@@ -42,11 +45,12 @@ impl HalfRead {
                 journal.sectors == geometry.journal && fits(journal.front.size, geometry)
             }
             HalfRead::Rows(rows) => fits(rows.front.size, geometry),
+            HalfRead::Settled(settled) => fits(settled.front.size, geometry),
             HalfRead::Planned(planned) => fits(planned.front.size, geometry),
         }
     }
 
-    /// Reads the next piece. Where everything is read, nothing changes.
+    /// Reads the next piece, or settles it. Where everything is planned, nothing changes.
     pub(crate) fn read_next<D: Device>(
         self,
         alloc: Global,
@@ -68,6 +72,7 @@ impl HalfRead {
             HalfRead::Unread => read_half_front(alloc, device, geometry, half),
             HalfRead::Journal(journal) => scan_on(alloc, device, geometry, half, journal),
             HalfRead::Rows(rows) => rows_on(alloc, device, geometry, half, rows),
+            HalfRead::Settled(settled) => Ok(settle_more(settled)?),
             HalfRead::Planned(planned) => Ok(HalfRead::Planned(planned)),
         }
     }

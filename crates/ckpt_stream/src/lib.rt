@@ -18,6 +18,7 @@ mod old_journal;
 mod old_rows;
 mod preparation;
 mod sectors;
+mod settled;
 mod sums;
 
 pub use beginning::{begin_merge, begin_prepared};

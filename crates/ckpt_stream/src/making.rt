@@ -4,7 +4,7 @@ ghost use Rattle.std.specs.Prelude.{◌≡◌, ◌+◌, ◌-◌, ◌*◌, ◌<�
 ghost use Rattle.byte_lists.specs.Content.{part};
 ghost use Rattle.byte_lists.specs.Sectors.{padded};
 ghost use Rattle.byte_lists.specs.declared.format.TheConstants.{SECTOR};
-ghost use Rattle.row_edits.specs.Pouring.{untaken, untaken_len, edits_end};
+ghost use Rattle.row_edits.specs.Rewriting.{untaken, untaken_len, edits_end};
 ghost use Rattle.path_records.specs.declared.format.TheConstants.{PIECE};
 ghost use Rattle.store_layout.specs.declared.format.TheConstants.{BEFORE_ROWS};
 ghost use Rattle.ckpt_stream.specs.Merge.{IsReady, LooksForPiece, MakesOn};
@@ -12,7 +12,7 @@ ghost use Rattle.ckpt_stream.specs.Sums.{row_offset, rows_in_window, sums_in, Ar
 ghost use Rattle.ckpt_stream.specs.declared.error.PieceError.TheVariants.{Damaged as IsDamaged};
 ghost use Rattle.sector_dev.specs.Disk.{IsHonest, reads_of};
 ghost use Rattle.byte_lists.specs.Sectors.{sectors_of};
-ghost use Rattle.ckpt_stream.specs.Making.{WhyPoured};
+ghost use Rattle.ckpt_stream.specs.Making.{WhyRewritten};
 
 use crate::error::PieceError;
 use crate::merge::PIECE_SECTORS;
@@ -20,7 +20,7 @@ use crate::sectors::read_sectors;
 use crate::sums::have_sums;
 use byte_lists::SECTOR;
 use path_records::PIECE;
-use row_edits::Pour;
+use row_edits::Rewrite;
 use sector_dev::Device;
 use store_layout::BEFORE_ROWS;
 
@@ -33,30 +33,30 @@ pub(crate) fn make_piece<D: Device>(
     area: u64,
     size: u32,
     sums: &[u64],
-    pour: &mut Pour,
+    rewrite: &mut Rewrite,
     window: &mut [u8],
 ) -> Result<(), PieceError>
     requires window { length window.old ≡ PIECE }
     requires room { SECTOR * area + BEFORE_ROWS + size ≤ SECTOR * (D.disk device.old).sectors }
-    requires end { edits_end pour.old ≡ size }
+    requires end { edits_end rewrite.old ≡ size }
     requires sums { length sums.now ≡ sectors_of (BEFORE_ROWS + size) }
     ensures looks { LooksForPiece result (D.disk device.old) (D.disk device.new) }
     ensures window { length window.new ≡ PIECE }
-    ensures end { edits_end pour.new ≡ size }
-    ensures made { MakesOn (D.disk device.old) area size pour.old pour.new }
-    ensures ready { OnOk result (IsReady pour.new) }
+    ensures end { edits_end rewrite.new ≡ size }
+    ensures made { MakesOn (D.disk device.old) area size rewrite.old rewrite.new }
+    ensures ready { OnOk result (IsReady rewrite.new) }
     ensures damaged { IfErr result (λ e. e ≡ IsDamaged → IsHonest (D.disk device.old)
         → ¬ AreSummed sums.now (part (SECTOR * area + BEFORE_ROWS) size (reads_of (D.disk device.old)))) }
 {
-    pour.pour(0, &window[..0]);
+    rewrite.rewrite(0, &window[..0]);
     'pieces: loop {
-        let Some(at) = pour.wanted() else {
+        let Some(at) = rewrite.wanted() else {
             return Ok(());
         };
         let first = (at + BEFORE_ROWS as u64) / SECTOR as u64;
-        let count = count_wanted(at, size, first, pour.made().len());
+        let count = count_wanted(at, size, first, rewrite.made().len());
         read_sectors(device, area + first, count, window)?;
-        pour_sectors(pour, size, sums, first, count, window)?;
+        rewrite_sectors(rewrite, size, sums, first, count, window)?;
     }
 }
 
@@ -80,8 +80,8 @@ fn count_wanted(at: u64, size: u32, first: u64, made: usize) -> u64
 
 /// Makes what it can from sectors of an area, which are in a window, where they have the sums that
 /// were kept of them. Else nothing is made.
-fn pour_sectors(
-    pour: &mut Pour,
+fn rewrite_sectors(
+    rewrite: &mut Rewrite,
     size: u32,
     sums: &[u64],
     first: u64,
@@ -98,18 +98,18 @@ fn pour_sectors(
         → length (part (SECTOR * area + BEFORE_ROWS) size reads) ≡ size → ¬ AreSummed sums.now (part (SECTOR * area + BEFORE_ROWS) size reads)) }
     ensures refused { IfErr result (λ e. e ≡ IsDamaged) }
     ensures same { (area : ℕ) (reads : List ℕ) → take (SECTOR * count) window.now ≡ part (SECTOR * (area + first)) (SECTOR * count) reads
-        → untaken pour.new (part (SECTOR * area + BEFORE_ROWS) size reads) ≡ untaken pour.old (part (SECTOR * area + BEFORE_ROWS) size reads) }
-    ensures len { untaken_len pour.new ≡ untaken_len pour.old }
-    ensures end { edits_end pour.new ≡ edits_end pour.old }
-    ensures forward { pour.old.position ≤ pour.new.position }
-    ensures stops { OnOk result (WhyPoured (SECTOR * first) (min (SECTOR * (first + count)) (BEFORE_ROWS + size)) pour.new) }
+        → untaken rewrite.new (part (SECTOR * area + BEFORE_ROWS) size reads) ≡ untaken rewrite.old (part (SECTOR * area + BEFORE_ROWS) size reads) }
+    ensures len { untaken_len rewrite.new ≡ untaken_len rewrite.old }
+    ensures end { edits_end rewrite.new ≡ edits_end rewrite.old }
+    ensures forward { rewrite.old.position ≤ rewrite.new.position }
+    ensures stops { OnOk result (WhyRewritten (SECTOR * first) (min (SECTOR * (first + count)) (BEFORE_ROWS + size)) rewrite.new) }
 {
     let rows = row_part(window, size, first, count);
     if !have_sums(sums, first, count, rows) {
         return Err(PieceError::Damaged);
     }
     let from = (SECTOR as u64 * first).saturating_sub(BEFORE_ROWS as u64);
-    pour.pour(from, rows);
+    rewrite.rewrite(from, rows);
     Ok(())
 }
 

@@ -15,7 +15,7 @@ use crate::error::PieceError;
 use crate::making::{make_piece, put_piece};
 use byte_lists::SECTOR;
 use path_records::PIECE;
-use row_edits::{Pour, RowsNote};
+use row_edits::{Rewrite, RowsNote};
 use sector_dev::Device;
 use std::marker::Model;
 
@@ -31,7 +31,7 @@ pub(crate) const WINDOW: usize = PIECE;
 /// for what is made and not written yet; and a sum of eight bytes for each sector of the old area.
 #[derive(Drop)]
 pub struct Merge {
-    pub(crate) pour: Pour,
+    pub(crate) rewrite: Rewrite,
     pub(crate) window: Vec<u8>,
     pub(crate) size: u32,
     pub(crate) sums: Vec<u64>,
@@ -65,7 +65,7 @@ impl Merge {
         ensures window { result.0 ≡ PIECE }
         ensures made { result.1 ≡ 147461 }
     {
-        (self.window.len(), self.pour.buffer_len())
+        (self.window.len(), self.rewrite.buffer_len())
     }
 
     /// Writes the next sectors of the checkpoint, at most 256, from the sector `at` on, and then
@@ -81,24 +81,24 @@ impl Merge {
         at: u64,
     ) -> Result<(), PieceError>
         requires old { SECTOR * area + BEFORE_ROWS + self.old.size ≤ SECTOR * (D.disk device.old).sectors }
-        requires new { SECTOR * at + length (next_piece self.old.pour) ≤ SECTOR * (D.disk device.old).sectors }
-        ensures call { WriteCall at (next_piece self.old.pour) (as_write result) (D.disk device.old) (D.disk device.new) }
-        ensures kept { self.new ≡ record self.old { pour = self.new.pour } }
-        ensures ready { OnOk result (IsReady self.new.pour) }
-        ensures made { OnOk result (MakesOn (D.disk device.new) area self.old.size (after_piece self.old.pour) self.new.pour) }
+        requires new { SECTOR * at + length (next_piece self.old.rewrite) ≤ SECTOR * (D.disk device.old).sectors }
+        ensures call { WriteCall at (next_piece self.old.rewrite) (as_write result) (D.disk device.old) (D.disk device.new) }
+        ensures kept { self.new ≡ record self.old { rewrite = self.new.rewrite } }
+        ensures ready { OnOk result (IsReady self.new.rewrite) }
+        ensures made { OnOk result (MakesOn (D.disk device.new) area self.old.size (after_piece self.old.rewrite) self.new.rewrite) }
         ensures damaged { IfErr result (λ e. e ≡ IsDamaged → IsHonest (D.disk device.new)
             → ¬ AreSummed self.old.sums (part (SECTOR * area + BEFORE_ROWS) self.old.size (reads_of (D.disk device.new)))) }
     {
-        let count = put_piece(&mut self.window, self.pour.made());
+        let count = put_piece(&mut self.window, self.rewrite.made());
         device.write(at, &self.window[..count])?;
-        let taken = self.pour.made().len().min(PIECE);
-        self.pour.take(taken);
+        let taken = self.rewrite.made().len().min(PIECE);
+        self.rewrite.take(taken);
         make_piece(
             device,
             area,
             self.size,
             &self.sums,
-            &mut self.pour,
+            &mut self.rewrite,
             &mut self.window,
         )
     }

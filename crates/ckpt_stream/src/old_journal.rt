@@ -13,8 +13,7 @@ ghost use Rattle.ckpt_stream.specs.OldJournal.{HasFewerPieces, ScansOn};
 ghost use Rattle.ckpt_stream.specs.HalfRead.{IsHalfRead, IsWithin, pieces_to_come, ReadsOn};
 
 use crate::half_read::HalfRead;
-use crate::merge::PIECE_SECTORS;
-use crate::old_rows::start_rows;
+use crate::old_rows::{READ_SECTORS, start_rows};
 use crate::sectors::read_piece;
 use ckpt_pair::Front;
 use gate_journal::{Progress, Scanner};
@@ -34,7 +33,7 @@ pub(crate) struct JournalRead {
     pub(crate) scanner: Scanner,
 }
 
-/// Reads on in the journal of a half: until 256 sectors are read, or to the end of what a scanner
+/// Reads on in the journal of a half: until 64 sectors are read, or to the end of what a scanner
 /// wants then. Where the journal ends, its rows are to be read next.
 pub(crate) fn scan_on<D: Device>(
     alloc: Global,
@@ -69,7 +68,7 @@ pub(crate) fn scan_on<D: Device>(
     }
 }
 
-/// Takes pieces of a journal until 256 sectors are read, or the journal ends.
+/// Takes pieces of a journal until 64 sectors are read, or the journal ends.
 fn scan_pieces<D: Device>(
     alloc: Global,
     device: &mut D,
@@ -96,7 +95,7 @@ fn scan_pieces<D: Device>(
             Progress::Done(scan) => return Ok(Progress::Done(scan)),
             Progress::More(next) => {
                 count += wanted.count;
-                if count >= PIECE_SECTORS {
+                if count >= READ_SECTORS {
                     return Ok(Progress::More(next));
                 }
                 scanner = next;

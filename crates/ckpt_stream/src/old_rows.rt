@@ -1,10 +1,11 @@
 //! Reading the rows of a sealed half in pieces, each row once.
 
-ghost use Rattle.std.specs.Prelude.{◌≡◌, ◌+◌, ◌-◌, ◌*◌, ◌<◌, ◌≤◌, List, [], ℕ, length, take, IfOk, IfErr, OnOk, Some};
+ghost use Rattle.std.specs.Prelude.{◌≡◌, ◌+◌, ◌-◌, ◌*◌, ◌^◌, ◌<◌, ◌≤◌, List, [], ℕ, length, take, IfOk, IfErr, OnOk, Some};
 ghost use Rattle.byte_lists.specs.Sectors.{sectors_of};
 ghost use Rattle.byte_lists.specs.declared.format.TheConstants.{SECTOR};
 ghost use Rattle.sector_dev.specs.Disk.{IsHonest, reads_of};
 ghost use Rattle.path_db.specs.declared.command.Command.{Command};
+ghost use Rattle.path_db.specs.Command.{database_after_all};
 ghost use Rattle.path_records.specs.RowRecord.{rows_decoding};
 ghost use Rattle.store_layout.specs.declared.format.TheConstants.{BEFORE_ROWS};
 ghost use Rattle.store_layout.specs.Layout.{IsGeometry, image_sectors};
@@ -12,27 +13,34 @@ ghost use Rattle.store_layout.specs.Geometry.{geometry_view};
 ghost use Rattle.ckpt_pair.specs.Rows.{as_counted};
 ghost use Rattle.ckpt_pair.specs.Stream.{HasStreamed};
 ghost use Rattle.row_edits.specs.Planner.{HasSeen};
+ghost use Rattle.row_edits.specs.Settling.{steps_to_settle};
 ghost use Rattle.path_records.specs.declared.format.TheConstants.{PIECE};
 ghost use Rattle.store_open.specs.Refusals.{LooksFor};
 ghost use Rattle.store_open.specs.Sealed.{LooksAtHalf};
 ghost use Rattle.ckpt_stream.specs.declared.half_read.HalfRead.TheVariants.{Rows};
-ghost use Rattle.ckpt_stream.specs.OldRows.{AreRowsRead, RefusesRows, GoesOnInRows, AreSummedOn, ArePlanned};
+ghost use Rattle.ckpt_stream.specs.OldRows.{AreRowsRead, RefusesRows, GoesOnInRows, AreSummedOn, AreSettled};
 ghost use Rattle.ckpt_stream.specs.HalfRead.{IsHalfRead, IsWithin, pieces_to_come, ReadsOn};
 
 use crate::half_read::HalfRead;
 use crate::making::row_part;
-use crate::merge::{PIECE_SECTORS, WINDOW};
 use crate::sectors::read_sectors;
+use crate::settled::RowsSettled;
 use crate::sums::push_sums;
 use byte_lists::SECTOR;
 use ckpt_pair::{Front, RowStream};
 use gate_journal::Scan;
 use path_records::written_rows_are_counted;
-use row_edits::{Plan, Planner, RowsNote};
+use row_edits::{Planner, RowsNote, and_row, no_rows, rows_after};
 use sector_dev::Device;
 use std::alloc::{AllocError, Global};
 use store_layout::{BEFORE_ROWS, Geometry, Half};
 use store_open::{OpenError, SealedError};
+
+/// The most sectors that a call reads of the rows.
+pub(crate) const READ_SECTORS: u64 = 64;
+
+/// The bytes of as many sectors.
+const READ: usize = READ_SECTORS as usize * SECTOR;
 
 /// The rows of a sealed half, read and planned up to a sector of its area.
 #[derive(Drop)]
@@ -53,28 +61,13 @@ pub(crate) struct RowsRead {
     pub(crate) first: u64,
 }
 
-/// The rows of a sealed half, all read and planned.
-#[derive(Drop)]
-pub(crate) struct PlannedRows {
-    /// The front of the half's area.
-    pub(crate) front: Front,
-    /// The half's journal.
-    pub(crate) journal: Scan,
-    /// The plan of the rows for the journal's commands.
-    pub(crate) plan: Plan,
-    /// The rows.
-    pub(crate) note: RowsNote,
-    /// The sums of the sectors of the area up to the end of the rows.
-    pub(crate) sums: Vec<u64>,
-}
-
 /// The rows of an area before its first sector is read.
 pub(crate) fn start_rows(alloc: Global, front: Front, journal: Scan) -> Result<RowsRead, AllocError>
     ensures front { IfOk result (λ rows. rows.front ≡ front) }
     ensures journal { IfOk result (λ rows. rows.journal ≡ journal) }
     ensures first { IfOk result (λ rows. rows.first ≡ 0) }
     ensures sums { IfOk result (λ rows. rows.sums.items ≡ []) }
-    ensures none { IfOk result (λ rows. HasStreamed front.size front.count [] rows.note.rows rows.stream) }
+    ensures none { IfOk result (λ rows. HasStreamed front.size front.count [] rows.note.value rows.stream) }
     ensures read { IfOk result AreRowsRead }
 {
     let planner = Planner::new(alloc, &journal.commands)?;
@@ -84,14 +77,14 @@ pub(crate) fn start_rows(alloc: Global, front: Front, journal: Scan) -> Result<R
         journal,
         planner,
         stream,
-        note: RowsNote::new(),
+        note: no_rows(),
         sums: Vec::new(alloc),
         first: 0,
     })
 }
 
-/// Reads on in the rows of a half: at most 256 sectors. Where all sectors are read, the plan is
-/// finished.
+/// Reads on in the rows of a half: at most 64 sectors. Where all sectors are read, what the journal's
+/// commands leave has to be settled next.
 pub(crate) fn rows_on<D: Device>(
     alloc: Global,
     device: &mut D,
@@ -110,7 +103,7 @@ pub(crate) fn rows_on<D: Device>(
     ensures reads { IsHonest (D.disk device.old) → ReadsOn (geometry_view geometry) half (reads_of (D.disk device.old)) (Rows rows) result }
 {
     if rows.first == sectors_before_end(rows.front.size) {
-        return Ok(HalfRead::Planned(finish_rows(alloc, rows)?));
+        return Ok(HalfRead::Settled(settle_rows(rows)?));
     }
     let mut rows = rows;
     read_rows(alloc, device, geometry.area_at(half), &mut rows)?;
@@ -124,7 +117,7 @@ fn sectors_before_end(size: u32) -> u64
     (BEFORE_ROWS as u64 + u64::from(size) + (SECTOR as u64 - 1)) / SECTOR as u64
 }
 
-/// Reads the next sectors of an area, at most 256, and sees the rows that end in them.
+/// Reads the next sectors of an area, at most 64, and sees the rows that end in them.
 fn read_rows<D: Device>(
     alloc: Global,
     device: &mut D,
@@ -143,9 +136,9 @@ fn read_rows<D: Device>(
     ensures summed { IsHonest (D.disk device.old) → AreSummedOn area (reads_of (D.disk device.old)) rows.old
         → OnOk result (AreSummedOn area (reads_of (D.disk device.old)) rows.new) }
 {
-    let mut window = vec![in alloc; 0; WINDOW]?;
+    let mut window = vec![in alloc; 0; READ]?;
     let first = rows.first;
-    let count = (sectors_before_end(rows.front.size) - first).min(PIECE_SECTORS);
+    let count = (sectors_before_end(rows.front.size) - first).min(READ_SECTORS);
     read_sectors(device, area + first, count, &mut window)?;
     let part = row_part(&window, rows.front.size, first, count);
     push_sums(&mut rows.sums, first, count, part)?;
@@ -161,17 +154,17 @@ fn see_rows(
     planner: &mut Planner,
     note: &mut RowsNote,
 ) -> Result<(), OpenError>
-    ensures seen { OnOk result ((commands : List Command) → HasSeen commands note.old.rows planner.old → HasSeen commands note.new.rows planner.new) }
-    ensures streamed { OnOk result ((size count : ℕ) (pushed : List ℕ) → HasStreamed size count pushed note.old.rows stream.old
-        → HasStreamed size count pushed note.new.rows stream.new) }
-    ensures all { OnOk result ((size count : ℕ) (pushed : List ℕ) → HasStreamed size count pushed note.old.rows stream.old → size ≤ length pushed
-        → as_counted count (rows_decoding (take size pushed)) ≡ Some note.new.rows) }
-    ensures refused { IfErr result (RefusesRows note.old.rows stream.old) }
+    ensures seen { OnOk result ((commands : List Command) → HasSeen commands note.old.value planner.old → HasSeen commands note.new.value planner.new) }
+    ensures streamed { OnOk result ((size count : ℕ) (pushed : List ℕ) → HasStreamed size count pushed note.old.value stream.old
+        → HasStreamed size count pushed note.new.value stream.new) }
+    ensures all { OnOk result ((size count : ℕ) (pushed : List ℕ) → HasStreamed size count pushed note.old.value stream.old → size ≤ length pushed
+        → as_counted count (rows_decoding (take size pushed)) ≡ Some note.new.value) }
+    ensures refused { IfErr result (RefusesRows note.old.value stream.old) }
 {
     'rows: loop {
         match stream.next()? {
             Some(row) => {
-                *note = note.and(&row);
+                *note = and_row(&*note, &row);
                 planner.see(row)?;
             }
             None => return Ok(()),
@@ -179,27 +172,32 @@ fn see_rows(
     }
 }
 
-/// Finishes the plan, once all sectors of the rows are read.
-fn finish_rows(alloc: Global, rows: RowsRead) -> Result<PlannedRows, OpenError>
+/// Sees the last rows, once all sectors are read, and begins to settle what the commands leave.
+fn settle_rows(rows: RowsRead) -> Result<RowsSettled, OpenError>
     requires read { AreRowsRead rows }
     requires all { rows.first ≡ sectors_of (BEFORE_ROWS + rows.front.size) }
-    ensures front { IfOk result (λ planned. planned.front ≡ rows.front) }
-    ensures journal { IfOk result (λ planned. planned.journal ≡ rows.journal) }
-    ensures sums { IfOk result (λ planned. planned.sums.items ≡ rows.sums.items) }
-    ensures planned { IfOk result ArePlanned }
-    ensures rows { IfOk result (λ planned. (pushed : List ℕ) → HasStreamed rows.front.size rows.front.count pushed rows.note.rows rows.stream
-        → rows.front.size ≤ length pushed → as_counted rows.front.count (rows_decoding (take rows.front.size pushed)) ≡ Some planned.note.rows) }
-    ensures refused { IfErr result (RefusesRows rows.note.rows rows.stream) }
+    ensures front { IfOk result (λ settled. settled.front ≡ rows.front) }
+    ensures place { IfOk result (λ settled. settled.place ≡ rows.journal.place) }
+    ensures after { IfOk result (λ settled. settled.after.value ≡ database_after_all settled.note.value rows.journal.commands.items) }
+    ensures sums { IfOk result (λ settled. settled.sums.items ≡ rows.sums.items) }
+    ensures settled { IfOk result AreSettled }
+    ensures few { IfOk result (λ settled. steps_to_settle settled.settling < 2 ^ 65) }
+    ensures rows { IfOk result (λ settled. (pushed : List ℕ) → HasStreamed rows.front.size rows.front.count pushed rows.note.value rows.stream
+        → rows.front.size ≤ length pushed → as_counted rows.front.count (rows_decoding (take rows.front.size pushed)) ≡ Some settled.note.value) }
+    ensures refused { IfErr result (RefusesRows rows.note.value rows.stream) }
 {
     written_rows_are_counted();
     let mut rows = rows;
     see_rows(&mut rows.stream, &mut rows.planner, &mut rows.note)?;
-    let plan = rows.planner.finish(alloc, &rows.journal.commands)?;
-    Ok(PlannedRows {
+    let (place, commands) = (rows.journal.place, rows.journal.commands);
+    let after = rows_after(&rows.note, &commands);
+    let settling = rows.planner.settle(commands)?;
+    Ok(RowsSettled {
         front: rows.front,
-        journal: rows.journal,
-        plan,
+        place,
+        settling,
         note: rows.note,
+        after,
         sums: rows.sums,
     })
 }

@@ -5,6 +5,7 @@ ghost use Rattle.sector_dev.specs.CountedFile.{calls_of, failures_of};
 ghost use Rattle.device_files.specs.Descriptor.{IsAboveStandard};
 
 use crate::locked::LockedFile;
+use crate::zeros::Room;
 use sector_dev::SystemFile;
 use std::fs::File;
 use std::io;
@@ -22,5 +23,5 @@ pub fn create<R: AllocGlobal + Files<File = File>>(
     ensures failures { IfOk result (λ file. failures_of file ≡ 0) }
     ensures above { IfOk result (λ file. IsAboveStandard (calls_of file)) }
 {
-    LockedFile::open(rt, path)?.into_zeros(rt, path, len)
+    LockedFile::open(rt, path)?.into_zeros(rt, path, len, Room::Later)
 }

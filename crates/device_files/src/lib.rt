@@ -10,11 +10,15 @@
 mod cache;
 mod creating;
 mod descriptor;
+mod holder;
 mod kind;
 mod locked;
 mod opening;
 mod writable;
+mod zeros;
 
 pub use creating::create;
+pub use holder::holder_of;
 pub use locked::LockedFile;
 pub use opening::{open, open_to_read};
+pub use zeros::Room;

@@ -7,6 +7,7 @@ ghost use Rattle.device_files.specs.Descriptor.{IsAboveStandard};
 use crate::cache::forget_cached;
 use crate::descriptor::above_standard;
 use crate::kind::{DeviceKind, check_path, device_kind};
+use crate::zeros::{Room, set_zeros};
 use sector_dev::SystemFile;
 use std::alloc::Global;
 use std::fs::{File, OpenOptions};
@@ -48,14 +49,16 @@ impl LockedFile {
         SystemFile::new(alloc, file)
     }
 
-    /// The file, cut to nothing and then of `len` zero bytes. The file, its length and its name in
-    /// its folder are synced before the call returns `Ok`. A block device is unchanged, whatever
+    /// The file, cut to nothing and then of `len` zero bytes, which have room as `room` says. The
+    /// file, its length and its name in its folder are synced before the call returns `Ok`. Where
+    /// there is no room now, the file is left with no bytes. A block device is unchanged, whatever
     /// `len` is.
     pub fn into_zeros<R: AllocGlobal + Files<File = File>>(
         self,
         rt: &R,
         path: &str,
         len: u64,
+        room: Room,
     ) -> io::Result<SystemFile>
         ensures failures { IfOk result (λ file. failures_of file ≡ 0) }
         ensures above { IfOk result (λ file. IsAboveStandard (calls_of file)) }
@@ -64,20 +67,13 @@ impl LockedFile {
         let file = above_standard(file)?;
         match kind {
             DeviceKind::File => {
-                set_zeros(&file, len)?;
+                set_zeros(&file, len, room)?;
                 sync_folder(rt, path)?;
             }
             DeviceKind::Block => forget_cached(&file),
         }
         SystemFile::new(rt.alloc(), file)
     }
-}
-
-// Gives a file `len` zero bytes, on its disk too.
-fn set_zeros(file: &File, len: u64) -> io::Result<()> {
-    file.set_len(0)?;
-    file.set_len(len)?;
-    file.sync_all()
 }
 
 // Syncs the folder that has the name of a file, which may be another one than the path's where the

@@ -1,5 +1,5 @@
 -- The plan of all rows makes the rows after commands: for `planner`.
-use Rattle.std.proofs.Common.{◌≡◌, ℕ, ◌+◌, ◌-◌, ◌^◌, ◌≤◌, Bool, true, false, List, [], ◌∷◌, length, take, drop, min, if◌then◌else◌, refl, sym, ap, ◌∙◌, arith}
+use Rattle.std.proofs.Common.{◌≡◌, ℕ, ◌+◌, ◌-◌, ◌^◌, ◌≤◌, Bool, true, false, List, [], ◌∷◌, length, take, drop, min, if◌then◌else◌, refl, sym, ap, ◌∙◌, subst, arith, ◌++◌, append-nil}
 use Rattle.std.specs.Prelude.{Option, None, map}
 use Rattle.std.specs.List.{AllByRecursion}
 use Rattle.std.specs.Ordering.{is_eq}
@@ -7,25 +7,32 @@ use Rattle.std.proofs.lemmas.List.{length-append, length-drop, length-take-le, l
 use Rattle.std.proofs.lemmas.List.Sums.{sum_by-cons}
 use Rattle.path_db.specs.declared.command.Command.{Command}
 use Rattle.path_db.specs.declared.command.Command.TheVariants.{Register}
-use Rattle.path_db.specs.Database.{RowView, row_under, row_len, rows_len, IsDatabase}
+use Rattle.row_map.specs.declared.row.Row.{Row}
+use Rattle.row_map.specs.Database.{RowView, row_under, row_len, rows_len, IsDatabase}
 use Rattle.path_db.specs.Command.{database_after, database_after_all, HasWholeSegments}
-use Rattle.path_db.specs.CommandLaws.{left_by_puts, left_under_all, KeysAreSeparate, CommandsKeepDatabase}
+use Rattle.path_db.specs.CommandLaws.{left_under_all, KeysAreSeparate, CommandsKeepDatabase}
+use Rattle.row_map.specs.Left.{left_by_puts}
+use Rattle.path_records.specs.declared.key.Key.{Key}
 use Rattle.path_records.specs.Key.{key_bytes}
 use Rattle.path_records.specs.RowRecord.{rows_encoding}
 use Rattle.row_edits.specs.declared.edit.Edit.{Edit}
 use Rattle.row_edits.specs.declared.edit.Edit.TheVariants.{Keep, Pass, Put}
 use Rattle.row_edits.specs.declared.plan.Plan.{Plan}
 use Rattle.row_edits.specs.declared.planner.Planner.{Planner}
-use Rattle.row_edits.specs.Merging.{order_of, has_key, KeysRise, outlives, merged}
+use Rattle.row_edits.specs.declared.settling.Settling.{Settling}
+use Rattle.row_edits.specs.Merging.{order_of, has_key, KeysRise, Includes, keys_named_by, outlives, merged}
 use Rattle.row_edits.specs.Found.{rows_found}
 use Rattle.row_edits.specs.Edits.{views_if_any, record_if_any, edited, bytes_in, puts_in, bytes_out, bytes_kept, bytes_put, count_rows}
-use Rattle.row_edits.specs.Planning.{is_beyond, IsPlanned, MakesAll}
+use Rattle.row_edits.specs.Planning.{is_beyond, MakesAll}
 use Rattle.row_edits.specs.Planner.{HasSeen, IsPlanOf}
+use Rattle.row_edits.specs.Settling.{Settles}
 use Rattle.row_edits.specs.Laws.{left_of, MergesAreFolds}
 use Rattle.row_edits.proofs.Keys.{itself}
-use Rattle.row_edits.proofs.Pours.{some_len}
+use Rattle.row_edits.proofs.Rewrites.{some_len}
 use Rattle.row_edits.proofs.Plans.{counted_rows}
 use Rattle.row_edits.proofs.Found.{found_puts}
+use Rattle.row_edits.proofs.Ends.{none_left_of}
+use Rattle.row_edits.proofs.LeftRows.{all_there}
 
 -- how many bytes edits make of bytes that are all there
 pub edited_len : (edits : List Edit) (rows : List (Option RowView)) (bytes : List ℕ) → bytes_in edits ≤ length bytes → length (edited edits rows bytes) ≡ bytes_out edits rows
@@ -80,6 +87,38 @@ module _ (separate : KeysAreSeparate) (rows : List RowView) (commands : List Com
   pub all_settled : map (λ k. row_under k (database_after_all [] (Register olds ∷ commands))) keys ≡ map (left_of rows commands) keys
   all_settled = same_on (λ k. row_under k (database_after_all [] (Register olds ∷ commands))) (left_of rows commands) keys keys settled (λ k named. named)
 
+-- nothing is settled yet
+pub begun : KeysAreSeparate → (rows : List RowView) (commands : List Command) (planner : Planner) (settling : Settling) → (seen : HasSeen commands rows planner) → IsDatabase rows
+    → settling.keys.items ≡ planner.keys.items → settling.kept ≡ planner.kept → settling.db ≡ planner.olds → settling.commands.items ≡ commands → settling.at ≡ 0
+    → settling.rows.items ≡ [] → settling.size ≡ 0 → settling.count ≡ 0
+    → MakesAll planner.keys.items (is_beyond planner.purged) rows settling.edits.items seen.planned.count seen.planned.olds → Settles rows commands settling
+unfolding database_after_all
+begun separate rows commands planner settling seen is keys_is kept db same at none size count made = record {
+  database = is;
+  rise = subst (λ (l : List Key). KeysRise (map key_bytes l)) (sym keys_is) seen.rise;
+  covers = subst (λ (l : List Key). Includes (map key_bytes l) (keys_named_by commands)) (sym keys_is) seen.covers;
+  purged = planner.purged;
+  purges = seen.purges;
+  kept = seen.planned.count;
+  counted = kept ∙ seen.planned.counted;
+  olds = seen.planned.olds;
+  made = subst (λ (l : List Key). MakesAll l (is_beyond planner.purged) rows settling.edits.items seen.planned.count seen.planned.olds) (sym keys_is) made;
+  applied = [];
+  split = sym ((λ i. drop (at i) (same i)));
+  whole = tt;
+  listed = (λ i. views_if_any (none i) ++ map (λ k. row_under k (database_after_all (stored i) (drop (at i) (same i)))) (map key_bytes (drop (length (none i)) (keys_is i))))
+      ∙ all_settled separate rows commands (map key_bytes planner.keys.items) is seen.rise seen.planned.olds all.finds
+      ∙ sym (ap (λ (l : List Key). map (left_of rows commands) (map key_bytes l)) keys_is);
+  size = size ∙ sym (ap (λ (l : List (Option Row)). min (bytes_put (views_if_any l)) (2 ^ 64 - 1)) none);
+  count = count ∙ sym (ap (λ (l : List (Option Row)). min (count_rows (views_if_any l)) (2 ^ 64 - 1)) none);
+}
+  where
+    stored : settling.db ≡ database_after [] (Register seen.planned.olds)
+    stored = db ∙ seen.planned.registered
+
+    all : MakesAll planner.keys.items (is_beyond planner.purged) rows settling.edits.items seen.planned.count seen.planned.olds
+    all = made
+
 -- the rows after commands are a database
 rows_after : CommandsKeepDatabase → (rows : List RowView) (commands : List Command) → IsDatabase rows → AllByRecursion HasWholeSegments commands
     → IsDatabase (database_after_all rows commands)
@@ -87,56 +126,62 @@ unfolding database_after_all
 rows_after keeps rows [] is whole = is
 rows_after keeps rows (command ∷ commands) is whole = rows_after keeps (database_after rows command) commands (keeps rows command is whole.0) whole.1
 
--- what a planner that has seen all rows hands out is a plan of them
-pub plan_of : KeysAreSeparate → CommandsKeepDatabase → MergesAreFolds → (rows : List RowView) (commands : List Command) (planner : Planner) (plan : Plan) (counted : ℕ)
-    → HasSeen commands rows planner → IsDatabase rows → AllByRecursion HasWholeSegments commands
-    → ((seen : List RowView) (kept : ℕ) (olds : List RowView) → IsPlanned planner.keys.items (is_beyond planner.purged) seen planner.at planner.edits.items kept olds
-    → MakesAll planner.keys.items (is_beyond planner.purged) seen plan.edits.items kept olds)
-    → views_if_any plan.rows.items ≡ map (λ k. row_under k (database_after_all [] (Register planner.olds.items ∷ commands))) (map key_bytes planner.keys.items)
-    → plan.size ≡ min (min (bytes_kept plan.edits.items) (2 ^ 64 - 1) + min (bytes_put (views_if_any plan.rows.items)) (2 ^ 64 - 1)) (2 ^ 64 - 1)
-    → counted ≡ min (count_rows (views_if_any plan.rows.items)) (2 ^ 64 - 1)
-    → plan.count ≡ min (planner.kept + counted) (2 ^ 64 - 1)
+-- what is settled whole is a plan
+pub plan_of : CommandsKeepDatabase → MergesAreFolds → (rows : List RowView) (commands : List Command) (settling : Settling) (plan : Plan) → Settles rows commands settling
+    → length settling.commands.items ≤ settling.at → length settling.keys.items ≤ length settling.rows.items
+    → plan.edits.items ≡ settling.edits.items → plan.rows.items ≡ settling.rows.items
+    → plan.size ≡ min (min (bytes_kept settling.edits.items) (2 ^ 64 - 1) + settling.size) (2 ^ 64 - 1)
+    → plan.count ≡ min (settling.kept + settling.count) (2 ^ 64 - 1)
     → IsPlanOf rows commands plan
-plan_of separate keeps merges rows commands planner plan counted seen is whole made puts sized counts total = record {
-  makes = makes;
-  bytes = all.bytes;
-  out = out;
-  size = omega (arith, sized, out, parts);
-  count = omega (arith, total, counts, seen.planned.counted, many);
-  database = rows_after keeps rows commands is whole;
+plan_of keeps merges rows commands settling plan is applied listed edited_is listed_is sized total = record {
+  makes = ap (λ (l : List Edit). edited l (views_if_any plan.rows.items) (rows_encoding rows)) edited_is ∙ ap (λ (l : List (Option Row)). edited edits (views_if_any l) (rows_encoding rows)) listed_is ∙ makes;
+  bytes = ap bytes_in edited_is ∙ is.made.bytes;
+  out = ap (λ (l : List Edit). bytes_out l (views_if_any plan.rows.items)) edited_is ∙ ap (λ (l : List (Option Row)). bytes_out edits (views_if_any l)) listed_is ∙ out;
+  size = omega (arith, sized, is.size, out, parts);
+  count = omega (arith, total, is.count, is.counted, many);
+  database = rows_after keeps rows commands is.database whole;
   few = few_rows (database_after_all rows commands);
 }
   where
-    all : MakesAll planner.keys.items (is_beyond planner.purged) rows plan.edits.items seen.planned.count planner.olds.items
-    all = made rows seen.planned.count planner.olds.items seen.planned.planned
+    keys : List (List ℕ)
+    keys = map key_bytes settling.keys.items
 
-    put : views_if_any plan.rows.items ≡ map (left_of rows commands) (map key_bytes planner.keys.items)
-    put = puts ∙ all_settled separate rows commands (map key_bytes planner.keys.items) is seen.rise planner.olds.items all.finds
+    edits : List Edit
+    edits = settling.edits.items
 
-    tests : is_beyond planner.purged ≡ outlives commands
-    tests = λ i row. seen.purges row i
+    views : List (Option RowView)
+    views = views_if_any settling.rows.items
 
-    fold : merged (left_of rows commands) (is_beyond planner.purged) (map key_bytes planner.keys.items) rows ≡ database_after_all rows commands
+    whole : AllByRecursion HasWholeSegments commands
+    whole = subst (λ (l : List Command). AllByRecursion HasWholeSegments l) (sym (is.split ∙ ap (λ (l : List Command). is.applied ++ l) (none_left_of settling.at settling.commands.items applied) ∙ append-nil is.applied)) is.whole
+
+    put : views ≡ map (left_of rows commands) keys
+    put = all_there _ settling.rows.items settling.keys.items (length settling.rows.items) (map (left_of rows commands) keys) listed is.listed
+
+    tests : is_beyond is.purged ≡ outlives commands
+    tests = λ i row. is.purges row i
+
+    fold : merged (left_of rows commands) (is_beyond is.purged) keys rows ≡ database_after_all rows commands
     fold =
-        ap (λ (p : RowView → Bool). merged (left_of rows commands) p (map key_bytes planner.keys.items) rows) tests
-        ∙ merges rows commands (map key_bytes planner.keys.items) is whole seen.rise seen.covers
+        ap (λ (p : RowView → Bool). merged (left_of rows commands) p keys rows) tests
+        ∙ merges rows commands keys is.database whole is.rise is.covers
 
-    makes : edited plan.edits.items (views_if_any plan.rows.items) (rows_encoding rows) ≡ rows_encoding (database_after_all rows commands)
+    makes : edited edits views (rows_encoding rows) ≡ rows_encoding (database_after_all rows commands)
     makes =
-        ap (λ (l : List (Option RowView)). edited plan.edits.items l (rows_encoding rows)) put
-        ∙ all.makes (left_of rows commands) ∙ ap rows_encoding fold
+        ap (λ (l : List (Option RowView)). edited edits l (rows_encoding rows)) put
+        ∙ is.made.makes (left_of rows commands) ∙ ap rows_encoding fold
 
-    out : bytes_out plan.edits.items (views_if_any plan.rows.items) ≡ rows_len (database_after_all rows commands)
+    out : bytes_out edits views ≡ rows_len (database_after_all rows commands)
     out =
-        sym (edited_len plan.edits.items (views_if_any plan.rows.items) (rows_encoding rows) (omega (arith, all.bytes, counted_rows rows)))
+        sym (edited_len edits views (rows_encoding rows) (omega (arith, is.made.bytes, counted_rows rows)))
         ∙ ap length makes ∙ counted_rows (database_after_all rows commands)
 
-    parts : bytes_out plan.edits.items (views_if_any plan.rows.items) ≡ bytes_kept plan.edits.items + bytes_put (views_if_any plan.rows.items)
+    parts : bytes_out settling.edits.items (views_if_any settling.rows.items) ≡ bytes_kept settling.edits.items + bytes_put (views_if_any settling.rows.items)
     parts =
-        bytes_split plan.edits.items (views_if_any plan.rows.items)
-        (all.puts ∙ sym (ap length put ∙ length-map (map key_bytes planner.keys.items) (left_of rows commands) ∙ length-map planner.keys.items key_bytes))
+        bytes_split edits views
+        (is.made.puts ∙ sym (ap length put ∙ length-map keys (left_of rows commands) ∙ length-map settling.keys.items key_bytes))
 
-    many : length (database_after_all rows commands) ≡ seen.planned.count + count_rows (views_if_any plan.rows.items)
+    many : length (database_after_all rows commands) ≡ is.kept + count_rows (views_if_any settling.rows.items)
     many =
-        sym (ap length fold) ∙ all.counts (left_of rows commands)
-        ∙ ap (λ (l : List (Option RowView)). seen.planned.count + count_rows l) (sym put)
+        sym (ap length fold) ∙ is.made.counts (left_of rows commands)
+        ∙ ap (λ (l : List (Option RowView)). is.kept + count_rows l) (sym put)

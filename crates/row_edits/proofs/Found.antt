@@ -6,8 +6,8 @@ use Rattle.std.specs.Ordering.{is_eq}
 use Rattle.std.specs.declared.cmp.Ordering.{Ordering}
 use Rattle.std.specs.declared.cmp.Ordering.TheVariants.{Less, Equal, Greater}
 use Rattle.std.proofs.lemmas.Map.Lookups.{exact_bytes}
-use Rattle.path_db.specs.Database.{RowView, key_of, is_under, row_under, IsRising}
-use Rattle.path_db.specs.CommandLaws.{winner, left_by_puts}
+use Rattle.row_map.specs.Database.{RowView, key_of, is_under, row_under, IsRising}
+use Rattle.row_map.specs.Left.{winner, left_by_puts}
 use Rattle.row_edits.specs.Merging.{order_of, has_key, KeysRise}
 use Rattle.row_edits.specs.Found.{found_by_order, found_up_to, rows_found}
 use Rattle.row_edits.proofs.Keys.{same_key, its_key, turned_greater, RowsAbove, not_above, none_above, keys_above, rows_above}

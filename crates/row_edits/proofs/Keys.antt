@@ -8,7 +8,7 @@ use Rattle.std.specs.declared.cmp.Ordering.TheVariants.{Less, Equal, Greater}
 use Rattle.std.proofs.lemmas.Bool.{false≢true}
 use Rattle.std.proofs.lemmas.Cmp.{nat_list_cmp_total, tied_itself}
 use Rattle.std.proofs.lemmas.Map.Lookups.{exact_bytes}
-use Rattle.path_db.specs.Database.{RowView, key_of, is_under, row_under}
+use Rattle.row_map.specs.Database.{RowView, key_of, is_under, row_under}
 use Rattle.row_edits.specs.Merging.{order_of, has_key}
 
 equal_from : (o : Ordering) → is_eq o ≡ true → o ≡ Equal

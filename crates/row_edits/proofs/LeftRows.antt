@@ -9,11 +9,10 @@ use Rattle.seg_core.specs.declared.seg_type.SegType.TheVariants.{Up, Down, Core}
 use Rattle.seg_core.specs.SegmentView.{SegmentView}
 use Rattle.seg_core.specs.Registration.{type_number}
 use Rattle.path_db.specs.declared.command.Command.{Command}
-use Rattle.path_db.specs.declared.command.Command.TheVariants.{Register}
-use Rattle.path_db.specs.declared.row.Row.{Row}
-use Rattle.path_db.specs.Database.{RowView, key, key_of, row_under}
+use Rattle.row_map.specs.declared.row.Row.{Row}
+use Rattle.row_map.specs.Database.{RowView, key, key_of, row_under}
 use Rattle.path_db.specs.Command.{database_after, database_after_all}
-use Rattle.path_db.specs.Row.{row_view}
+use Rattle.row_map.specs.Row.{row_view}
 use Rattle.path_records.specs.declared.key.Key.{Key}
 use Rattle.path_records.specs.Key.{key_bytes}
 use Rattle.row_edits.specs.Edits.{views_if_any}
@@ -33,14 +32,6 @@ folded rows next commands n command lt is =
 pub all_folded : (rows : List RowView) (commands : List Command) (n : ℕ) → length commands ≤ n → database_after_all rows (drop n commands) ≡ rows
 unfolding database_after_all
 all_folded rows commands n end = ap (λ (l : List Command). database_after_all rows l) (none_left_of n commands end)
-
-pub registered : (rows registration db next new : List RowView) (commands : List Command) → registration ≡ rows → db ≡ [] → next ≡ database_after db (Register registration)
-    → new ≡ database_after_all next commands → new ≡ database_after_all [] (Register rows ∷ commands)
-unfolding database_after_all
-registered rows registration db next new commands same empty put all =
-    all
-    ∙ ap (λ (l : List RowView). database_after_all l commands)
-    (put ∙ ap (λ (l : List RowView). database_after l (Register registration)) empty ∙ ap (λ (l : List RowView). database_after [] (Register l)) same)
 
 -- ---- the row under a key
 

@@ -9,9 +9,10 @@ use Rattle.std.specs.declared.cmp.Ordering.TheVariants.{Less, Equal, Greater}
 use Rattle.std.proofs.lemmas.Bool.{false≢true}
 use Rattle.std.proofs.lemmas.Map.Lookups.{exact_bytes}
 use Rattle.path_db.specs.declared.command.Command.{Command}
-use Rattle.path_db.specs.Database.{RowView, key_of, is_under, row_under, IsRising, IsDatabase}
+use Rattle.row_map.specs.Database.{RowView, key_of, is_under, row_under, IsRising, IsDatabase}
 use Rattle.path_db.specs.Command.{database_after, database_after_all, HasWholeSegments}
-use Rattle.path_db.specs.CommandLaws.{kept_if, KeysAreSeparate, CommandsKeepDatabase, DatabaseIsCanonical}
+use Rattle.path_db.specs.CommandLaws.{KeysAreSeparate, CommandsKeepDatabase, DatabaseIsCanonical}
+use Rattle.row_map.specs.Left.{kept_if}
 use Rattle.row_edits.specs.Merging.{order_of, keys_named_by, has_key, KeysRise, Includes, outlives, one_if, by_order, up_to_row, rows_left, merged}
 use Rattle.row_edits.specs.Laws.{left_of, AreUnder}
 use Rattle.row_edits.proofs.Keys.{same_key, turned_greater, KeysAbove, RowsAbove, not_above, none_above, keys_above, rows_above, IsOf, its_key, found_of}

@@ -11,7 +11,7 @@ use Rattle.std.proofs.Math.Seq.{drop-cons, take-append_seam}
 use Rattle.std.proofs.lemmas.Grind.{flat_map-append}
 use Rattle.std.proofs.lemmas.List.Concat.{flat_map-cons}
 use Rattle.std.proofs.lemmas.List.Sums.{sum_by-cons}
-use Rattle.path_db.specs.Database.{RowView, key_of, row_len, rows_len}
+use Rattle.row_map.specs.Database.{RowView, key_of, row_len, rows_len}
 use Rattle.path_records.specs.declared.key.Key.{Key}
 use Rattle.path_records.specs.Key.{key_bytes}
 use Rattle.path_records.specs.RowRecord.{row_record, rows_encoding}
@@ -21,7 +21,7 @@ use Rattle.row_edits.specs.Merging.{order_of, one_if, by_order, rows_left, merge
 use Rattle.row_edits.specs.Found.{found_by_order, rows_found}
 use Rattle.row_edits.specs.Edits.{record_if_any, edited, bytes_in, puts_in, count_rows}
 use Rattle.row_edits.specs.Planning.{keys_done, keys_left, IsPlanned, IsBeforeRowEdit, IsAfterKeyPuts, IsEnding, MakesAll, rows_unless, rows_when, SameEdits}
-use Rattle.row_edits.proofs.Pours.{record_len}
+use Rattle.row_edits.proofs.Rewrites.{record_len}
 
 -- ---- edits after others
 

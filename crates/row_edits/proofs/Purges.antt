@@ -4,8 +4,8 @@ use Rattle.std.specs.Prelude.{Option, nat_lt}
 use Rattle.std.proofs.lemmas.Bool.{ltb-true, lt-ltb, false≢true}
 use Rattle.path_db.specs.declared.command.Command.{Command}
 use Rattle.path_db.specs.declared.command.Command.TheVariants.{Register, Purge, Remove}
-use Rattle.path_db.specs.Database.{RowView}
-use Rattle.path_db.specs.Command.{is_valid_beyond}
+use Rattle.row_map.specs.Database.{RowView}
+use Rattle.row_map.specs.Drops.{is_valid_beyond}
 use Rattle.seg_check.specs.Expiry.{expiry_of}
 use Rattle.row_edits.specs.Merging.{outlives, outlives_one}
 use Rattle.row_edits.specs.Planning.{is_beyond}

@@ -5,10 +5,11 @@ use Rattle.std.specs.Ordering.{is_eq}
 use Rattle.std.proofs.lemmas.Bool.{false≢true}
 use Rattle.path_db.specs.declared.command.Command.{Command}
 use Rattle.path_db.specs.declared.command.Command.TheVariants.{Register, Purge, Remove}
-use Rattle.path_db.specs.Database.{RowView, key, key_of, is_under}
-use Rattle.path_db.specs.Put.{is_newer}
-use Rattle.path_db.specs.Command.{is_valid_beyond}
-use Rattle.path_db.specs.CommandLaws.{winner, left_by_put, left_by_puts, kept_if, left_under_all}
+use Rattle.row_map.specs.Database.{RowView, key, key_of, is_under}
+use Rattle.row_map.specs.Put.{is_newer}
+use Rattle.row_map.specs.Drops.{is_valid_beyond}
+use Rattle.path_db.specs.CommandLaws.{left_under_all}
+use Rattle.row_map.specs.Left.{winner, left_by_put, left_by_puts, kept_if}
 use Rattle.row_edits.specs.Merging.{order_of, keys_named_by, has_key, outlives}
 use Rattle.row_edits.proofs.Keys.{itself, IsOf, its_key}
 

@@ -2,9 +2,9 @@
 -- under a key.
 use Rattle.std.specs.Prelude.{ℕ, ◌+◌, List, [], ◌∷◌, ◌++◌, length, take, drop, map, Option, Some, None}
 use Rattle.std.specs.Option.{option_map, option_to_list}
-use Rattle.path_db.specs.declared.row.Row.{Row}
-use Rattle.path_db.specs.Database.{RowView, row_len}
-use Rattle.path_db.specs.Row.{row_view}
+use Rattle.row_map.specs.declared.row.Row.{Row}
+use Rattle.row_map.specs.Database.{RowView, row_len}
+use Rattle.row_map.specs.Row.{row_view}
 use Rattle.path_records.specs.RowRecord.{row_record}
 use Rattle.row_edits.specs.declared.edit.Edit.{Edit}
 use Rattle.row_edits.specs.declared.edit.Edit.TheVariants.{Keep, Pass, Put}

@@ -2,7 +2,7 @@
 use Rattle.std.specs.Prelude.{ℕ, List, [], ◌∷◌}
 use Rattle.std.specs.declared.cmp.Ordering.{Ordering}
 use Rattle.std.specs.declared.cmp.Ordering.TheVariants.{Less, Equal, Greater}
-use Rattle.path_db.specs.Database.{RowView, key_of}
+use Rattle.row_map.specs.Database.{RowView, key_of}
 use Rattle.row_edits.specs.Merging.{order_of}
 
 -- The rows found for one key and one row, by how the key compares to the row's key: the row is

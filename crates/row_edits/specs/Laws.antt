@@ -2,7 +2,7 @@
 use Rattle.std.specs.Prelude.{◌≡◌, ℕ, List, map, true, Option, Some}
 use Rattle.std.specs.List.{AllByRecursion}
 use Rattle.path_db.specs.declared.command.Command.{Command}
-use Rattle.path_db.specs.Database.{RowView, row_under, IsDatabase}
+use Rattle.row_map.specs.Database.{RowView, row_under, IsDatabase}
 use Rattle.path_db.specs.Command.{database_after_all, HasWholeSegments}
 use Rattle.path_db.specs.CommandLaws.{left_under_all}
 use Rattle.path_records.specs.declared.key.Key.{Key}

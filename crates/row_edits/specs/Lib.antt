@@ -5,5 +5,6 @@ pub mod Planning
 pub mod Touched
 pub mod Planner
 pub mod Laws
-pub mod Pouring
+pub mod Settling
+pub mod Rewriting
 pub mod Chunks

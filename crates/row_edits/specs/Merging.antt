@@ -9,8 +9,8 @@ use Rattle.std.specs.declared.cmp.Ordering.{Ordering}
 use Rattle.std.specs.declared.cmp.Ordering.TheVariants.{Less, Equal, Greater}
 use Rattle.path_db.specs.declared.command.Command.{Command}
 use Rattle.path_db.specs.declared.command.Command.TheVariants.{Register, Purge, Remove}
-use Rattle.path_db.specs.Database.{RowView, key, key_of}
-use Rattle.path_db.specs.Command.{is_valid_beyond}
+use Rattle.row_map.specs.Database.{RowView, key, key_of}
+use Rattle.row_map.specs.Drops.{is_valid_beyond}
 
 -- The order of two keys, which is that of their bytes.
 abbrev pub order_of : List ℕ → List ℕ → Ordering

@@ -1,8 +1,9 @@
 -- The planner: the rows that it has seen, and the plan that it returns.
 use Rattle.std.specs.Prelude.{◌≡◌, ℕ, ◌-◌, ◌^◌, ◌≤◌, List, [], ◌∷◌, ◌++◌, length, map, min, Bool}
 use Rattle.path_db.specs.declared.command.Command.{Command}
-use Rattle.path_db.specs.Database.{RowView, rows_len, IsDatabase}
-use Rattle.path_db.specs.Command.{database_after_all}
+use Rattle.path_db.specs.declared.command.Command.TheVariants.{Register}
+use Rattle.row_map.specs.Database.{RowView, rows_len, IsDatabase}
+use Rattle.path_db.specs.Command.{database_after, database_after_all}
 use Rattle.path_records.specs.Key.{key_bytes}
 use Rattle.path_records.specs.RowRecord.{rows_encoding}
 use Rattle.row_edits.specs.declared.plan.Plan.{Plan}
@@ -17,8 +18,11 @@ pub record HasPlanned (seen : List RowView) (planner : Planner) : Type 0 where
   pub count : ℕ
   -- The planner has counted them.
   pub counted : planner.kept ≡ min count (2 ^ 64 - 1)
+  -- The rows that are under keys. They are registered in the planner's database.
+  pub olds : List RowView
+  pub registered : planner.olds ≡ database_after [] (Register olds)
   -- The planner's edits are those of the rows.
-  pub planned : IsPlanned planner.keys.items (is_beyond planner.purged) seen planner.at planner.edits.items count planner.olds.items
+  pub planned : IsPlanned planner.keys.items (is_beyond planner.purged) seen planner.at planner.edits.items count olds
 
 -- A planner for commands has seen these rows.
 pub record HasSeen (commands : List Command) (seen : List RowView) (planner : Planner) : Type 0 where
@@ -37,8 +41,8 @@ pub record PlansOn (found : Bool) (row : RowView) (old new : Planner) : Type 0 w
   pub keys : new.keys.items ≡ old.keys.items
   pub purged : new.purged ≡ old.purged
   -- The row is planned too.
-  pub more : (seen : List RowView) (count : ℕ) → old.kept ≡ min count (2 ^ 64 - 1)
-      → IsAfterKeyPuts found row old.keys.items (is_beyond old.purged) seen old.at old.edits.items count old.olds.items
+  pub more : (seen : List RowView) (count : ℕ) (olds : List RowView) → old.kept ≡ min count (2 ^ 64 - 1) → old.olds ≡ database_after [] (Register olds)
+      → IsAfterKeyPuts found row old.keys.items (is_beyond old.purged) seen old.at old.edits.items count olds
       → HasPlanned (seen ++ row ∷ []) new
 
 -- The plan of rows for commands.

@@ -1,7 +1,7 @@
 -- Planning: the edits that are made for the rows that were seen.
 use Rattle.std.specs.Prelude.{◌≡◌, ℕ, ◌+◌, ◌≤◌, List, [], ◌∷◌, ◌++◌, length, take, drop, map, Bool, true, false, Option, Some, None}
-use Rattle.path_db.specs.Database.{RowView, rows_len}
-use Rattle.path_db.specs.Command.{is_valid_beyond}
+use Rattle.row_map.specs.Database.{RowView, rows_len}
+use Rattle.row_map.specs.Drops.{is_valid_beyond}
 use Rattle.path_records.specs.declared.key.Key.{Key}
 use Rattle.path_records.specs.Key.{key_bytes}
 use Rattle.path_records.specs.RowRecord.{rows_encoding}

@@ -1,27 +1,39 @@
-//! Rows that only contracts name. A note takes no memory, and its functions do nothing.
+//! Rows that only contracts name.
 
 ghost use Rattle.std.specs.Prelude.{◌≡◌, List, [], ◌∷◌, ◌++◌};
 ghost use Rattle.std.specs.Borrow.{ftrue};
-ghost use Rattle.path_db.specs.Database.{RowView};
-ghost use Rattle.path_db.specs.Row.{row_view};
+ghost use Rattle.row_map.specs.Database.{RowView};
+ghost use Rattle.row_map.specs.Row.{row_view};
 ghost use Rattle.path_db.specs.Command.{database_after_all};
 
-use path_db::{Command, Row};
+use ghost_note::{Note, NoteSource};
+use path_db::Command;
+use row_map::Row;
 use std::marker::Model;
 
-/// The source of a note's rows.
-trait NoteSource {
-    ghost use Rattle.std.specs.Prelude.{List};
-    ghost use Rattle.path_db.specs.Database.{RowView};
-
-    ghost rows: { Self → List RowView };
+/// Rows that are in no memory. No value of this type is made.
+pub struct Rows {
+    ghost rows: { List RowView },
 }
+
+impl Model for Rows {
+    ghost also_owns = { λ _. ftrue };
+
+    ghost Value = { List RowView };
+
+    ghost view = { λ all. all.rows };
+}
+
+/// Rows that contracts name and that no code keeps.
+pub type RowsNote = Note<Rows>;
+
+const _: () = prove!(size_of::<RowsNote>() == 0);
 
 // No rows.
 struct NoRows;
 
-impl NoteSource for NoRows {
-    ghost rows = { λ _. [] };
+impl NoteSource<Rows> for NoRows {
+    ghost value = { λ _. [] };
 }
 
 // The rows of a note, and one row more.
@@ -31,8 +43,8 @@ struct RowMore<'a> {
     row: &'a Row,
 }
 
-impl<'a> NoteSource for RowMore<'a> {
-    ghost rows = { λ step. step.note.now.rows ++ row_view step.row.now ∷ [] };
+impl<'a> NoteSource<Rows> for RowMore<'a> {
+    ghost value = { λ step. step.note.now.value ++ row_view step.row.now ∷ [] };
 }
 
 // The rows of a note after commands.
@@ -42,54 +54,27 @@ struct AfterCommands<'a> {
     commands: &'a [Command],
 }
 
-impl<'a> NoteSource for AfterCommands<'a> {
-    ghost rows = { λ step. database_after_all step.note.now.rows step.commands.now };
+impl<'a> NoteSource<Rows> for AfterCommands<'a> {
+    ghost value = { λ step. database_after_all step.note.now.value step.commands.now };
 }
 
-/// Rows that contracts name and that no code keeps. A note has no bytes in memory.
-#[derive(Drop)]
-pub struct RowsNote {
-    pub ghost rows: { List RowView },
+/// The note of no rows.
+pub fn no_rows() -> RowsNote
+    ensures { result.value ≡ [] }
+{
+    Note::of(&NoRows)
 }
 
-impl Model for RowsNote {
-    ghost also_owns = { λ _. ftrue };
+/// The note of these rows and one more, after them.
+pub fn and_row(note: &RowsNote, row: &Row) -> RowsNote
+    ensures { result.value ≡ note.now.value ++ row_view row.now ∷ [] }
+{
+    Note::of(&RowMore { note, row })
 }
 
-// A note owns nothing.
-unsafe impl Send for RowsNote {}
-
-const _: () = prove!(size_of::<RowsNote>() == 0);
-
-impl RowsNote {
-    // A note of the rows of a source. Its proof is written by hand.
-    fn of<T: NoteSource>(_source: &T) -> RowsNote
-        ensures { result.rows ≡ T.rows _source.now }
-    {
-        RowsNote {}
-    }
-
-    /// The note of no rows.
-    pub fn new() -> RowsNote
-        ensures { result.rows ≡ [] }
-    {
-        RowsNote::of(&NoRows)
-    }
-
-    /// The note of these rows and one more, after them.
-    pub fn and(&self, row: &Row) -> RowsNote
-        ensures { result.rows ≡ self.now.rows ++ row_view row.now ∷ [] }
-    {
-        RowsNote::of(&RowMore { note: self, row })
-    }
-
-    /// The note of these rows after commands.
-    pub fn after(&self, commands: &[Command]) -> RowsNote
-        ensures { result.rows ≡ database_after_all self.now.rows commands.now }
-    {
-        RowsNote::of(&AfterCommands {
-            note: self,
-            commands,
-        })
-    }
+/// The note of these rows after commands.
+pub fn rows_after(note: &RowsNote, commands: &[Command]) -> RowsNote
+    ensures { result.value ≡ database_after_all note.now.value commands.now }
+{
+    Note::of(&AfterCommands { note, commands })
 }

@@ -1,7 +1,7 @@
 //! The plan for all rows.
 
 use crate::edit::Edit;
-use path_db::Row;
+use row_map::Row;
 
 /// The edits that turn the records before into the records after commands, and the rows that they
 /// put.

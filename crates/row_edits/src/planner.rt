@@ -1,29 +1,28 @@
 //! Planning in one pass over the rows before.
 
-ghost use Rattle.std.specs.Prelude.{◌≡◌, ◌∷◌, ◌++◌, [], List, true, false, IfOk, OnOk};
+ghost use Rattle.std.specs.Prelude.{◌≡◌, ◌^◌, ◌<◌, ◌∷◌, ◌++◌, [], List, true, false, IfOk, OnOk};
 ghost use Rattle.path_db.specs.declared.command.Command.{Command};
-ghost use Rattle.path_db.specs.Database.{RowView, IsDatabase, row_len};
-ghost use Rattle.path_db.specs.Row.{row_view};
+ghost use Rattle.row_map.specs.Database.{RowView, IsDatabase, row_len};
+ghost use Rattle.row_map.specs.Row.{row_view};
 ghost use Rattle.row_edits.specs.Planning.{is_beyond};
-ghost use Rattle.row_edits.specs.Planner.{HasSeen, IsPlanOf, PlansOn};
+ghost use Rattle.row_edits.specs.Planner.{HasSeen, PlansOn};
+ghost use Rattle.row_edits.specs.Settling.{Settles, steps_to_settle};
 
 use crate::edit::Edit;
-use crate::laws::merges_are_folds;
-use crate::left_rows::settle;
-use crate::plan::Plan;
 use crate::putting::{push_edit, put_rest, put_up_to};
-use crate::totals::{kept_bytes, put_bytes, put_rows};
+use crate::settling::Settling;
 use crate::touched::{greatest_purge, touched_keys};
-use crate::whole::commands_are_whole;
-use path_db::{Command, ROW_HEAD, Row, commands_keep_database, keys_are_separate};
+use path_db::{Command, PathDb, Registration, keys_are_separate};
 use path_records::Key;
+use row_map::{ROW_HEAD, Row};
 use seg_check::expiry;
-use seg_core::{SegType, Segment, encoded_len};
+use seg_core::encoded_len;
 use std::alloc::{AllocError, Global};
 
 /// Plans how commands change rows, which it sees one after the other in the order of their keys. It
-/// keeps the keys that the commands name, an edit for each run of rows, and the rows under those
-/// keys, which share their segments.
+/// keeps the keys that the commands name, an edit for each run of rows, and a database of the rows
+/// under those keys, which share their segments. The database has no indexes, as its rows are read
+/// by their keys alone.
 #[derive(Drop)]
 pub struct Planner {
     keys: Vec<Key>,
@@ -31,7 +30,8 @@ pub struct Planner {
     purged: Option<u64>,
     edits: Vec<Edit>,
     kept: u64,
-    olds: Vec<(SegType, Segment)>,
+    alloc: Global,
+    olds: PathDb,
 }
 
 impl Planner {
@@ -43,13 +43,14 @@ impl Planner {
         let keys = touched_keys(alloc, commands)?;
         let purged = greatest_purge(commands);
         let edits = Vec::new(alloc);
-        let olds = Vec::new(alloc);
+        let olds = PathDb::new(alloc).without_indexes();
         Ok(Planner {
             keys,
             at: 0,
             purged,
             edits,
             kept: 0,
+            alloc,
             olds,
         })
     }
@@ -73,26 +74,17 @@ impl Planner {
         Ok(())
     }
 
-    /// The plan, once all rows were seen. The commands are those for which the planner was made.
-    pub fn finish(self, alloc: Global, commands: &[Command]) -> Result<Plan, AllocError>
-        ensures { IfOk result (λ plan. (rows : List RowView) → HasSeen commands.now rows self → IsDatabase rows → IsPlanOf rows commands.now plan) }
+    /// Begins to settle what the commands leave, once all rows were seen. The commands are those for
+    /// which the planner was made.
+    pub fn settle(self, commands: Vec<Command>) -> Result<Settling, AllocError>
+        ensures settles { IfOk result (λ settling. (rows : List RowView) → HasSeen commands.items rows self → IsDatabase rows → Settles rows commands.items settling) }
+        ensures few { IfOk result (λ settling. steps_to_settle settling < 2 ^ 65) }
     {
-        commands_are_whole(commands);
         keys_are_separate();
-        commands_keep_database();
-        merges_are_folds();
-        let (keys, olds) = (self.keys, self.olds);
+        let (alloc, keys, olds) = (self.alloc, self.keys, self.olds);
         let mut edits = self.edits;
         put_rest(&keys, self.at, &mut edits)?;
-        let rows = settle(alloc, &keys, olds, commands)?;
-        let size = kept_bytes(&edits).saturating_add(put_bytes(&rows));
-        let count = self.kept.saturating_add(put_rows(&rows));
-        Ok(Plan {
-            edits,
-            rows,
-            size,
-            count,
-        })
+        Ok(Settling::of(alloc, keys, edits, self.kept, olds, commands))
     }
 }
 
@@ -102,7 +94,9 @@ impl Planner {
         ensures { OnOk result (PlansOn true (row_view row) self.old self.new) }
     {
         push_edit(&mut self.edits, Edit::Pass(row_size(&row)))?;
-        self.olds.push((row.kind, row.segment))?;
+        let mut old = Vec::new(self.alloc);
+        old.push((row.kind, row.segment))?;
+        self.olds.apply(&Command::Register(Registration::new(old)))?;
         Ok(())
     }
 

@@ -1,15 +1,15 @@
 //! Where the rows that are left under keys are put among the rows before.
 
 ghost use Rattle.std.specs.Prelude.{◌≡◌, ◌∷◌, ◌++◌, [], Bool, List, ℕ, IfOk, OnOk};
-ghost use Rattle.path_db.specs.Database.{RowView, key_of};
+ghost use Rattle.row_map.specs.Database.{RowView, key_of};
 ghost use Rattle.path_records.specs.Key.{key_bytes};
 ghost use Rattle.row_edits.specs.Merging.{order_of};
-ghost use Rattle.path_db.specs.Row.{row_view};
+ghost use Rattle.row_map.specs.Row.{row_view};
 ghost use Rattle.row_edits.specs.Planning.{IsPlanned, IsBeforeRowEdit, IsAfterKeyPuts, SameEdits, MakesAll};
 
 use crate::edit::Edit;
-use path_db::Row;
 use path_records::Key;
+use row_map::Row;
 use std::alloc::AllocError;
 use std::cmp::Ordering;
 

@@ -1,15 +1,15 @@
-//! The numbers of bytes and rows after a plan. A number above 2^64 - 1 is given as 2^64 - 1.
+//! The numbers of bytes and rows after a plan.
 
 ghost use Rattle.std.specs.Prelude.{◌≡◌, ◌^◌, ◌-◌, length, min};
 ghost use Rattle.std.specs.Option.{option_map, option_to_list};
-ghost use Rattle.path_db.specs.Row.{row_view};
-ghost use Rattle.row_edits.specs.Edits.{bytes_kept, bytes_put, count_rows, kept_by, len_if_any, views_if_any};
+ghost use Rattle.row_map.specs.Row.{row_view};
+ghost use Rattle.row_edits.specs.Edits.{bytes_kept, kept_by, len_if_any};
 
 use crate::edit::Edit;
-use path_db::{ROW_HEAD, Row};
+use row_map::{ROW_HEAD, Row};
 use seg_core::encoded_len;
 
-/// The number of bytes that edits keep.
+/// The number of bytes that edits keep. A number above 2^64 - 1 is given as 2^64 - 1.
 pub(crate) fn kept_bytes(edits: &[Edit]) -> u64
     ensures { result ≡ min (bytes_kept edits.now) (2 ^ 64 - 1) }
 {
@@ -31,19 +31,8 @@ fn bytes_of(edit: Edit) -> u64
     }
 }
 
-/// The number of bytes of the records of rows.
-pub(crate) fn put_bytes(rows: &[Option<Row>]) -> u64
-    ensures { result ≡ min (bytes_put (views_if_any rows.now)) (2 ^ 64 - 1) }
-{
-    let mut size: u64 = 0;
-    for row in rows {
-        size = size.saturating_add(record_len(row));
-    }
-    size
-}
-
 /// The number of bytes of the record of a row, 0 where there is no row.
-fn record_len(row: &Option<Row>) -> u64
+pub(crate) fn record_len(row: &Option<Row>) -> u64
     ensures { result ≡ len_if_any (option_map row_view row.now) }
 {
     match row {
@@ -52,19 +41,8 @@ fn record_len(row: &Option<Row>) -> u64
     }
 }
 
-/// The number of rows among entries.
-pub(crate) fn put_rows(rows: &[Option<Row>]) -> u64
-    ensures { result ≡ min (count_rows (views_if_any rows.now)) (2 ^ 64 - 1) }
-{
-    let mut count: u64 = 0;
-    for row in rows {
-        count = count.saturating_add(one_if_any(row));
-    }
-    count
-}
-
 /// One where there is a row, and 0 where there is none.
-fn one_if_any(row: &Option<Row>) -> u64
+pub(crate) fn one_if_any(row: &Option<Row>) -> u64
     ensures { result ≡ length (option_to_list (option_map row_view row.now)) }
 {
     match row {

@@ -2,8 +2,8 @@
 
 ghost use Rattle.std.specs.Prelude.{◌≡◌, ◌++◌, List, ℕ, None, IfOk, OnOk, map, false, if◌then◌else◌};
 ghost use Rattle.std.specs.Option.{option_map};
-ghost use Rattle.path_db.specs.Command.{is_valid_beyond};
-ghost use Rattle.path_db.specs.Database.{RowView, key_of};
+ghost use Rattle.row_map.specs.Drops.{is_valid_beyond};
+ghost use Rattle.row_map.specs.Database.{RowView, key_of};
 ghost use Rattle.path_records.specs.Key.{key_bytes};
 ghost use Rattle.row_edits.specs.Merging.{keys_named, keys_named_by, outlives, outlives_one, has_key, KeysRise, Includes};
 ghost use Rattle.row_edits.specs.Planning.{is_beyond};

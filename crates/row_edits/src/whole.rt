@@ -1,23 +1,13 @@
-//! Laws of commands, by the types of the segments in them. The functions change nothing.
+//! Laws of a command, by the types of the segments in them. The functions change nothing.
 
-ghost use Rattle.std.specs.List.{AllByRecursion};
-ghost use Rattle.path_db.specs.Database.{AreWhole};
+ghost use Rattle.row_map.specs.Database.{AreWhole};
 ghost use Rattle.path_db.specs.Command.{HasWholeSegments};
 
 use path_db::Command;
 use seg_core::{SegType, Segment, encoded_len};
 
-/// The segments of commands are whole.
-pub(crate) fn commands_are_whole(commands: &[Command])
-    ensures { AllByRecursion HasWholeSegments commands.now }
-{
-    for command in commands {
-        command_is_whole(command);
-    }
-}
-
 /// The segments of a command are whole.
-fn command_is_whole(command: &Command)
+pub(crate) fn command_is_whole(command: &Command)
     ensures { HasWholeSegments command.now }
 {
     match command {

@@ -1,7 +1,7 @@
 -- Stores that are made with given rows at a given place, and the results of making one.
 use Rattle.std.specs.Prelude.{◌≡◌, ◌⊎◌, ℕ, ◌+◌, ◌*◌, ◌<◌, ◌≤◌, List, slice_index, Result, Ok, Err}
 use Rattle.byte_lists.specs.declared.format.TheConstants.{SECTOR}
-use Rattle.path_db.specs.Database.{RowView, rows_len}
+use Rattle.row_map.specs.Database.{RowView, rows_len}
 use Rattle.path_db.specs.declared.command.Command.{Command}
 use Rattle.sector_dev.specs.Disk.{Disk, IsHonest, reads_of}
 use Rattle.sector_dev.specs.Image.{EveryImage, IsFromImage}

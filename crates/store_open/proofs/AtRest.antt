@@ -16,7 +16,7 @@ use Rattle.store_layout.specs.TakeOver.{taken_over, empty_journal}
 use Rattle.store_open.specs.Closing.{HasClosedGates}
 use Rattle.store_open.specs.NewStore.{DeviceHasRoomFor}
 use Rattle.store_open.specs.Behind.{SameBehind}
-use Rattle.path_db.specs.Database.{RowView, rows_len}
+use Rattle.row_map.specs.Database.{RowView, rows_len}
 use Rattle.path_records.specs.RowRecord.{rows_encoding}
 use Rattle.path_records.specs.RecordLaws.{WrittenRowsAreCounted}
 use Rattle.path_db.specs.declared.command.Command.{Command}

@@ -5,7 +5,7 @@ use Rattle.std.specs.Result.{is_ok, IsOk}
 use Rattle.byte_lists.specs.Content.{part}
 use Rattle.byte_lists.specs.Sectors.{sector_at}
 use Rattle.byte_lists.proofs.Contents.{length-part}
-use Rattle.path_db.specs.Database.{RowView}
+use Rattle.row_map.specs.Database.{RowView}
 use Rattle.path_records.specs.RowRecord.{rows_decoding}
 use Rattle.store_layout.specs.declared.half.Half.{Half}
 use Rattle.store_layout.specs.declared.half.Half.TheVariants.{First, Second}

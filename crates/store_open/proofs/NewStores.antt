@@ -11,7 +11,7 @@ use Rattle.store_layout.specs.StoreFormat.{StoreFormat}
 use Rattle.store_open.specs.NewStore.{first_head, IsNewStore, IsEmptyStore, IsFormattedInAny}
 use Rattle.store_layout.specs.Limits.{latest}
 use Rattle.store_layout.proofs.TakeOver.{opens_empty}
-use Rattle.path_db.specs.Database.{RowView}
+use Rattle.row_map.specs.Database.{RowView}
 use Rattle.path_db.specs.declared.command.Command.{Command}
 use Rattle.store_open.specs.PathStores.{store_format}
 

@@ -8,7 +8,7 @@ use Rattle.std.proofs.lemmas.List.Edits.{take-paste, paste_all, paste-paste}
 use Rattle.byte_lists.specs.Content.{part, overwrite}
 use Rattle.byte_lists.specs.Sectors.{sectors_of, padded}
 use Rattle.byte_lists.proofs.Contents.{length-overwrite, overwrite_before, overwrite_within, overwrite_behind, length-part, get_or-part, same_content, overwrite_same, part_new}
-use Rattle.path_db.specs.Database.{RowView}
+use Rattle.row_map.specs.Database.{RowView}
 use Rattle.path_records.specs.RowRecord.{rows_encoding}
 use Rattle.sector_dev.specs.Disk.{History, Disk, IsHonest, IsWhole, reads_of}
 use Rattle.sector_dev.specs.Calls.{Keeps, WriteCall}
@@ -94,8 +94,8 @@ overwrite_more at first second content inside =
     ∙ sym (is_pasted at (first ++ second) content)
 
 -- nothing is written yet
-pub poured_none : (at : ℕ) (bytes : List ℕ) (start : Disk) → (IsHonest start → IsWhole start) → 512 * at ≤ 512 * start.sectors → IsWrittenUpTo start start at at bytes bytes
-poured_none at bytes start whole inside = record {
+pub rewritten_none : (at : ℕ) (bytes : List ℕ) (start : Disk) → (IsHonest start → IsWhole start) → 512 * at ≤ 512 * start.sectors → IsWrittenUpTo start start at at bytes bytes
+rewritten_none at bytes start whole inside = record {
   front = [];
   parts = refl;
   reached = omega arith;
@@ -104,7 +104,7 @@ poured_none at bytes start whole inside = record {
 
 -- the same with some more rows after the used part of the buffer, which has room for them
 pub record HasRowMore (start now : Disk) (at sector used : ℕ) (buffer : List ℕ) (left : List RowView) (bytes : List ℕ) : Type 0 where
-  pub poured : IsWrittenUpTo start now at sector (take used buffer ++ rows_encoding left) bytes
+  pub rewritten : IsWrittenUpTo start now at sector (take used buffer ++ rows_encoding left) bytes
   pub size : length (take used buffer) ≡ used
   pub room : 512 * sector + used ≤ 512 * at + length (padded bytes)
   pub since : 512 * at ≤ 512 * sector
@@ -112,22 +112,22 @@ pub record HasRowMore (start now : Disk) (at sector used : ℕ) (buffer : List �
 pub row_more : (start now : Disk) (at sector used more : ℕ) (before after : List ℕ) (rows all left : List RowView) (bytes : List ℕ) → IsWrittenUpTo start now at sector (take used before ++ rows_encoding rows) bytes
     → rows ≡ all → take more after ++ rows_encoding left ≡ take used before ++ rows_encoding all → more ≤ length after → HasRowMore start now at sector more after left bytes
 row_more start now at sector used more before after rows all left bytes so_far next put fits = record {
-  poured = poured;
+  rewritten = rewritten;
   size = size;
   room = omega (
     arith,
     size,
-    poured.reached,
-    ap length poured.parts,
-    length-append poured.front (take more after ++ rows_encoding left),
+    rewritten.reached,
+    ap length rewritten.parts,
+    length-append rewritten.front (take more after ++ rows_encoding left),
     length-append (take more after) (rows_encoding left),
     length-append bytes (replicate (512 * sectors_of (length bytes) - length bytes) 0),
   );
-  since = omega (arith, poured.reached);
+  since = omega (arith, rewritten.reached);
 }
   where
-    poured : IsWrittenUpTo start now at sector (take more after ++ rows_encoding left) bytes
-    poured = subst (λ (rest : List ℕ). IsWrittenUpTo start now at sector rest bytes) (ap (λ (list : List RowView). take used before ++ rows_encoding list) next ∙ sym put) so_far
+    rewritten : IsWrittenUpTo start now at sector (take more after ++ rows_encoding left) bytes
+    rewritten = subst (λ (rest : List ℕ). IsWrittenUpTo start now at sector rest bytes) (ap (λ (list : List RowView). take used before ++ rows_encoding list) next ∙ sym put) so_far
 
     size : length (take more after) ≡ more
     size = length-take-le more after fits
@@ -138,10 +138,10 @@ put_next before after bytes left rest put is =
     ap (λ (list : List ℕ). list ++ rest) put ∙ append_assoc before bytes rest ∙ ap (λ (list : List ℕ). before ++ list) (sym is)
 
 -- a piece that is written, and the bytes after it are the rest
-pub poured_piece : {T E : Type 0} (at sector count : ℕ) (held piece rest left bytes : List ℕ) (answer : Result T E) (start now later : Disk) → IsWrittenUpTo start now at sector (held ++ left) bytes → Keeps start now
+pub rewritten_piece : {T E : Type 0} (at sector count : ℕ) (held piece rest left bytes : List ℕ) (answer : Result T E) (start now later : Disk) → IsWrittenUpTo start now at sector (held ++ left) bytes → Keeps start now
     → piece ++ rest ≡ held → WriteCall sector piece answer now later → ((landed : List ℕ) → OnOk answer (landed ≡ piece) → landed ≡ piece) → length piece ≡ 512 * count
     → (IsHonest start → IsWhole start) → 512 * at ≤ 512 * start.sectors → IsWrittenUpTo start later at (sector + count) (rest ++ left) bytes
-poured_piece at sector count held piece rest left bytes answer start now later so_far keeps parts call done size whole inside = record {
+rewritten_piece at sector count held piece rest left bytes answer start now later so_far keeps parts call done size whole inside = record {
   front = so_far.front ++ piece;
   parts = append_assoc so_far.front piece (rest ++ left) ∙ ap (λ (list : List ℕ). so_far.front ++ list) (sym (append_assoc piece rest left) ∙ ap (λ (list : List ℕ). list ++ left) parts) ∙ so_far.parts;
   reached = ap (λ (n : ℕ). 512 * at + n) (length-append so_far.front piece) ∙ omega (arith, so_far.reached, size);

@@ -1,6 +1,6 @@
 -- The state of a store whose commands were folded into its rows.
 use Rattle.std.specs.Prelude.{false, List}
-use Rattle.path_db.specs.Database.{RowView}
+use Rattle.row_map.specs.Database.{RowView}
 use Rattle.path_db.specs.declared.command.Command.{Command}
 use Rattle.sector_dev.specs.Disk.{Disk, IsHonest, reads_of}
 use Rattle.store_layout.specs.Opening.{Opening, IsOpening}

@@ -2,7 +2,7 @@
 use Rattle.std.specs.Prelude.{◌≡◌, ◌≢◌, ◌⊎◌, ℕ, ◌*◌, List, Result, Ok, Err, IsOk, Option, Some}
 use Rattle.std.specs.Option.{option_map}
 use Rattle.byte_lists.specs.declared.format.TheConstants.{SECTOR}
-use Rattle.path_db.specs.Database.{RowView}
+use Rattle.row_map.specs.Database.{RowView}
 use Rattle.path_db.specs.declared.command.Command.{Command}
 use Rattle.sector_dev.specs.Disk.{History, Disk, IsHonest, reads_of, after_sync}
 use Rattle.store_layout.specs.declared.half.Half.{Half}

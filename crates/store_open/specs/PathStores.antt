@@ -2,7 +2,7 @@
 -- journals.
 use Rattle.std.specs.Prelude.{◌≡◌, ℕ, List, [], Some}
 use Rattle.std.proofs.Common.{refl}
-use Rattle.path_db.specs.Database.{RowView}
+use Rattle.row_map.specs.Database.{RowView}
 use Rattle.path_records.specs.RowRecord.{rows_within, rows_decoding}
 use Rattle.path_db.specs.declared.command.Command.{Command}
 use Rattle.path_db.specs.Command.{database_after}

@@ -1,6 +1,6 @@
 -- What holds for a store on any device.
 use Rattle.std.specs.Prelude.{◌≡◌, ℕ, ◌+◌, ◌≤◌, true, false}
-use Rattle.path_db.specs.Database.{IsDatabase}
+use Rattle.row_map.specs.Database.{IsDatabase}
 use Rattle.sector_dev.specs.Disk.{IsHonest}
 use Rattle.store_layout.specs.Limits.{latest}
 use Rattle.store_open.specs.NewStore.{DeviceHasRoomFor}

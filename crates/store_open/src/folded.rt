@@ -1,7 +1,7 @@
 //! The state of a store whose commands are folded.
 
 ghost use Rattle.std.specs.Prelude.{◌↔◌, IfOk, IsTrue};
-ghost use Rattle.path_db.specs.Database.{IsDatabase};
+ghost use Rattle.row_map.specs.Database.{IsDatabase};
 ghost use Rattle.store_open.specs.Folded.{TellsOnAny};
 ghost use Rattle.store_open.specs.Open.{opening_view};
 ghost use Rattle.store_open.specs.StoreShape.{IsSealWithin};

@@ -1,7 +1,7 @@
 //! Folding the commands of a journal into a database.
 
 ghost use Rattle.std.specs.Prelude.{◌≡◌, OnOk};
-ghost use Rattle.path_db.specs.Database.{IsDatabase};
+ghost use Rattle.row_map.specs.Database.{IsDatabase};
 ghost use Rattle.store_layout.specs.StoreFormat.{db_after};
 ghost use Rattle.store_open.specs.PathStores.{store_format};
 

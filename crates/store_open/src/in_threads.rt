@@ -1,8 +1,8 @@
 //! Opening a store in threads.
 
 ghost use Rattle.std.specs.Prelude.{◌≡◌, ◌≢◌, ◌++◌, false, IfOk, IfErr};
-ghost use Rattle.path_db.specs.Database.{IsDatabase};
-ghost use Rattle.path_db.specs.Row.{row_views};
+ghost use Rattle.row_map.specs.Database.{IsDatabase};
+ghost use Rattle.row_map.specs.Row.{row_views};
 ghost use Rattle.path_records.specs.declared.error.DbError.TheVariants.{NoMemory};
 ghost use Rattle.path_records.specs.RowRecord.{rows_encoding};
 ghost use Rattle.path_records.specs.RowsReader.{AreReadOn, AreRefused};
@@ -14,8 +14,8 @@ ghost use Rattle.store_open.specs.Open.{OpensAlike, IsOpened, ComesBack, HasNoth
 use crate::error::OpenError;
 use crate::open_store::open_by;
 use crate::store::Store;
-use path_db::Row;
 use path_records::{ByCall, DbError, read_in_threads};
+use row_map::Row;
 use sector_dev::Device;
 use std::alloc::Global;
 use std::thread::Threads;

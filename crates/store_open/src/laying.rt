@@ -5,7 +5,7 @@ ghost use Rattle.std.specs.Option.{option_map, ForSome};
 ghost use Rattle.byte_lists.specs.Content.{overwrite};
 ghost use Rattle.byte_lists.specs.Sectors.{padded};
 ghost use Rattle.byte_lists.specs.declared.format.TheConstants.{SECTOR};
-ghost use Rattle.path_db.specs.Row.{row_view};
+ghost use Rattle.row_map.specs.Row.{row_view};
 ghost use Rattle.path_records.specs.declared.format.TheConstants.{PIECE};
 ghost use Rattle.path_records.specs.RowRecord.{row_record, rows_encoding};
 ghost use Rattle.sector_dev.specs.Disk.{IsHonest, reads_of};
@@ -17,8 +17,9 @@ ghost use Rattle.store_open.specs.TakingOver.{IsTornAt};
 ghost use Rattle.store_open.specs.declared.laying.TheConstants.{BUFFER};
 
 use byte_lists::{put, sector_count};
-use path_db::{MOST_ROW_BYTES, PathDb, ROW_HEAD, Row, Rows};
+use path_db::PathDb;
 use path_records::{PIECE, row_head};
+use row_map::{MOST_ROW_BYTES, ROW_HEAD, Row, Rows};
 use sector_dev::{DevError, Device, SECTOR};
 use store_layout::BEFORE_ROWS;
 
@@ -73,7 +74,7 @@ fn write_rows<D: Device>(
     requires clean { IsHonest (D.disk device.old) → (D.disk device.old).history.now.dirty ≡ [] }
     ensures any_moment { Stretch (D.disk device.old) (D.disk device.new)
         (IsTornAt (SECTOR * at) (length (padded (take before buffer.old ++ rows_encoding rows.entry))) (reads_of (D.disk device.old))) }
-    ensures poured { IfOk result (λ rest. IsWrittenUpTo (D.disk device.old) (D.disk device.new) at rest.0
+    ensures rewritten { IfOk result (λ rest. IsWrittenUpTo (D.disk device.old) (D.disk device.new) at rest.0
         (take rest.1 buffer.new) (take before buffer.old ++ rows_encoding rows.entry)) }
     ensures buffer { length buffer.new ≡ length buffer.old }
     ensures rest { IfOk result (λ rest. rest.1 < PIECE) }

@@ -1,7 +1,7 @@
 //! Reading what a device opens with.
 
 ghost use Rattle.std.specs.Prelude.{◌≡◌, IfOk, IfErr};
-ghost use Rattle.path_db.specs.Database.{IsDatabase};
+ghost use Rattle.row_map.specs.Database.{IsDatabase};
 ghost use Rattle.sector_dev.specs.Calls.{Keeps};
 ghost use Rattle.sector_dev.specs.Disk.{IsHonest, reads_of};
 ghost use Rattle.store_open.specs.Folded.{IsSeenOn};

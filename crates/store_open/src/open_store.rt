@@ -1,7 +1,7 @@
 //! Opening a store.
 
 ghost use Rattle.std.specs.Prelude.{◌≡◌, [], false, IfOk, IfErr};
-ghost use Rattle.path_db.specs.Database.{IsDatabase};
+ghost use Rattle.row_map.specs.Database.{IsDatabase};
 ghost use Rattle.sector_dev.specs.Disk.{IsHonest, reads_of, after_sync};
 ghost use Rattle.sector_dev.specs.Image.{IsFromImage};
 ghost use Rattle.sector_dev.specs.Stretch.{Stretch};

@@ -1,7 +1,7 @@
 //! What is found on a device when it is opened.
 
 ghost use Rattle.std.specs.Prelude.{◌≡◌, None, Ok, IfOk};
-ghost use Rattle.path_db.specs.Database.{IsDatabase};
+ghost use Rattle.row_map.specs.Database.{IsDatabase};
 ghost use Rattle.sector_dev.specs.Disk.{IsHonest, reads_of};
 ghost use Rattle.byte_lists.specs.Sectors.{is_open_gate};
 ghost use Rattle.store_layout.specs.Layout.{other, gate_of};

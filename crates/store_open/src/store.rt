@@ -1,7 +1,7 @@
 //! Stores that were opened.
 
 ghost use Rattle.std.specs.Prelude.{◌≡◌};
-ghost use Rattle.path_db.specs.Database.{IsDatabase};
+ghost use Rattle.row_map.specs.Database.{IsDatabase};
 ghost use Rattle.store_layout.specs.Geometry.{geometry_view};
 ghost use Rattle.store_open.specs.Store.{half_of_tail};
 ghost use Rattle.store_open.specs.StoreShape.{IsStoreWhole};

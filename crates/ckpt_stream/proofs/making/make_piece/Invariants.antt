@@ -4,7 +4,7 @@ use Rattle.byte_lists.specs.Content.{part}
 use Rattle.sector_dev.specs.Disk.{IsHonest, reads_of}
 use Rattle.sector_dev.specs.Calls.{Keeps}
 use Rattle.row_edits.specs.declared.edit.Edit.TheVariants.{Keep}
-use Rattle.row_edits.specs.Pouring.{untaken, untaken_len, edits_end, left_to_keep}
+use Rattle.row_edits.specs.Rewriting.{untaken, untaken_len, edits_end, left_to_keep}
 use Rattle.ckpt_stream.specs.Making.{reads_left}
 use Rattle.ckpt_stream.proofs.making.make_piece.Given as goal
 
@@ -16,12 +16,12 @@ invariant-pieces g l = record {
   faults : (g.D.Device.disk l.device).faults ≡ (g.D.Device.disk l.fn.device).faults;
   history : IsHonest (g.D.Device.disk l.fn.device) → (g.D.Device.disk l.device).history ≡ (g.D.Device.disk l.fn.device).history;
   window : length l.window ≡ 131072;
-  end : edits_end l.pour ≡ l.fn.size;
-  len : untaken_len l.pour ≡ untaken_len l.fn.pour;
-  same : IsHonest (g.D.Device.disk l.fn.device) → untaken l.pour (part (512 * l.fn.area + 32) l.fn.size (reads_of (g.D.Device.disk l.fn.device)))
-      ≡ untaken l.fn.pour (part (512 * l.fn.area + 32) l.fn.size (reads_of (g.D.Device.disk l.fn.device)));
-  stopped : (131072 ≤ length l.pour.out) ⊎ ((l.pour.edits ≡ Keep 0 ∷ []) ⊎ (0 < left_to_keep l.pour));
+  end : edits_end l.rewrite ≡ l.fn.size;
+  len : untaken_len l.rewrite ≡ untaken_len l.fn.rewrite;
+  same : IsHonest (g.D.Device.disk l.fn.device) → untaken l.rewrite (part (512 * l.fn.area + 32) l.fn.size (reads_of (g.D.Device.disk l.fn.device)))
+      ≡ untaken l.fn.rewrite (part (512 * l.fn.area + 32) l.fn.size (reads_of (g.D.Device.disk l.fn.device)));
+  stopped : (131072 ≤ length l.rewrite.out) ⊎ ((l.rewrite.edits ≡ Keep 0 ∷ []) ⊎ (0 < left_to_keep l.rewrite));
 }
 
 abbrev pub decreases-pieces : goal.decreases-pieces
-decreases-pieces g l = reads_left l.pour
+decreases-pieces g l = reads_left l.rewrite

@@ -48,8 +48,8 @@ returns-in-Done-clause-scan g c honest place read =
     journal_read command_format (limits_of c.args.scanner.version) bytes place (reading_of c.in-Done.scan)
     (journal_sectors (geometry_view c.args.geometry) c.args.half reads c.requires.allowed (omega (arith, whole.size, c.requires.room))) journal
 
-pub returns-then-count-ge-PIECE_SECTORS-clause-scan : goal.returns-then-count-ge-PIECE_SECTORS-clause-scan
-returns-then-count-ge-PIECE_SECTORS-clause-scan g c honest place read =
+pub returns-then-count-ge-READ_SECTORS-clause-scan : goal.returns-then-count-ge-READ_SECTORS-clause-scan
+returns-then-count-ge-READ_SECTORS-clause-scan g c honest place read =
     let reads = reads_of (g.D.Device.disk c.args.device.now) in
     let bytes = journal_of (geometry_view c.args.geometry) c.args.half reads in
     let at : PieceLeadsTo (Ok c.in_ok-scan.field-0) (limits_of c.args.scanner.version) bytes place = taken (g.D.Device.disk c.args.device.now) (g.D.Device.disk c.pieces.device) (geometry_view c.args.geometry) c.args.half c.pieces.scanner _ _ _ c.args.scanner.version place _ _ _
@@ -67,7 +67,7 @@ pieces-preserved g c =
       history = λ honest. c.in_ok-piece.ensures.looks.history (honest_after _ _ c.pieces.invariant.keeps honest) ∙ c.pieces.invariant.history honest;
       sectors = on.0 ∙ c.pieces.invariant.sectors;
       version = on.1 ∙ c.pieces.invariant.version;
-      count = omega (arith, c.if-count-ge-PIECE_SECTORS.false);
+      count = omega (arith, c.if-count-ge-READ_SECTORS.false);
       fewer = omega (arith, on.2, c.pieces.invariant.fewer);
       read = λ honest place read.
           let reads = reads_of (g.D.Device.disk c.args.device.now) in

@@ -11,7 +11,7 @@ use Rattle.ckpt_stream.specs.Sums.{sums_in}
 use Rattle.ckpt_stream.specs.OldRows.{AreStreamed, AreSummedOn}
 use Rattle.ckpt_stream.proofs.SectorSums.{sums_length, window_sums, more_summed}
 use Rattle.ckpt_stream.proofs.Looks.{stays_at, looks_device, looks_memory, looks_seen}
-use Rattle.ckpt_stream.proofs.Pours.{on_ok}
+use Rattle.ckpt_stream.proofs.Rewrites.{on_ok}
 use Rattle.ckpt_stream.proofs.OldRows.{pushed_more, pushed_long, on_both, goes_on, if_refused}
 use Rattle.ckpt_stream.proofs.old_rows.read_rows.Goals as goal
 
@@ -53,7 +53,7 @@ returns-clause-summed g c honest was =
 
 pub returns-clause-looks : goal.returns-clause-looks
 returns-clause-looks g c =
-    looks_seen c.see_rows.result c.args.rows.now.note.rows c.push.new.self (g.D.Device.disk c.args.device.now) (g.D.Device.disk c.read_sectors.new.device)
+    looks_seen c.see_rows.result c.args.rows.now.note.value c.push.new.self (g.D.Device.disk c.args.device.now) (g.D.Device.disk c.read_sectors.new.device)
     c.see_rows.ensures.refused (stays_at _ _ _ c.in_ok-read_sectors.ensures.looks)
 
 pub returns-clause-further : goal.returns-clause-further
@@ -71,7 +71,7 @@ returns-clause-read g c =
     let shown : c.deref-2.result.now ≡ c.read_sectors.new.window =
     c.deref-2.ensures.value ∙ with_items_is c.in_ok-window.window c.read_sectors.new.window (omega (arith, c.in_ok-read_sectors.ensures.window, c.in_ok-window.ensures.len, c.deref_mut.ensures.len)) in
     let pushed = read.pushed ++ take (512 * c.min-count.result - (32 - c.min-start.result)) (drop (32 - c.min-start.result) c.deref-2.result.now) in
-    let before = c.in_ok-push.ensures.pushed rows.front.size rows.front.count read.pushed rows.note.rows read.streamed in
+    let before = c.in_ok-push.ensures.pushed rows.front.size rows.front.count read.pushed rows.note.value read.streamed in
     on_both _ _ _ c.see_rows.result c.see_rows.ensures.seen c.see_rows.ensures.streamed (λ seen streamed. record {
       seen = seen rows.journal.commands.items read.seen;
       pushed = pushed;
@@ -96,12 +96,12 @@ returns-clause-streamed g c honest =
     refl refl (ap (take (512 * c.min-count.result)) shown ∙ c.in_ok-read_sectors.ensures.read honest) in
     let after : AreStreamed c.args.area (reads_of (g.D.Device.disk c.args.device.now)) c.args.rows.now
     → HasStreamed c.args.rows.now.front.size c.args.rows.now.front.count (part (512 * c.args.area + 32) (512 * (c.args.rows.now.first + c.min-count.result) - 32) (reads_of (g.D.Device.disk c.args.device.now)))
-    c.args.rows.now.note.rows c.push.new.self =
-    λ streamed. subst (λ (l : List ℕ). HasStreamed c.args.rows.now.front.size c.args.rows.now.front.count l c.args.rows.now.note.rows c.push.new.self) bytes
-    (c.in_ok-push.ensures.pushed rows.front.size rows.front.count (part At (512 * rows.first - 32) reads) rows.note.rows streamed) in
+    c.args.rows.now.note.value c.push.new.self =
+    λ streamed. subst (λ (l : List ℕ). HasStreamed c.args.rows.now.front.size c.args.rows.now.front.count l c.args.rows.now.note.value c.push.new.self) bytes
+    (c.in_ok-push.ensures.pushed rows.front.size rows.front.count (part At (512 * rows.first - 32) reads) rows.note.value streamed) in
     goes_on c.args.area reads rows
     (record { front = rows.front; journal = rows.journal; planner = c.see_rows.new.planner; stream = c.see_rows.new.stream; note = c.see_rows.new.note; sums = c.push_sums.new.sums; first = rows.first + c.min-count.result })
     c.see_rows.result
     (λ streamed. on_both _ _ _ c.see_rows.result c.see_rows.ensures.streamed c.see_rows.ensures.streamed
     (λ more again. more rows.front.size rows.front.count (part At (512 * (rows.first + c.min-count.result) - 32) reads) (after streamed)))
-    (λ streamed. if_refused c.see_rows.result reads rows.note.rows At (512 * (rows.first + c.min-count.result) - 32) rows.front.size rows.front.count c.push.new.self (after streamed) c.see_rows.ensures.refused)
+    (λ streamed. if_refused c.see_rows.result reads rows.note.value At (512 * (rows.first + c.min-count.result) - 32) rows.front.size rows.front.count c.push.new.self (after streamed) c.see_rows.ensures.refused)

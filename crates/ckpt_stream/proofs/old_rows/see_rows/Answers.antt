@@ -1,6 +1,6 @@
 -- One more row.
 use Rattle.std.proofs.Common.{List, sym, subst}
-use Rattle.path_db.specs.Database.{RowView}
+use Rattle.row_map.specs.Database.{RowView}
 use Rattle.ckpt_pair.specs.Stream.{HasStreamed}
 use Rattle.row_edits.specs.Planner.{HasSeen}
 use Rattle.ckpt_stream.proofs.old_rows.see_rows.Goals as goal
@@ -9,8 +9,8 @@ pub rows-preserved : goal.rows-preserved
 rows-preserved c =
     let given = rw c.in-Some.is at c.in_ok-row.ensures.row in
     record {
-      seen = λ commands has. subst (λ (rows : List RowView). HasSeen commands rows c.see.new.self) (sym c.and.ensures)
-          (c.in_ok-see-in-Some.ensures commands c.rows.note.rows (c.rows.invariant.seen commands has));
-      streamed = λ size count pushed has. subst (λ (rows : List RowView). HasStreamed size count pushed rows c.next.new.self) (sym c.and.ensures)
-          (given size count pushed c.rows.note.rows (c.rows.invariant.streamed size count pushed has));
+      seen = λ commands has. subst (λ (rows : List RowView). HasSeen commands rows c.see.new.self) (sym c.and_row.ensures)
+          (c.in_ok-see-in-Some.ensures commands c.rows.note.value (c.rows.invariant.seen commands has));
+      streamed = λ size count pushed has. subst (λ (rows : List RowView). HasStreamed size count pushed rows c.next.new.self) (sym c.and_row.ensures)
+          (given size count pushed c.rows.note.value (c.rows.invariant.streamed size count pushed has));
     }

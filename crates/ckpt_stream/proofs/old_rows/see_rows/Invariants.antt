@@ -8,8 +8,8 @@ use Rattle.ckpt_stream.proofs.old_rows.see_rows.Given as goal
 -- The rows that the stream gave are noted and planned.
 abbrev pub invariant-rows : goal.invariant-rows
 invariant-rows l = record {
-  seen : (commands : List Command) → HasSeen commands l.fn.note.rows l.fn.planner → HasSeen commands l.note.rows l.planner;
-  streamed : (size count : ℕ) (pushed : List ℕ) → HasStreamed size count pushed l.fn.note.rows l.fn.stream → HasStreamed size count pushed l.note.rows l.stream;
+  seen : (commands : List Command) → HasSeen commands l.fn.note.value l.fn.planner → HasSeen commands l.note.value l.planner;
+  streamed : (size count : ℕ) (pushed : List ℕ) → HasStreamed size count pushed l.fn.note.value l.fn.stream → HasStreamed size count pushed l.note.value l.stream;
 }
 
 abbrev pub decreases-rows : goal.decreases-rows

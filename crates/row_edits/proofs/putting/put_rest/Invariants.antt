@@ -1,5 +1,5 @@
 use Rattle.std.proofs.Common.{ℕ, ◌-◌, length, Bool, List}
-use Rattle.path_db.specs.Database.{RowView}
+use Rattle.row_map.specs.Database.{RowView}
 use Rattle.row_edits.specs.Planning.{IsPlanned, IsEnding}
 use Rattle.row_edits.proofs.putting.put_rest.Given as goal
 

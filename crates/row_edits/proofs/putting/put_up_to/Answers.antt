@@ -1,5 +1,5 @@
 use Rattle.std.proofs.Common.{true, ◌+◌, List, sym, ◌∙◌, subst}
-use Rattle.path_db.specs.Row.{row_view}
+use Rattle.row_map.specs.Row.{row_view}
 use Rattle.row_edits.specs.declared.edit.Edit.{Edit}
 use Rattle.row_edits.specs.Planning.{IsBeforeRowEdit, IsAfterKeyPuts}
 use Rattle.row_edits.proofs.Plans.{put_below, put_same, none_same, none_left, is_greater, is_equal, is_less}

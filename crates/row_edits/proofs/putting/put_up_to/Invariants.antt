@@ -1,6 +1,6 @@
 use Rattle.std.proofs.Common.{ℕ, ◌-◌, length, Bool, List}
-use Rattle.path_db.specs.Database.{RowView}
-use Rattle.path_db.specs.Row.{row_view}
+use Rattle.row_map.specs.Database.{RowView}
+use Rattle.row_map.specs.Row.{row_view}
 use Rattle.row_edits.specs.Planning.{IsBeforeRowEdit}
 use Rattle.row_edits.proofs.putting.put_up_to.Given as goal
 

@@ -1,6 +1,6 @@
 use Rattle.std.proofs.Common.{◌≡◌, ◌++◌, drop}
 use Rattle.std.specs.Prelude.{map}
-use Rattle.path_db.specs.Database.{key_of}
+use Rattle.row_map.specs.Database.{key_of}
 use Rattle.path_records.specs.Key.{key_bytes}
 use Rattle.row_edits.proofs.touched.push_registered.Given as goal
 

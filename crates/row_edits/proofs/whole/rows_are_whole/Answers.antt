@@ -1,5 +1,5 @@
 use Rattle.std.proofs.Common.{subst, arith}
-use Rattle.path_db.specs.Database.{RowView}
+use Rattle.row_map.specs.Database.{RowView}
 use Rattle.seg_core.specs.Encoding.{IsSegment}
 use Rattle.row_edits.proofs.Each.{all_more}
 use Rattle.row_edits.proofs.whole.rows_are_whole.Goals as goal

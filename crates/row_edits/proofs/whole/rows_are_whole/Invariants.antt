@@ -1,5 +1,5 @@
 use Rattle.std.proofs.Common.{take}
-use Rattle.path_db.specs.Database.{AreWhole}
+use Rattle.row_map.specs.Database.{AreWhole}
 use Rattle.row_edits.proofs.whole.rows_are_whole.Given as goal
 
 abbrev pub invariant-loop-row : goal.invariant-loop-row

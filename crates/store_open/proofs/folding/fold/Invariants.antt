@@ -1,6 +1,6 @@
 -- How many commands are applied.
 use Rattle.std.proofs.Common.{◌≡◌, drop}
-use Rattle.path_db.specs.Database.{IsDatabase}
+use Rattle.row_map.specs.Database.{IsDatabase}
 use Rattle.store_layout.specs.StoreFormat.{db_after}
 use Rattle.store_open.specs.PathStores.{store_format}
 use Rattle.store_open.proofs.folding.fold.Given as goal

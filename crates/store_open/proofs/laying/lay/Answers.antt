@@ -33,8 +33,8 @@ write_rest-requires-clause-inside g c =
     let same : take 32 c.put.new.bytes ++ rows_encoding c.rows.result ≡ c.args.head.now ++ rows_encoding c.args.db.now = (λ i. front i ++ rows_encoding (c.rows.ensures.same i)) in
     let start = g.D.Device.disk c.args.device.now in
     let torn = subst (λ (all : List ℕ). Stretch start (g.D.Device.disk c.write_rows.new.device) (IsTornAt (512 * c.args.at) (length (padded all)) (reads_of start))) same c.write_rows.ensures.any_moment in
-    let poured = subst (IsWrittenUpTo start (g.D.Device.disk c.write_rows.new.device) c.args.at c.in_ok-sector.sector (take c.in_ok-sector.used c.write_rows.new.buffer)) same c.in_ok-sector.ensures.poured in
-    let room = rest_room _ _ _ _ _ _ poured in
+    let rewritten = subst (IsWrittenUpTo start (g.D.Device.disk c.write_rows.new.device) c.args.at c.in_ok-sector.sector (take c.in_ok-sector.used c.write_rows.new.buffer)) same c.in_ok-sector.ensures.rewritten in
+    let room = rest_room _ _ _ _ _ _ rewritten in
     omega (arith, room, torn.keeps.sectors, c.requires.inside)
 
 pub returns-in_err-write_rest-clause-any_moment : goal.returns-in_err-write_rest-clause-any_moment
@@ -44,9 +44,9 @@ returns-in_err-write_rest-clause-any_moment g c =
     let same : take 32 c.put.new.bytes ++ rows_encoding c.rows.result ≡ c.args.head.now ++ rows_encoding c.args.db.now = (λ i. front i ++ rows_encoding (c.rows.ensures.same i)) in
     let start = g.D.Device.disk c.args.device.now in
     let torn = subst (λ (all : List ℕ). Stretch start (g.D.Device.disk c.write_rows.new.device) (IsTornAt (512 * c.args.at) (length (padded all)) (reads_of start))) same c.write_rows.ensures.any_moment in
-    let poured = subst (IsWrittenUpTo start (g.D.Device.disk c.write_rows.new.device) c.args.at c.in_ok-sector.sector (take c.in_ok-sector.used c.write_rows.new.buffer)) same c.in_ok-sector.ensures.poured in
-    let room = rest_room _ _ _ _ _ _ poured in
-    let written = torn_on _ _ _ (g.met.D.Device.whole c.args.device.now) c.requires.inside _ _ _ _ _ (g.met.D.Device.whole c.write_rows.new.device) (rest_since _ _ _ _ _ _ poured) (omega (arith, room)) torn c.write_rest.ensures.write in
+    let rewritten = subst (IsWrittenUpTo start (g.D.Device.disk c.write_rows.new.device) c.args.at c.in_ok-sector.sector (take c.in_ok-sector.used c.write_rows.new.buffer)) same c.in_ok-sector.ensures.rewritten in
+    let room = rest_room _ _ _ _ _ _ rewritten in
+    let written = torn_on _ _ _ (g.met.D.Device.whole c.args.device.now) c.requires.inside _ _ _ _ _ (g.met.D.Device.whole c.write_rows.new.device) (rest_since _ _ _ _ _ _ rewritten) (omega (arith, room)) torn c.write_rest.ensures.write in
     written
 
 pub returns-clause-any_moment : goal.returns-clause-any_moment
@@ -56,9 +56,9 @@ returns-clause-any_moment g c =
     let same : take 32 c.put.new.bytes ++ rows_encoding c.rows.result ≡ c.args.head.now ++ rows_encoding c.args.db.now = (λ i. front i ++ rows_encoding (c.rows.ensures.same i)) in
     let start = g.D.Device.disk c.args.device.now in
     let torn = subst (λ (all : List ℕ). Stretch start (g.D.Device.disk c.write_rows.new.device) (IsTornAt (512 * c.args.at) (length (padded all)) (reads_of start))) same c.write_rows.ensures.any_moment in
-    let poured = subst (IsWrittenUpTo start (g.D.Device.disk c.write_rows.new.device) c.args.at c.in_ok-sector.sector (take c.in_ok-sector.used c.write_rows.new.buffer)) same c.in_ok-sector.ensures.poured in
-    let room = rest_room _ _ _ _ _ _ poured in
-    let written = torn_on _ _ _ (g.met.D.Device.whole c.args.device.now) c.requires.inside _ _ _ _ _ (g.met.D.Device.whole c.write_rows.new.device) (rest_since _ _ _ _ _ _ poured) (omega (arith, room)) torn c.write_rest.ensures.write in
+    let rewritten = subst (IsWrittenUpTo start (g.D.Device.disk c.write_rows.new.device) c.args.at c.in_ok-sector.sector (take c.in_ok-sector.used c.write_rows.new.buffer)) same c.in_ok-sector.ensures.rewritten in
+    let room = rest_room _ _ _ _ _ _ rewritten in
+    let written = torn_on _ _ _ (g.met.D.Device.whole c.args.device.now) c.requires.inside _ _ _ _ _ (g.met.D.Device.whole c.write_rows.new.device) (rest_since _ _ _ _ _ _ rewritten) (omega (arith, room)) torn c.write_rest.ensures.write in
     stretch_sync _ _ _ _ _ written c.sync.ensures.sync
 
 pub returns-clause-written : goal.returns-clause-written
@@ -68,8 +68,8 @@ returns-clause-written g c =
     let same : take 32 c.put.new.bytes ++ rows_encoding c.rows.result ≡ c.args.head.now ++ rows_encoding c.args.db.now = (λ i. front i ++ rows_encoding (c.rows.ensures.same i)) in
     let start = g.D.Device.disk c.args.device.now in
     let torn = subst (λ (all : List ℕ). Stretch start (g.D.Device.disk c.write_rows.new.device) (IsTornAt (512 * c.args.at) (length (padded all)) (reads_of start))) same c.write_rows.ensures.any_moment in
-    let poured = subst (IsWrittenUpTo start (g.D.Device.disk c.write_rows.new.device) c.args.at c.in_ok-sector.sector (take c.in_ok-sector.used c.write_rows.new.buffer)) same c.in_ok-sector.ensures.poured in
-    let room = rest_room _ _ _ _ _ _ poured in
-    let is = rest_written _ _ _ _ _ _ poured _ (g.D.Device.disk c.write_rest.new.device) torn.keeps c.in_ok-write_rest.ensures.write (λ landed done. done) (g.met.D.Device.whole c.args.device.now)
+    let rewritten = subst (IsWrittenUpTo start (g.D.Device.disk c.write_rows.new.device) c.args.at c.in_ok-sector.sector (take c.in_ok-sector.used c.write_rows.new.buffer)) same c.in_ok-sector.ensures.rewritten in
+    let room = rest_room _ _ _ _ _ _ rewritten in
+    let is = rest_written _ _ _ _ _ _ rewritten _ (g.D.Device.disk c.write_rest.new.device) torn.keeps c.in_ok-write_rest.ensures.write (λ landed done. done) (g.met.D.Device.whole c.args.device.now)
     (omega (arith, c.requires.inside)) in
     search (rules, is)

@@ -1,7 +1,7 @@
 -- Each of the seven records is after those before it.
 use Rattle.std.proofs.Common.{◌∙◌}
 use Rattle.std.proofs.lemmas.List.Concat.{flat_map-cons}
-use Rattle.path_db.specs.Row.{row_view}
+use Rattle.row_map.specs.Row.{row_view}
 use Rattle.path_records.specs.RowRecord.{row_record}
 use Rattle.store_open.proofs.RowWrites.{put_next}
 use Rattle.store_open.proofs.laying.put_seven.Goals as goal

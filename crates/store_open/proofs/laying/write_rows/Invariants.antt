@@ -12,7 +12,7 @@ use Rattle.store_open.proofs.laying.write_rows.Given as goal
 -- are written.
 abbrev pub invariant-loop-row : goal.invariant-loop-row
 invariant-loop-row g l = record {
-  poured : IsWrittenUpTo (g.D.Device.disk l.fn.device) (g.D.Device.disk l.device) l.fn.at l.sector (take l.used l.buffer ++ rows_encoding l.rows)
+  rewritten : IsWrittenUpTo (g.D.Device.disk l.fn.device) (g.D.Device.disk l.device) l.fn.at l.sector (take l.used l.buffer ++ rows_encoding l.rows)
       (take l.fn.before l.fn.buffer ++ rows_encoding l.fn.rows);
   torn : Stretch (g.D.Device.disk l.fn.device) (g.D.Device.disk l.device)
       (IsTornAt (512 * l.fn.at) (length (padded (take l.fn.before l.fn.buffer ++ rows_encoding l.fn.rows))) (reads_of (g.D.Device.disk l.fn.device)));

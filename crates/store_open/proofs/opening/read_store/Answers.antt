@@ -1,7 +1,7 @@
 -- The half that is chosen, its checkpoint, and its journals.
 use Rattle.std.proofs.Common.{◌≡◌, ◌*◌, IsOk, refl, sym, ◌∙◌, ap, subst, List, Result, Ok, Err}
 use Rattle.std.proofs.lemmas.Result.{err_from_is_err_and}
-use Rattle.path_db.specs.Database.{RowView}
+use Rattle.row_map.specs.Database.{RowView}
 use Rattle.path_db.specs.declared.command.Command.{Command}
 use Rattle.sector_dev.specs.Disk.{History, reads_of}
 use Rattle.sector_dev.proofs.Stretches.{honest_after, honest_before, keeps_then}

@@ -1,6 +1,6 @@
 use Rattle.std.proofs.Common.{◌≡◌, ◌<◌, ◌-◌, length, take, refl, sym, subst, ◌∙◌, arith, ltb-true, ltb-false}
 use Rattle.std.proofs.lemmas.Result.{err_from_is_err_and}
-use Rattle.path_db.specs.Row.{row_view}
+use Rattle.row_map.specs.Row.{row_view}
 use Rattle.ckpt_pair.specs.Stream.{StreamView, HasStreamed, AreNoStreamedRows}
 use Rattle.ckpt_pair.proofs.Streams.{streamed_row, all_streamed, more_than_count, refused_walk, fewer_than_count}
 use Rattle.ckpt_pair.proofs.row_stream.RowStream.next.Goals as goal

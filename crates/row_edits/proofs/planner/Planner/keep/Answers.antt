@@ -1,5 +1,5 @@
 use Rattle.std.proofs.Common.{◌+◌, refl, arith}
-use Rattle.path_db.specs.Row.{row_view}
+use Rattle.row_map.specs.Row.{row_view}
 use Rattle.row_edits.specs.Planning.{is_beyond}
 use Rattle.row_edits.proofs.Plans.{ends_kept}
 use Rattle.row_edits.proofs.planner.Planner.keep.Goals as goal
@@ -12,9 +12,11 @@ returns c =
     record {
       keys = refl;
       purged = refl;
-      more = λ seen count counted found. record {
+      more = λ seen count olds counted registered found. record {
         count = count + 1;
         counted = omega (arith, counted, c.saturating_add-self.ensures);
-        planned = ends_kept old.keys.items old.at row (is_beyond old.purged) seen old.edits.items after count old.olds.items c.row_size.result c.row_size.ensures c.requires found c.in_ok-push_edit.ensures;
+        olds = olds;
+        registered = registered;
+        planned = ends_kept old.keys.items old.at row (is_beyond old.purged) seen old.edits.items after count olds c.row_size.result c.row_size.ensures c.requires found c.in_ok-push_edit.ensures;
       };
     }

@@ -1,8 +1,9 @@
-use Rattle.std.proofs.Common.{List, ◌∷◌, [], ◌++◌, refl, sym, subst}
-use Rattle.path_db.specs.Database.{RowView}
-use Rattle.path_db.specs.Row.{row_view}
-use Rattle.row_edits.specs.Planning.{is_beyond, IsPlanned}
+use Rattle.std.proofs.Common.{List, ◌∷◌, [], ◌++◌, ap, ◌∙◌, refl}
+use Rattle.row_map.specs.Database.{RowView}
+use Rattle.row_map.specs.Row.{row_view}
+use Rattle.row_edits.specs.Planning.{is_beyond}
 use Rattle.row_edits.proofs.Plans.{ends_touched}
+use Rattle.row_edits.proofs.SettledRows.{one_old}
 use Rattle.row_edits.proofs.planner.Planner.take_out.Goals as goal
 
 pub returns : goal.returns
@@ -13,11 +14,11 @@ returns c =
     record {
       keys = refl;
       purged = refl;
-      more = λ seen count counted found. record {
+      more = λ seen count olds counted registered found. record {
         count = count;
         counted = counted;
-        planned =
-            subst (λ (l : List RowView). IsPlanned old.keys.items (is_beyond old.purged) (seen ++ row ∷ []) old.at after count l) (sym c.in_ok-push.ensures.items)
-            (ends_touched old.keys.items old.at row (is_beyond old.purged) seen old.edits.items after count old.olds.items c.row_size.result c.row_size.ensures found c.in_ok-push_edit.ensures);
+        olds = olds ++ row ∷ [];
+        registered = one_old old.olds c.apply.new.self olds c.push.new.self.items _ row registered c.new.ensures (c.in_ok-push.ensures.items ∙ ap (λ (l : List RowView). l ++ row ∷ []) c.new-old.ensures.items) c.in_ok-apply.ensures.database;
+        planned = ends_touched old.keys.items old.at row (is_beyond old.purged) seen old.edits.items after count olds c.row_size.result c.row_size.ensures found c.in_ok-push_edit.ensures;
       };
     }
