@@ -1,2 +1,2 @@
-pub mod KeeperSteps
+pub mod OwnerSteps
 pub mod Sent

@@ -2,17 +2,17 @@
 
 use std::marker::Brand;
 
-/// Names one log by its table. The call that makes a log picks the name, so no two logs have one
+/// Names one log by the table of its passes and the book of its history. The call that makes a log picks the name, so no two logs have one
 /// name, and a claim of one log is refused by the types of another.
 pub trait LogName {
-    ghost use Rattle.atomic_table.specs.Seated.{TableId};
+    ghost use Rattle.command_log.specs.Log.{LogId};
 
-    /// The log's table.
-    ghost table: { TableId };
+    /// The log's table and book.
+    ghost table: { LogId };
 }
 
 impl LogName for Brand {
-    ghost use Rattle.command_log.specs.Passes.{no_table};
+    ghost use Rattle.command_log.specs.Passes.{no_log};
 
-    ghost table = { no_table };
+    ghost table = { no_log };
 }

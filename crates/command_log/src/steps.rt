@@ -1,8 +1,8 @@
-//! The steps of the keeper, and those of other passes. Each costs one or two loads.
+//! The steps of the owner, and those of other passes. Each costs one or two loads.
 
 ghost use Rattle.std.specs.Prelude.{◌≡◌, ◌<◌, [], ◌++◌, true, false};
 ghost use Rattle.command_log.specs.Log.{log_with, with_committed, next_claim};
-ghost use Rattle.command_log.specs.Passes.{keeper_view, claim_view, no_view, gathered_view, log_in, claim_in, known_in, IsKeeper, ClaimsHoldIn};
+ghost use Rattle.command_log.specs.Passes.{owner_view, claim_view, no_view, gathered_view, log_in, claim_in, known_in, IsOwner, ClaimsHoldIn};
 
 use crate::rule::{
     Appends, Checks, Chosen, CommitMoment, Commits, Confirms, Copies, Gathers, Issues, LogPass,
@@ -12,78 +12,78 @@ use path_db::Command;
 use std::marker::Brand;
 use std::snapshot::Snapshot;
 
-/// The keeper appends a command, which the new pass claims.
-pub(crate) fn append(table: &LogTable, keeper: &mut LogPass, command: &Snapshot<Command>) -> LogPass
-    requires table { (keeper.old.table_id ≡ table.now.shared.table_id) × (table.now.shared.table_id.words ≡ 1) }
-    requires keeper { IsKeeper keeper.old.me.0 }
-    ensures table { keeper.new.table_id ≡ keeper.old.table_id }
-    ensures log { keeper.new.me.0 ≡ keeper_view (log_with command.now.value (log_in keeper.old.me.0)) }
-    ensures claim { (result.table_id ≡ keeper.old.table_id) × (result.me ≡ (claim_view false (next_claim command.now.value (log_in keeper.old.me.0)), [])) }
+/// The owner appends a command, which the new pass claims.
+pub(crate) fn append(table: &LogTable, owner: &mut LogPass, command: &Snapshot<Command>) -> LogPass
+    requires table { (owner.old.table_id ≡ table.now.shared.table_id) × (table.now.shared.table_id.words ≡ 1) }
+    requires owner { IsOwner owner.old.me.0 }
+    ensures table { owner.new.table_id ≡ owner.old.table_id }
+    ensures log { owner.new.me.0 ≡ owner_view (log_with command.now.value (log_in owner.old.me.0)) }
+    ensures claim { (result.table_id ≡ owner.old.table_id) × (result.me ≡ (claim_view false (next_claim command.now.value (log_in owner.old.me.0)), [])) }
 {
-    append_chosen::<Brand>(table, keeper, command)
+    append_chosen::<Brand>(table, owner, command)
 }
 
 fn append_chosen<C: Chosen>(
     table: &LogTable,
-    keeper: &mut LogPass,
+    owner: &mut LogPass,
     command: &Snapshot<Command>,
 ) -> LogPass
     requires chosen { C.command ≡ command.now.value }
-    requires table { (keeper.old.table_id ≡ table.now.shared.table_id) × (table.now.shared.table_id.words ≡ 1) }
-    requires keeper { IsKeeper keeper.old.me.0 }
-    ensures table { keeper.new.table_id ≡ keeper.old.table_id }
-    ensures log { keeper.new.me.0 ≡ keeper_view (log_with command.now.value (log_in keeper.old.me.0)) }
-    ensures claim { (result.table_id ≡ keeper.old.table_id) × (result.me ≡ (claim_view false (next_claim command.now.value (log_in keeper.old.me.0)), [])) }
+    requires table { (owner.old.table_id ≡ table.now.shared.table_id) × (table.now.shared.table_id.words ≡ 1) }
+    requires owner { IsOwner owner.old.me.0 }
+    ensures table { owner.new.table_id ≡ owner.old.table_id }
+    ensures log { owner.new.me.0 ≡ owner_view (log_with command.now.value (log_in owner.old.me.0)) }
+    ensures claim { (result.table_id ≡ owner.old.table_id) × (result.me ≡ (claim_view false (next_claim command.now.value (log_in owner.old.me.0)), [])) }
 {
     let _ = command;
-    table.shared.split_seat::<Appends<C>>(keeper)
+    table.shared.split_seat::<Appends<C>>(owner)
 }
 
-/// The keeper notes that this many more commands are committed.
-pub(crate) fn commit<M: CommitMoment>(table: &LogTable, keeper: &mut LogPass, more: u64)
-    requires table { (keeper.old.table_id ≡ table.now.shared.table_id) × (table.now.shared.table_id.words ≡ 1) }
-    requires keeper { IsKeeper keeper.old.me.0 }
-    ensures table { keeper.new.table_id ≡ keeper.old.table_id }
-    ensures log { keeper.new.me.0 ≡ keeper_view (with_committed more M.moment (log_in keeper.old.me.0)) }
+/// The owner notes that this many more commands are committed.
+pub(crate) fn commit<M: CommitMoment>(table: &LogTable, owner: &mut LogPass, more: u64)
+    requires table { (owner.old.table_id ≡ table.now.shared.table_id) × (table.now.shared.table_id.words ≡ 1) }
+    requires owner { IsOwner owner.old.me.0 }
+    ensures table { owner.new.table_id ≡ owner.old.table_id }
+    ensures log { owner.new.me.0 ≡ owner_view (with_committed more M.moment (log_in owner.old.me.0)) }
 {
-    commit_chosen::<Brand>(table, keeper, more)
+    commit_chosen::<Brand>(table, owner, more)
 }
 
-fn commit_chosen<C: Chosen>(table: &LogTable, keeper: &mut LogPass, more: u64)
+fn commit_chosen<C: Chosen>(table: &LogTable, owner: &mut LogPass, more: u64)
     requires chosen { C.count ≡ more }
-    requires table { (keeper.old.table_id ≡ table.now.shared.table_id) × (table.now.shared.table_id.words ≡ 1) }
-    requires keeper { IsKeeper keeper.old.me.0 }
-    ensures table { keeper.new.table_id ≡ keeper.old.table_id }
-    ensures log { keeper.new.me.0 ≡ keeper_view (with_committed more C.moment (log_in keeper.old.me.0)) }
+    requires table { (owner.old.table_id ≡ table.now.shared.table_id) × (table.now.shared.table_id.words ≡ 1) }
+    requires owner { IsOwner owner.old.me.0 }
+    ensures table { owner.new.table_id ≡ owner.old.table_id }
+    ensures log { owner.new.me.0 ≡ owner_view (with_committed more C.moment (log_in owner.old.me.0)) }
 {
     let _ = more;
-    drop(table.shared.split_seat::<Commits<C>>(keeper));
+    drop(table.shared.split_seat::<Commits<C>>(owner));
 }
 
-/// The keeper takes in the claim of a committed command, and gives one that also says that the
+/// The owner takes in the claim of a committed command, and gives one that also says that the
 /// command is committed.
-pub(crate) fn confirm(table: &LogTable, keeper: &mut LogPass, claim: LogPass) -> LogPass
-    requires table { (keeper.old.table_id ≡ table.now.shared.table_id) × (table.now.shared.table_id.words ≡ 1) }
-    requires keeper { IsKeeper keeper.old.me.0 }
-    requires claim { (claim.table_id ≡ keeper.old.table_id) × (claim.me.1 ≡ []) × (claim.me.0.claims ≡ true) }
-    requires committed { claim.me.0.index < keeper.old.me.0.committed }
-    ensures kept { (keeper.new.table_id ≡ keeper.old.table_id) × (keeper.new.me.0 ≡ keeper.old.me.0) }
-    ensures given { (result.table_id ≡ keeper.old.table_id) × (result.me ≡ (claim_view true (claim_in claim.me.0), [])) }
+pub(crate) fn confirm(table: &LogTable, owner: &mut LogPass, claim: LogPass) -> LogPass
+    requires table { (owner.old.table_id ≡ table.now.shared.table_id) × (table.now.shared.table_id.words ≡ 1) }
+    requires owner { IsOwner owner.old.me.0 }
+    requires claim { (claim.table_id ≡ owner.old.table_id) × (claim.me.1 ≡ []) × (claim.me.0.claims ≡ true) }
+    requires committed { claim.me.0.index < owner.old.me.0.committed }
+    ensures kept { (owner.new.table_id ≡ owner.old.table_id) × (owner.new.me.0 ≡ owner.old.me.0) }
+    ensures given { (result.table_id ≡ owner.old.table_id) × (result.me ≡ (claim_view true (claim_in claim.me.0), [])) }
 {
-    table.shared.join_seat::<Takes>(keeper, claim);
-    table.shared.split_seat::<Confirms>(keeper)
+    table.shared.join_seat::<Takes>(owner, claim);
+    table.shared.split_seat::<Confirms>(owner)
 }
 
-/// The keeper takes in a claim, and compares it with the log.
-pub(crate) fn check_claim(table: &LogTable, keeper: &mut LogPass, claim: LogPass)
-    requires table { (keeper.old.table_id ≡ table.now.shared.table_id) × (table.now.shared.table_id.words ≡ 1) }
-    requires keeper { IsKeeper keeper.old.me.0 }
-    requires claim { (claim.table_id ≡ keeper.old.table_id) × (claim.me.1 ≡ []) }
-    ensures kept { (keeper.new.table_id ≡ keeper.old.table_id) × (keeper.new.me.0 ≡ keeper.old.me.0) }
-    ensures claim { ClaimsHoldIn (log_in keeper.old.me.0) claim.me.0 }
+/// The owner takes in a claim, and compares it with the log.
+pub(crate) fn check_claim(table: &LogTable, owner: &mut LogPass, claim: LogPass)
+    requires table { (owner.old.table_id ≡ table.now.shared.table_id) × (table.now.shared.table_id.words ≡ 1) }
+    requires owner { IsOwner owner.old.me.0 }
+    requires claim { (claim.table_id ≡ owner.old.table_id) × (claim.me.1 ≡ []) }
+    ensures kept { (owner.new.table_id ≡ owner.old.table_id) × (owner.new.me.0 ≡ owner.old.me.0) }
+    ensures claim { ClaimsHoldIn (log_in owner.old.me.0) claim.me.0 }
 {
-    table.shared.join_seat::<Takes>(keeper, claim);
-    table.shared.load::<Checks>(keeper, 0);
+    table.shared.join_seat::<Takes>(owner, claim);
+    table.shared.load::<Checks>(owner, 0);
 }
 
 /// Makes a pass that claims nothing.

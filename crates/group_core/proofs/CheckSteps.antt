@@ -3,7 +3,7 @@ use Rattle.std.proofs.Common.{◌≡◌, ◌≢◌, inl, inr, ℕ, ◌+◌, ◌*
 use Rattle.std.proofs.lemmas.Bool.{eqb-true, eqb-false}
 use Rattle.std.specs.List.{AllByRecursion}
 use Rattle.byte_lists.specs.Content.{part}
-use Rattle.path_db.specs.Database.{RowView}
+use Rattle.row_map.specs.Database.{RowView}
 use Rattle.path_db.specs.declared.command.Command.{Command}
 use Rattle.sector_dev.specs.Disk.{Disk, IsHonest}
 use Rattle.sector_dev.specs.Calls.{Keeps, WriteCall, SyncCall}

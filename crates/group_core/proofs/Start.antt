@@ -1,6 +1,6 @@
 -- A state made of a store.
 use Rattle.std.proofs.Common.{◌≡◌, ◌≢◌, ◌↔◌, ◌⊎◌, inl, inr, ℕ, zero, suc, ◌+◌, ◌*◌, ◌≤◌, Bool, true, false, not, List, [], take, Option, Some, None, refl, sym, ◌∙◌, ap, subst, arith}
-use Rattle.path_db.specs.Database.{RowView}
+use Rattle.row_map.specs.Database.{RowView}
 use Rattle.path_db.specs.declared.command.Command.{Command}
 use Rattle.path_records.specs.RecordLaws.{WrittenRowsAreCounted}
 use Rattle.sector_dev.specs.Disk.{Disk, IsHonest, IsWhole, reads_of}

@@ -14,8 +14,8 @@ use Rattle.group_core.specs.declared.phases.AtStable.{AtStable}
 use Rattle.group_core.specs.declared.phases.AtDurableFollowed.{AtDurableFollowed}
 use Rattle.group_core.specs.declared.following.FollowError.{FollowError}
 use Rattle.group_core.specs.declared.following.FollowError.TheVariants.{Stranger, Stopped, Seal, Empty, NoRoom, NoMemory}
-use Rattle.group_core.specs.declared.error.PublishFollowedError.{PublishFollowedError}
-use Rattle.group_core.specs.declared.error.PublishFollowedError.TheVariants as publish
+use Rattle.group_core.specs.declared.error.PublishError.{PublishError}
+use Rattle.group_core.specs.declared.error.PublishError.TheVariants as publish
 use Rattle.group_core.specs.declared.values.Commit.{Commit}
 use Rattle.group_core.specs.Values.{IsSame}
 use Rattle.group_core.specs.Steps.{IsFlushTurn}
@@ -109,7 +109,7 @@ pub record HasFollower (view : StateView) : Type 0 where
 -- What publishing a followed group returns. The group in flight is committed, and the following
 -- group is then in flight. The call is refused where it is not the turn of this value, and where
 -- memory is refused. A refusal changes nothing.
-abbrev pub PublishFollowedStep : Commit AtDurableFollowed → Result (Commit AtStable) PublishFollowedError → StateView → StateView → Type 0
+abbrev pub PublishFollowedStep : Commit AtDurableFollowed → Result (Commit AtStable) (PublishError AtDurableFollowed) → StateView → StateView → Type 0
 PublishFollowedStep value (Ok next) old new =
     IsFlushTurn DurableFollowed value old × HasFollower old × IsSame value next × (new ≡ with_follower_in_flight old)
 PublishFollowedStep value (Err (publish.Stranger back)) old new = (¬ IsFlushTurn DurableFollowed value old) × (back ≡ value) × (new ≡ old)

@@ -2,7 +2,7 @@
 use Rattle.std.specs.Prelude.{◌≡◌, ◌≢◌, ℕ, ◌+◌, ◌*◌, ◌^◌, ◌<◌, ◌≤◌, ◌⊎◌, true, false, List, length, take, drop, Option}
 use Rattle.std.specs.List.{AllByRecursion}
 use Rattle.byte_lists.specs.declared.format.TheConstants.{SECTOR}
-use Rattle.path_db.specs.Database.{RowView}
+use Rattle.row_map.specs.Database.{RowView}
 use Rattle.path_db.specs.declared.command.Command.{Command}
 use Rattle.path_records.specs.CommandRecord.{IsWithinLimits}
 use Rattle.sector_dev.specs.Disk.{IsHonest}
@@ -21,7 +21,7 @@ use Rattle.store_open.specs.PathStores.{store_format}
 use Rattle.group_phases.specs.declared.phases.Flush.{Flush}
 use Rattle.group_phases.specs.declared.phases.Flush.TheVariants.{Resting, Following, Followed, DurableFollowed}
 use Rattle.group_phases.specs.declared.phases.Check.{Check}
-use Rattle.group_phases.specs.declared.phases.Check.TheVariants.{Ready, Sealed, Planned, Laid, Switched, SwitchFailed, Live, Closing, CloseFailed}
+use Rattle.group_phases.specs.declared.phases.Check.TheVariants.{Ready, Sealed, Planned, Laid, Switched, SwitchFailed}
 use Rattle.group_phases.specs.Tail.{GroupOrSeal, Commands, Seal, load_bytes}
 use Rattle.group_phases.specs.CommitState.{load_of, DeviceContents, IsHeldBy}
 use Rattle.group_core.specs.StateView.{StateView}
@@ -112,15 +112,10 @@ pub record HasPlan (geometry : Geometry) (plan : Checkpointing) : Type 0 where
 
 -- Until the new half counts, there is an epoch for it.
 abbrev pub HasNextEpoch : Check → ℕ → Type 0
-HasNextEpoch Ready epoch = Unit {0}
-HasNextEpoch Sealed epoch = Unit {0}
 HasNextEpoch Planned epoch = epoch + 1 < 2 ^ 64
 HasNextEpoch Laid epoch = epoch + 1 < 2 ^ 64
 HasNextEpoch Switched epoch = epoch + 1 < 2 ^ 64
-HasNextEpoch SwitchFailed epoch = Unit {0}
-HasNextEpoch Live epoch = Unit {0}
-HasNextEpoch Closing epoch = Unit {0}
-HasNextEpoch CloseFailed epoch = Unit {0}
+HasNextEpoch _ epoch = Unit {0}
 
 -- What holds whatever the device does.
 pub record StateInvariant (view : StateView) (hidden : PrivateState) : Type 0 where
@@ -177,15 +172,12 @@ pub record IsNextCheckpoint (epoch : ℕ) (before next : Checkpoint (List RowVie
 -- is the other half's checkpoint, and `next` that of the half with the tail, written or still to be
 -- written.
 abbrev pub CountsAt : Check → ℕ → List ℕ → Checkpoint (List RowView) → Checkpoint (List RowView) → Type 0
-CountsAt Ready epoch bytes before next = next.head.epoch ≡ epoch
 CountsAt Sealed epoch bytes before next = before.head.epoch ≡ epoch
 CountsAt Planned epoch bytes before next = IsNextCheckpoint epoch before next × (bytes ≡ checkpoint_encoding rows_format next)
 CountsAt Laid epoch bytes before next = IsNextCheckpoint epoch before next
 CountsAt Switched epoch bytes before next = IsNextCheckpoint epoch before next
 CountsAt SwitchFailed epoch bytes before next = IsNextCheckpoint epoch before next
-CountsAt Live epoch bytes before next = next.head.epoch ≡ epoch
-CountsAt Closing epoch bytes before next = next.head.epoch ≡ epoch
-CountsAt CloseFailed epoch bytes before next = next.head.epoch ≡ epoch
+CountsAt _ epoch bytes before next = next.head.epoch ≡ epoch
 
 -- What holds over an honest device.
 pub record DeviceInvariant (view : StateView) : Type 0 where

@@ -1,6 +1,6 @@
 -- What is prepared of a checkpoint before it is begun: what was read of the sealed half so far.
 use Rattle.std.specs.Prelude.{◌≡◌, List}
-use Rattle.path_db.specs.Database.{RowView}
+use Rattle.row_map.specs.Database.{RowView}
 use Rattle.path_db.specs.declared.command.Command.{Command}
 use Rattle.store_layout.specs.Layout.{Geometry}
 use Rattle.ckpt_stream.specs.Preparation.{SealedContents, PreparationView, IsPreparedFrom}

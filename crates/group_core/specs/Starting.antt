@@ -1,7 +1,7 @@
 -- The state that is made of a store.
 use Rattle.std.specs.Prelude.{◌≡◌, ◌↔◌, ℕ, ◌+◌, ◌*◌, ◌≤◌, Bool, true, false, List, []}
 use Rattle.byte_lists.specs.declared.format.TheConstants.{SECTOR}
-use Rattle.path_db.specs.Database.{RowView, rows_len}
+use Rattle.row_map.specs.Database.{RowView, rows_len}
 use Rattle.store_layout.specs.declared.format.TheConstants.{BEFORE_ROWS}
 use Rattle.store_layout.specs.Opening.{StoreValue}
 use Rattle.store_open.specs.Store.{StoreView, half_of_tail}

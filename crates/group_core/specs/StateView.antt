@@ -1,6 +1,6 @@
 -- What contracts see of a state.
 use Rattle.std.specs.Prelude.{ℕ, Bool, List}
-use Rattle.path_db.specs.Database.{RowView}
+use Rattle.row_map.specs.Database.{RowView}
 use Rattle.path_db.specs.declared.command.Command.{Command}
 use Rattle.path_db.specs.declared.outcome.Outcome.{Outcome}
 use Rattle.sector_dev.specs.Disk.{Disk}

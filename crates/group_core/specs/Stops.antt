@@ -1,6 +1,6 @@
 -- What a stop may leave of a state's device, and what each call leaves.
 use Rattle.std.specs.Prelude.{ℕ, List}
-use Rattle.path_db.specs.Database.{RowView}
+use Rattle.row_map.specs.Database.{RowView}
 use Rattle.path_db.specs.declared.command.Command.{Command}
 use Rattle.sector_dev.specs.Disk.{IsHonest}
 use Rattle.sector_dev.specs.Image.{EveryImage, IsFromImage}

@@ -1,6 +1,6 @@
 //! Why a step was refused.
 
-use crate::values::{Commit, Durable, DurableFollowed};
+use crate::values::Commit;
 
 /// Why a step with a value of phase `P` was refused. The first that holds is answered, in this
 /// order: `Stranger`, `Stopped`, and then `Fault` or `Damaged`. Only `write_chunk` is answered by
@@ -20,18 +20,10 @@ pub enum StepError<P> {
     Damaged,
 }
 
-/// Why publishing was refused. `Stranger` is judged first.
-pub enum PublishError {
+/// Why publishing a value of phase `P` was refused. `Stranger` is judged first.
+pub enum PublishError<P> {
     /// Memory was refused. The value is returned, and the same group is owed.
-    NoMemory(Durable),
+    NoMemory(Commit<P>),
     /// It is not this value's turn, or the value is another state's. The value is returned.
-    Stranger(Durable),
-}
-
-/// Why publishing a followed group was refused. `Stranger` is judged first.
-pub enum PublishFollowedError {
-    /// Memory was refused. The value is returned, and the same group is owed.
-    NoMemory(DurableFollowed),
-    /// It is not this value's turn, or the value is another state's. The value is returned.
-    Stranger(DurableFollowed),
+    Stranger(Commit<P>),
 }

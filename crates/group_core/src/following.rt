@@ -9,7 +9,7 @@ ghost use Rattle.group_core.specs.StepCalls.{StepCall, Sync, follower_write};
 ghost use Rattle.group_core.specs.declared.following.FollowError.TheVariants.{NoMemory};
 ghost use Rattle.group_core.specs.Following.{MayFollow, TakesFollower, IsFollowRefused, Follows, PublishFollowedStep};
 
-use crate::error::{PublishFollowedError, StepError};
+use crate::error::{PublishError, StepError};
 use crate::phases::{AtDurableFollowed, AtFollowed, AtFollowing, AtStable};
 use crate::showcase::Showcase;
 use crate::staging::{group_bytes, longest_front};
@@ -142,16 +142,16 @@ impl<D: Device, S: Showcase> State<D, S> {
     pub fn publish_followed(
         &mut self,
         value: DurableFollowed,
-    ) -> Result<Stable, PublishFollowedError>
+    ) -> Result<Stable, PublishError<AtDurableFollowed>>
         ensures step { PublishFollowedStep value result self.old self.new }
         ensures any_moment { StepLeaves self.old self.new }
     {
         match self.flush {
             Flush::DurableFollowed if value.is_of(self.home, self.group.number) => {}
-            _ => return Err(PublishFollowedError::Stranger(value)),
+            _ => return Err(PublishError::Stranger(value)),
         }
         let Ok(()) = self.show.show(&self.pending[..self.taken]) else {
-            return Err(PublishFollowedError::NoMemory(value));
+            return Err(PublishError::NoMemory(value));
         };
         self.gate += (self.staged.len() / SECTOR) as u64;
         self.place += self.taken as u64;

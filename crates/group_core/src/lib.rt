@@ -37,7 +37,7 @@ mod values;
 
 pub use beginning::BeginError;
 pub use bookkeeping::Turn;
-pub use error::{PublishError, PublishFollowedError, StepError};
+pub use error::{PublishError, StepError};
 pub use following::FollowError;
 pub use numbers::{Numbers, ShowsRows};
 pub use phases::{

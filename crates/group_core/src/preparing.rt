@@ -19,8 +19,9 @@ pub enum Prepared {
 }
 
 impl<D: Device, S: Showcase> State<D, S> {
-    /// Reads the next piece of the sealed half, which is 256 sectors or, in the journal, as much
-    /// more as the last group of the piece has, and keeps what `begin` needs of it. After a
+    /// Reads the next piece of the sealed half, which is 64 sectors or, in the journal, as much
+    /// more as the last group of the piece has, and keeps what `begin` needs of it. Once all is
+    /// read, a call applies the next commands of the journal to the rows that they name. After a
     /// bounded number of calls all of that half is prepared. What is prepared, and whether anything
     /// is, makes no difference to what `begin` plans: it reads what is not prepared. The call only
     /// reads the device, and other steps may come between two of these calls. It is refused as

@@ -1,6 +1,6 @@
 -- The result of opening a device with a store.
 use Rattle.std.proofs.Common.{◌≡◌, inl, inr, ℕ, List, [], Ok, refl, sym, ◌∙◌, subst}
-use Rattle.path_db.specs.Database.{RowView}
+use Rattle.row_map.specs.Database.{RowView}
 use Rattle.path_db.specs.declared.command.Command.{Command}
 use Rattle.sector_dev.specs.Disk.{Disk, IsHonest, IsWhole, reads_of}
 use Rattle.sector_dev.specs.Image.{EveryImage, IsFromImage}

@@ -10,7 +10,7 @@ use Rattle.path_db.specs.Command.{outcome_of}
 use Rattle.path_db.specs.declared.outcome.Outcome.{Outcome}
 use Rattle.group_core.specs.declared.ticket.Ticket.{Ticket}
 use Rattle.group_core.specs.StateView.{StateView}
-use Rattle.path_db.specs.Database.{RowView}
+use Rattle.row_map.specs.Database.{RowView}
 use Rattle.store_layout.specs.Opening.{StoreValue}
 use Rattle.group_core.specs.declared.ticket.Receipt.{Receipt}
 use Rattle.group_core.specs.declared.ticket.Redeemed.TheVariants.{Committed, Waiting, Unknown}

@@ -1,6 +1,6 @@
 -- The machine that describes every run of a state: rows, a list of commands and a place.
 use Rattle.std.specs.Prelude.{ℕ, ◌+◌, List, [], ◌∷◌, ◌++◌, length, take, drop}
-use Rattle.path_db.specs.Database.{RowView}
+use Rattle.row_map.specs.Database.{RowView}
 use Rattle.path_db.specs.declared.command.Command.{Command}
 use Rattle.store_layout.specs.StoreFormat.{db_after}
 use Rattle.seg_lookup.specs.Answer.{answer_to}

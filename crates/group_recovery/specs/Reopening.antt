@@ -1,6 +1,6 @@
 -- The value of an image, as a machine, and the result of opening a device with this image.
 use Rattle.std.specs.Prelude.{◌≡◌, ℕ, ◌≤◌, List, length, Result, Ok, Err}
-use Rattle.path_db.specs.Database.{RowView}
+use Rattle.row_map.specs.Database.{RowView}
 use Rattle.path_db.specs.declared.command.Command.{Command}
 use Rattle.sector_dev.specs.Disk.{Disk, IsHonest}
 use Rattle.store_layout.specs.Opening.{StoreValue, OpensTo}

@@ -9,7 +9,7 @@ ghost use Rattle.group_recovery.specs.RunSteps.{FlushEvent, FollowEvent, Publish
 use crate::events::{PublishRefusal, Reply};
 use crate::group_events::refusal;
 use crate::holding::HeldGroup;
-use group_core::{PublishFollowedError, Showcase, State};
+use group_core::{PublishError, Showcase, State};
 use sector_dev::Device;
 use std::mem;
 
@@ -107,11 +107,11 @@ pub(crate) fn publish_followed<D: Device, S: Showcase>(
                 held.put(HeldGroup::Stable(next));
                 Reply::Done
             }
-            Err(PublishFollowedError::NoMemory(back)) => {
+            Err(PublishError::NoMemory(back)) => {
                 held.put(HeldGroup::DurableFollowed(back));
                 Reply::PublishRefused(PublishRefusal::NoMemory)
             }
-            Err(PublishFollowedError::Stranger(back)) => {
+            Err(PublishError::Stranger(back)) => {
                 held.put(HeldGroup::DurableFollowed(back));
                 Reply::PublishRefused(PublishRefusal::Stranger)
             }

@@ -1,6 +1,6 @@
 -- What holds of each server, and of openings after it.
 use Rattle.std.specs.Prelude.{ℕ, List}
-use Rattle.path_db.specs.Database.{RowView}
+use Rattle.row_map.specs.Database.{RowView}
 use Rattle.sector_dev.specs.Disk.{Disk, IsHonest}
 use Rattle.sector_dev.specs.Image.{EveryImage}
 use Rattle.sector_dev.specs.Stretch.{Stretch}

@@ -2,7 +2,7 @@
 -- threads, to be read from top to bottom.
 use Rattle.std.specs.Prelude.{◌≡◌, ℕ, ◌≤◌, nat_le, List, length, take, filter, Some, slice_get}
 use Rattle.std.specs.List.{AllByRecursion}
-use Rattle.path_db.specs.Database.{RowView}
+use Rattle.row_map.specs.Database.{RowView}
 use Rattle.path_db.specs.declared.command.Command.{Command}
 use Rattle.sector_dev.specs.Disk.{Moment, Disk, IsHonest, moments}
 use Rattle.sector_dev.specs.Image.{IsImage, EveryImage}

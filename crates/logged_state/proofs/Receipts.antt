@@ -1,6 +1,6 @@
 -- A receipt of a state, with the claim of its command.
 use Rattle.std.proofs.Common.{◌≡◌, List, Option, MatchOption, sym, ◌∙◌, subst}
-use Rattle.path_db.specs.Database.{RowView}
+use Rattle.row_map.specs.Database.{RowView}
 use Rattle.store_layout.specs.Opening.{StoreValue}
 use Rattle.group_core.specs.declared.ticket.Ticket.{Ticket}
 use Rattle.group_core.specs.declared.ticket.Receipt.{Receipt}

@@ -1,6 +1,6 @@
 -- Tickets and receipts with their claims.
 use Rattle.std.specs.Prelude.{◌≡◌, ◌+◌, List, Result, Ok, Err}
-use Rattle.path_db.specs.Database.{RowView}
+use Rattle.row_map.specs.Database.{RowView}
 use Rattle.store_layout.specs.Opening.{StoreValue}
 use Rattle.command_log.specs.declared.rule.Claim.{Claim}
 use Rattle.group_core.specs.declared.ticket.Ticket.{Ticket}

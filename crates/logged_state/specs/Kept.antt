@@ -1,7 +1,7 @@
 -- What a stop at any moment leaves, by the log.
-use Rattle.std.specs.Prelude.{◌≡◌, ℕ, ◌+◌, ◌<◌, ◌≤◌, List, length}
+use Rattle.std.specs.Prelude.{◌≡◌, ℕ, zero, suc, ◌+◌, ◌<◌, ◌≤◌, List, length}
 use Rattle.std.specs.List.{AllByRecursion}
-use Rattle.path_db.specs.Database.{RowView}
+use Rattle.row_map.specs.Database.{RowView}
 use Rattle.sector_dev.specs.Disk.{History, Disk, IsHonest}
 use Rattle.sector_dev.specs.Image.{EveryImageSince}
 use Rattle.sector_dev.specs.Stretch.{Stretch}
@@ -22,6 +22,12 @@ pub record IsKeptSince (opening : StoreValue (List RowView)) (log : Log) (histor
 -- Each committed command is kept since its moment.
 abbrev pub AllKept : StoreValue (List RowView) → Log → History → Type 0
 AllKept opening log history = (index : ℕ) → index < log.committed → IsKeptSince opening log history index
+
+-- The first commands of the log, as many as this: from the moment at which the last of them was
+-- committed, each image opens to a front of the log that has them.
+abbrev pub IsFrontKept : StoreValue (List RowView) → Log → History → ℕ → Type 0
+IsFrontKept opening log history zero = Unit {0}
+IsFrontKept opening log history (suc index) = IsKeptSince opening log history index
 
 -- What a log says of the device of a state that was made with it.
 pub record IsKeptFrom (start : Disk) (opening : StoreValue (List RowView)) (log : Log) (disk : Disk) : Type 0 where

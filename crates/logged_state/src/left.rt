@@ -2,14 +2,14 @@
 
 ghost use Rattle.std.specs.Prelude.{◌≡◌, ◌+◌, ℕ, List};
 ghost use Rattle.std.specs.List.{AllByRecursion};
-ghost use Rattle.path_db.specs.Database.{RowView};
+ghost use Rattle.row_map.specs.Database.{RowView};
 ghost use Rattle.store_layout.specs.Opening.{StoreValue};
-ghost use Rattle.command_log.specs.Log.{IsCommitted};
+ghost use Rattle.command_log.specs.Log.{IsCommitted, WasOnce};
 ghost use Rattle.sector_dev.specs.Disk.{History};
 ghost use Rattle.logged_state.specs.Left.{OpensToLog, OpensWith, OpensWithAll};
-ghost use Rattle.logged_state.specs.Kept.{AllKept, AllClaimsKept};
+ghost use Rattle.logged_state.specs.Kept.{AllKept, AllClaimsKept, IsFrontKept};
 
-use command_log::{UnnamedClaim, UnnamedList, UnnamedLog};
+use command_log::{UnnamedClaim, UnnamedList, UnnamedLog, UnnamedPast};
 use std::marker::Model;
 
 /// The log of a state that has ended, with the claims of commands that were acknowledged. Contracts
@@ -32,13 +32,13 @@ impl Model for Left {
       acknowledged = left.acknowledged.claims;
     } };
 
-    ghost invariant = { λ left. left.acknowledged.table ≡ left.log.table };
+    ghost invariant = { λ left. left.acknowledged.table ≡ left.log.table.passes };
 }
 
 impl Left {
     /// What is left of a state of this log, and of who acknowledged its commands.
     pub fn of(log: UnnamedLog, acknowledged: UnnamedList) -> Left
-        requires { acknowledged.table ≡ log.table }
+        requires { acknowledged.table ≡ log.table.passes }
         ensures { result ≡ record { table = log.table; log = log.log; acknowledged = acknowledged.claims } }
     {
         Left { log, acknowledged }
@@ -61,12 +61,25 @@ impl Left {
     /// The command of a claim of this log is among the committed ones, at its index. So each image
     /// that opens to this log opens with the command at its place. The call compares nothing.
     pub fn prove_committed(&mut self, claim: UnnamedClaim)
-        requires { claim.table ≡ self.old.table }
+        requires { claim.table ≡ self.old.table.passes }
         ensures same { self.new ≡ self.old }
         ensures found { IsCommitted self.old.log claim.claim }
         ensures opens { (opening : StoreValue (List RowView)) (image : List ℕ) → OpensToLog opening self.old.log image
             → OpensWith opening (opening.place + claim.claim.index) claim.claim.command image }
     {
         self.log.prove_committed(claim);
+    }
+
+    /// The log begins with the commands of a past log of it, and has those that were committed then
+    /// among the committed ones. So each image since the moment at which the last of these was
+    /// committed opens to a front of the log that has them. The call compares nothing.
+    pub fn prove_past(&mut self, past: &UnnamedPast)
+        requires { past.now.history ≡ self.old.table.history }
+        ensures same { self.new ≡ self.old }
+        ensures found { WasOnce self.old.log past.now.past }
+        ensures since { (opening : StoreValue (List RowView)) (history : History)
+            → AllKept opening self.old.log history → IsFrontKept opening self.old.log history past.now.past.committed }
+    {
+        self.log.prove_past(past);
     }
 }

@@ -25,8 +25,8 @@ mod state;
 mod submitting;
 
 pub use command_log::{
-    Accepted, CommandLog, LogDesk, LogName, Logged, LoggedList, UnnamedClaim, UnnamedList,
-    UnnamedLog,
+    Accepted, ClaimCollector, CommandLog, LogName, LogPast, Logged, LoggedList, UnnamedClaim,
+    UnnamedList, UnnamedLog, UnnamedPast,
 };
 pub use left::Left;
 pub use name::StateName;

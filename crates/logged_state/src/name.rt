@@ -7,7 +7,7 @@ use std::marker::Brand;
 /// device.
 pub trait StateName: LogName {
     ghost use Rattle.std.specs.Prelude.{List};
-    ghost use Rattle.path_db.specs.Database.{RowView};
+    ghost use Rattle.row_map.specs.Database.{RowView};
     ghost use Rattle.store_layout.specs.Opening.{StoreValue};
     ghost use Rattle.sector_dev.specs.Disk.{Disk};
 

@@ -10,13 +10,15 @@ ghost use Rattle.logged_state.specs.LoggedView.{log_after, moment_number};
 use crate::name::StateName;
 use crate::state::LoggedState;
 use command_log::{CommandLog, CommitMoment};
-use group_core::{Durable, DurableFollowed, PublishError, PublishFollowedError, Showcase, Stable};
+use group_core::{
+    AtDurable, AtDurableFollowed, Durable, DurableFollowed, PublishError, Showcase, Stable,
+};
 use sector_dev::Device;
 use std::marker::Brand;
 
 impl<D: Device, S: Showcase, B: StateName> LoggedState<D, S, B> {
     /// `State::publish`.
-    pub fn publish(&mut self, value: Durable) -> Result<(), PublishError>
+    pub fn publish(&mut self, value: Durable) -> Result<(), PublishError<AtDurable>>
         ensures step { PublishStep value result self.old.state self.new.state }
         ensures any_moment { StepLeaves self.old.state self.new.state }
         ensures log { self.new.log ≡ log_after self.old self.new.state }
@@ -33,7 +35,7 @@ impl<D: Device, S: Showcase, B: StateName> LoggedState<D, S, B> {
     pub fn publish_followed(
         &mut self,
         value: DurableFollowed,
-    ) -> Result<Stable, PublishFollowedError>
+    ) -> Result<Stable, PublishError<AtDurableFollowed>>
         ensures step { PublishFollowedStep value result self.old.state self.new.state }
         ensures any_moment { StepLeaves self.old.state self.new.state }
         ensures log { self.new.log ≡ log_after self.old self.new.state }

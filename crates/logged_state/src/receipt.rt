@@ -3,7 +3,7 @@
 ghost use Rattle.std.specs.Prelude.{◌≡◌, ◌+◌, None, [], ◌∷◌, ◌++◌};
 
 use crate::name::StateName;
-use command_log::{Accepted, LogDesk, Logged, LoggedList};
+use command_log::{Accepted, ClaimCollector, Logged, LoggedList};
 use group_core::{Receipt, Ticket};
 use path_db::Outcome;
 use std::marker::Model;
@@ -78,11 +78,11 @@ impl<B: StateName, N> LoggedReceipt<B, N> {
     }
 
     /// Adds the claim that the command is committed to a list. The receipt keeps it too.
-    pub fn add_to(&mut self, desk: &LogDesk<B>, list: &mut LoggedList<B>)
+    pub fn add_to(&mut self, collector: &ClaimCollector<B>, list: &mut LoggedList<B>)
         ensures claims { list.new ≡ list.old ++ self.old.logged ∷ [] }
         ensures same { self.new ≡ self.old }
     {
-        desk.add(list, &mut self.logged);
+        collector.add(list, &mut self.logged);
     }
 
     /// The claim that the command is committed: the place counts from that of the opening value.

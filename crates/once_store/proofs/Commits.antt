@@ -1,7 +1,7 @@
 -- The steps that commit the one pending command. For commit_pending, commit_after_seal and
 -- commit_durable.
 use Rattle.std.proofs.Common.{◌≡◌, ℕ, ◌+◌, ◌<◌, ◌≤◌, List, [], ◌∷◌, length, take, drop, Some, None, IsSome, refl, sym, ap, subst, ◌∙◌, arith}
-use Rattle.path_db.specs.Database.{RowView}
+use Rattle.row_map.specs.Database.{RowView}
 use Rattle.path_db.specs.declared.command.Command.{Command}
 use Rattle.path_db.specs.declared.outcome.Outcome.{Outcome}
 use Rattle.store_layout.specs.Group.{last_place}

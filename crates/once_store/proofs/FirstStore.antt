@@ -1,7 +1,7 @@
 -- A new store opens with its one opening. For new_store and start.
 use Rattle.std.proofs.Common.{◌≡◌, ℕ, ◌+◌, ◌*◌, ◌≤◌, false, List, None, Result, Ok, Err, refl, sym, ap, ◌∙◌, subst, arith}
 use Rattle.byte_lists.specs.Content.{AreBytes}
-use Rattle.path_db.specs.Database.{RowView}
+use Rattle.row_map.specs.Database.{RowView}
 use Rattle.path_db.specs.declared.command.Command.{Command}
 use Rattle.store_layout.specs.declared.half.Half.TheVariants.{First}
 use Rattle.store_layout.specs.Layout.{Geometry, journal_of}
@@ -20,7 +20,7 @@ use Rattle.store_open.proofs.NewStores.{formatted_in_any}
 use Rattle.once_store.specs.Resting.{sizes}
 use Rattle.once_store.specs.Starting.{IsFirst, IsFirstState}
 use Rattle.std.proofs.Common.{Bool, true}
-use Rattle.path_db.specs.Database.{rows_len}
+use Rattle.row_map.specs.Database.{rows_len}
 use Rattle.sector_dev.specs.declared.mem_device.MemDevice.{MemDevice}
 use Rattle.sector_dev.specs.Disk.{IsHonest}
 use Rattle.sector_dev.specs.MemDevice.{memory_disk}

@@ -1,6 +1,6 @@
 -- What contracts see of a store in memory that one caller drives.
 use Rattle.std.specs.Prelude.{◌≡◌, ℕ, List, [], Option, Some, None}
-use Rattle.path_db.specs.Database.{RowView}
+use Rattle.row_map.specs.Database.{RowView}
 use Rattle.group_phases.specs.declared.phases.Flush.TheVariants.{Resting}
 use Rattle.group_core.specs.StateView.{StateView}
 use Rattle.group_core.specs.Submitting.{accepted_rows, next_place}

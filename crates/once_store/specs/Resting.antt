@@ -5,7 +5,7 @@ use Rattle.store_layout.specs.Layout.{Geometry}
 use Rattle.store_layout.specs.Group.{last_place}
 use Rattle.store_layout.specs.Limits.{latest}
 use Rattle.group_phases.specs.declared.phases.Check.{Check}
-use Rattle.group_phases.specs.declared.phases.Check.TheVariants.{Ready, Sealed, Planned, Laid, Switched, SwitchFailed, Live, Closing, CloseFailed}
+use Rattle.group_phases.specs.declared.phases.Check.TheVariants.{Ready, Sealed}
 use Rattle.group_core.specs.declared.ticket.Ticket.{Ticket}
 use Rattle.group_core.specs.StateView.{StateView}
 use Rattle.group_core.specs.Redeeming.{outcome_at, kept_without}
@@ -19,13 +19,7 @@ sizes = record { checkpoint = 4096; journal = 4096 }
 abbrev pub CheckRests : Check → StateView → Type 0
 CheckRests Ready view = (view.epoch ≤ view.value.place + 1) × (1 ≤ view.gate → view.epoch ≤ view.value.place)
 CheckRests Sealed view = (view.epoch ≤ view.value.place) × (view.gate ≡ 0)
-CheckRests Planned view = ⊥
-CheckRests Laid view = ⊥
-CheckRests Switched view = ⊥
-CheckRests SwitchFailed view = ⊥
-CheckRests Live view = ⊥
-CheckRests Closing view = ⊥
-CheckRests CloseFailed view = ⊥
+CheckRests _ view = ⊥
 
 -- The state goes on, in the latest version, no plan is out, and the checkpointer rests.
 pub record IsSteady (view : StateView) : Type 0 where

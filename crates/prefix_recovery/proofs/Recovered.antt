@@ -1,7 +1,7 @@
 -- What is opened after a stop.
 use Rattle.std.proofs.Common.{◌≡◌, inl, inr, ℕ, ◌+◌, ◌≤◌, List, [], ◌∷◌, length, take, drop, refl, sym, ◌∙◌, ap, subst, arith, All, Contains}
 use Rattle.std.proofs.lemmas.List.Elements.{All-head, All-tail, All-contains}
-use Rattle.path_db.specs.Database.{RowView}
+use Rattle.row_map.specs.Database.{RowView}
 use Rattle.path_db.specs.declared.command.Command.{Command}
 use Rattle.sector_dev.specs.Disk.{Moment, Disk, IsHonest, IsWhole, reads_of, moments}
 use Rattle.sector_dev.specs.Image.{EveryImage, IsFromImage}

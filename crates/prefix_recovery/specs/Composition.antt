@@ -1,6 +1,6 @@
 -- Laws of runs one after the other: without a stop between them, and with one.
 use Rattle.std.specs.Prelude.{◌≤◌, List, ◌++◌, take}
-use Rattle.path_db.specs.Database.{RowView}
+use Rattle.row_map.specs.Database.{RowView}
 use Rattle.path_db.specs.declared.command.Command.{Command}
 use Rattle.store_layout.specs.Opening.{StoreValue}
 use Rattle.group_recovery.specs.declared.events.Event.{Event}

@@ -1,7 +1,7 @@
 -- What survives a stop of a run: the definitions of the recovery theorem, to be read from top to
 -- bottom. A run is a list of events, and a trace of the run has what a stop depends on.
 use Rattle.std.specs.Prelude.{◌≡◌, ℕ, ◌+◌, ◌-◌, ◌<◌, ◌≤◌, ◌⊎◌, List, [], ◌∷◌, length, take, drop, Contains, Some, slice_get}
-use Rattle.path_db.specs.Database.{RowView}
+use Rattle.row_map.specs.Database.{RowView}
 use Rattle.path_db.specs.declared.command.Command.{Command}
 use Rattle.path_db.specs.Command.{database_after_all}
 use Rattle.sector_dev.specs.Disk.{Moment, Disk, IsHonest, moments}

@@ -8,7 +8,6 @@
 #![tactic(auto)]
 
 mod composition;
-mod noted;
 mod numbers;
 mod recovery;
 mod steps;

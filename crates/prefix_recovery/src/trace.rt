@@ -6,21 +6,37 @@ ghost use Rattle.sector_dev.specs.Stretch.{Stretch};
 ghost use Rattle.store_open.specs.Open.{OpensAlike, disk_after};
 ghost use Rattle.group_recovery.specs.RunLeaves.{RunLeaves, lock_order};
 ghost use Rattle.prefix_recovery.specs.Recoverable.{IsRecoverable};
-ghost use Rattle.prefix_recovery.specs.Survival.{end_of, trace_opened};
+ghost use Rattle.prefix_recovery.specs.Survival.{TraceView, end_of, trace_opened};
 ghost use Rattle.prefix_recovery.specs.TraceSteps.{trace_at, trace_after};
 
-use crate::noted::{Noted, TraceSource};
+use ghost_note::{Note, NoteSource};
 use group_recovery::{Event, Reply, Run};
 use sector_dev::Device;
 use std::marker::Model;
 use std::snapshot::Snapshot;
 use store_open::{OpenError, Store};
 
+/// A trace that is in no memory. No value of this type is made.
+struct TraceValue {
+    ghost trace: { TraceView },
+}
+
+impl Model for TraceValue {
+    ghost use Rattle.std.specs.Borrow.{ftrue};
+    ghost use Rattle.prefix_recovery.specs.Survival.{TraceView};
+
+    ghost also_owns = { λ _. ftrue };
+
+    ghost Value = { TraceView };
+
+    ghost view = { λ t. t.trace };
+}
+
 /// A run's states and the order of its commands, with the openings of its device after a stop. Only
 /// clauses read a trace: it has no bytes.
 #[derive(Drop)]
 pub struct Trace {
-    noted: Noted,
+    noted: Note<TraceValue>,
 }
 
 impl Model for Trace {
@@ -29,9 +45,9 @@ impl Model for Trace {
 
     ghost Value = { TraceView };
 
-    ghost view = { λ t. t.noted.trace };
+    ghost view = { λ t. t.noted.value };
 
-    ghost invariant = { λ t. IsRecoverable t.noted.trace };
+    ghost invariant = { λ t. IsRecoverable t.noted.value };
 }
 
 const _: () = prove!(size_of::<Trace>() == 0);
@@ -42,8 +58,8 @@ struct StartOf<'a, D: Device> {
     run: &'a Run<D>,
 }
 
-impl<'a, D: Device> TraceSource for StartOf<'a, D> {
-    ghost trace = { λ s. trace_at s.run.now };
+impl<'a, D: Device> NoteSource<TraceValue> for StartOf<'a, D> {
+    ghost value = { λ s. trace_at s.run.now };
 }
 
 // One more event, its reply, and the run after it.
@@ -55,8 +71,8 @@ struct StepOf<'a, D: Device> {
     run: &'a Run<D>,
 }
 
-impl<'a, D: Device> TraceSource for StepOf<'a, D> {
-    ghost trace = { λ s. trace_after s.trace.now s.event.now s.reply.now s.run.now };
+impl<'a, D: Device> NoteSource<TraceValue> for StepOf<'a, D> {
+    ghost value = { λ s. trace_after s.trace.now s.event.now s.reply.now s.run.now };
 }
 
 // One more opening: the device before it, and what it answered.
@@ -67,8 +83,8 @@ struct OpeningOf<'a, D: Device> {
     answer: &'a Result<Store<D>, (D, OpenError)>,
 }
 
-impl<'a, D: Device> TraceSource for OpeningOf<'a, D> {
-    ghost trace = { λ s. trace_opened s.trace.now (D.disk s.before.now.value) (disk_after D.disk s.answer.now) };
+impl<'a, D: Device> NoteSource<TraceValue> for OpeningOf<'a, D> {
+    ghost value = { λ s. trace_opened s.trace.now (D.disk s.before.now.value) (disk_after D.disk s.answer.now) };
 }
 
 impl Trace {
@@ -78,7 +94,7 @@ impl Trace {
         ensures { result ≡ trace_at run.now }
     {
         Trace {
-            noted: Noted::of(&StartOf { run }),
+            noted: Note::of(&StartOf { run }),
         }
     }
 
@@ -89,7 +105,7 @@ impl Trace {
     {
         self.recovers();
         Trace {
-            noted: Noted::of(&StepOf {
+            noted: Note::of(&StepOf {
                 trace: self,
                 event,
                 reply,
@@ -109,7 +125,7 @@ impl Trace {
     {
         self.recovers();
         Trace {
-            noted: Noted::of(&OpeningOf {
+            noted: Note::of(&OpeningOf {
                 trace: self,
                 before,
                 answer,

@@ -1,6 +1,6 @@
 -- What stays known of a call's answer once the lock is free.
 use Rattle.std.proofs.Common.{ℕ, ◌<◌, List, Option, Some, None, Result, Ok, Err, MatchOption, subst, sym}
-use Rattle.path_db.specs.Database.{RowView}
+use Rattle.row_map.specs.Database.{RowView}
 use Rattle.path_db.specs.declared.command.Command.{Command}
 use Rattle.store_layout.specs.Opening.{StoreValue}
 use Rattle.group_phases.specs.declared.phases.Flush.{Flush}
@@ -10,8 +10,6 @@ use Rattle.group_core.specs.declared.error.StepError.{StepError}
 use Rattle.group_core.specs.declared.error.StepError.TheVariants.{Fault, Stopped, Stranger, NoMemory, Damaged}
 use Rattle.group_core.specs.declared.error.PublishError.{PublishError}
 use Rattle.group_core.specs.declared.error.PublishError.TheVariants as refused
-use Rattle.group_core.specs.declared.error.PublishFollowedError.{PublishFollowedError}
-use Rattle.group_core.specs.declared.error.PublishFollowedError.TheVariants as publish_refused
 use Rattle.group_core.specs.declared.following.FollowError.{FollowError}
 use Rattle.group_core.specs.declared.phases.AtDurable.{AtDurable}
 use Rattle.group_core.specs.declared.phases.AtDurableFollowed.{AtDurableFollowed}
@@ -101,7 +99,7 @@ half_leads value result old new step = check_leads _ value _ (λ next s. s) (hal
 pub close_leads : {P : Type 0} (value : Commit P) (result : Result (Unit {0}) (StepError P)) (old new : StateView) → SyncsClose value result old new → LeadsOut value result
 close_leads value result old new step = check_ends _ value _ (half_ready old) _ result old new step
 
-pub handed_in : (value : Commit AtDurable) (result : Result (Unit {0}) PublishError) (old new : StateView) → PublishStep value result old new → IsHandedIn value result
+pub handed_in : (value : Commit AtDurable) (result : Result (Unit {0}) (PublishError AtDurable)) (old new : StateView) → PublishStep value result old new → IsHandedIn value result
 handed_in value (Ok done) old new step = tt
 handed_in value (Err (refused.NoMemory back)) old new step = step.2
 handed_in value (Err (refused.Stranger back)) old new step = step.1
@@ -111,8 +109,8 @@ pub followed_or_back : (value : Commit AtOpened) (result : Result (Commit AtFoll
 followed_or_back value (Ok next) old new step = step.2
 followed_or_back value (Err (back, refusal)) old new step = step.1
 
-pub passed_on : (value : Commit AtDurableFollowed) (result : Result (Commit AtStable) PublishFollowedError) (old new : StateView)
+pub passed_on : (value : Commit AtDurableFollowed) (result : Result (Commit AtStable) (PublishError AtDurableFollowed)) (old new : StateView)
     → PublishFollowedStep value result old new → IsPassedOn value result
 passed_on value (Ok next) old new step = step.2
-passed_on value (Err (publish_refused.NoMemory back)) old new step = step.2
-passed_on value (Err (publish_refused.Stranger back)) old new step = step.1
+passed_on value (Err (refused.NoMemory back)) old new step = step.2
+passed_on value (Err (refused.Stranger back)) old new step = step.1

@@ -1,15 +1,13 @@
 -- What is known through a lock of the results of the state's calls. Nothing is known of the state,
 -- but how a call's ticket, value and result relate to each other is.
 use Rattle.std.specs.Prelude.{◌≡◌, ℕ, ◌<◌, List, Result, Ok, Err, MatchOption}
-use Rattle.path_db.specs.Database.{RowView}
+use Rattle.row_map.specs.Database.{RowView}
 use Rattle.path_db.specs.declared.command.Command.{Command}
 use Rattle.store_layout.specs.Opening.{StoreValue}
 use Rattle.group_core.specs.declared.error.StepError.{StepError}
-use Rattle.group_core.specs.declared.error.StepError.TheVariants.{Fault, Stopped, Stranger, NoMemory, Damaged}
+use Rattle.group_core.specs.declared.error.StepError.TheVariants.{Stranger, NoMemory}
 use Rattle.group_core.specs.declared.error.PublishError.{PublishError}
 use Rattle.group_core.specs.declared.error.PublishError.TheVariants as refused
-use Rattle.group_core.specs.declared.error.PublishFollowedError.{PublishFollowedError}
-use Rattle.group_core.specs.declared.error.PublishFollowedError.TheVariants as publish_refused
 use Rattle.group_core.specs.declared.following.FollowError.{FollowError}
 use Rattle.group_core.specs.declared.phases.AtDurable.{AtDurable}
 use Rattle.group_core.specs.declared.phases.AtDurableFollowed.{AtDurableFollowed}
@@ -55,21 +53,16 @@ abbrev pub LeadsOn : {P Q : Type 0} → Commit P → Result (Commit Q) (StepErro
 LeadsOn value (Ok next) = IsSame value next
 LeadsOn value (Err (Stranger back)) = back ≡ value
 LeadsOn value (Err (NoMemory back)) = back ≡ value
-LeadsOn value (Err Fault) = Unit {0}
-LeadsOn value (Err Stopped) = Unit {0}
-LeadsOn value (Err Damaged) = Unit {0}
+LeadsOn value _ = Unit {0}
 
 -- The last step of a checkpoint: a value that is returned is the one that was passed.
 abbrev pub LeadsOut : {P : Type 0} → Commit P → Result (Unit {0}) (StepError P) → Type 0
-LeadsOut value (Ok done) = Unit {0}
 LeadsOut value (Err (Stranger back)) = back ≡ value
 LeadsOut value (Err (NoMemory back)) = back ≡ value
-LeadsOut value (Err Fault) = Unit {0}
-LeadsOut value (Err Stopped) = Unit {0}
-LeadsOut value (Err Damaged) = Unit {0}
+LeadsOut value _ = Unit {0}
 
 -- Publishing spends the value, or returns the one that was passed.
-abbrev pub IsHandedIn : Commit AtDurable → Result (Unit {0}) PublishError → Type 0
+abbrev pub IsHandedIn : Commit AtDurable → Result (Unit {0}) (PublishError AtDurable) → Type 0
 IsHandedIn value (Ok done) = Unit {0}
 IsHandedIn value (Err (refused.NoMemory back)) = back ≡ value
 IsHandedIn value (Err (refused.Stranger back)) = back ≡ value
@@ -82,7 +75,7 @@ IsFollowedOrBack value (Err (back, refusal)) = back ≡ value
 
 -- Publishing a group that is followed leads on to the value of the group that follows, or returns
 -- the value that was passed.
-abbrev pub IsPassedOn : Commit AtDurableFollowed → Result (Commit AtStable) PublishFollowedError → Type 0
+abbrev pub IsPassedOn : Commit AtDurableFollowed → Result (Commit AtStable) (PublishError AtDurableFollowed) → Type 0
 IsPassedOn value (Ok next) = IsSame value next
-IsPassedOn value (Err (publish_refused.NoMemory back)) = back ≡ value
-IsPassedOn value (Err (publish_refused.Stranger back)) = back ≡ value
+IsPassedOn value (Err (refused.NoMemory back)) = back ≡ value
+IsPassedOn value (Err (refused.Stranger back)) = back ≡ value

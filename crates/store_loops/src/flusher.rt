@@ -3,10 +3,7 @@
 use crate::retrying::retry;
 use crate::steps::{Awaited, Steps};
 use crate::watch::{Actor, Watch, note_memory};
-use group_core::{
-    Durable, DurableFollowed, Following, Opened, PublishError, PublishFollowedError, Stable,
-    StageError, Staged,
-};
+use group_core::{Commit, Following, Opened, PublishError, Stable, StageError, Staged};
 use std::sync::Wait;
 
 /// Commits what is accepted, a group or a seal at a time. Where commands wait as the gate of a
@@ -76,7 +73,7 @@ fn commit<R: Wait, S: Steps, W: Watch>(
 /// Syncs the gate of what is in flight, and publishes it.
 fn commit_alone<R: Wait, S: Steps, W: Watch>(rt: &R, steps: &S, watch: &W, opened: Opened) {
     if let Some(durable) = retry(rt, steps, opened, |value| steps.sync_gate(value)) {
-        publish(rt, steps, watch, durable);
+        publish(rt, steps, watch, durable, |value| steps.publish(value));
     }
 }
 
@@ -90,49 +87,32 @@ fn commit_followed<R: Wait, S: Steps, W: Watch>(
 ) -> Option<Stable> {
     let followed = retry(rt, steps, following, |value| steps.write_following(value))?;
     let durable = retry(rt, steps, followed, |value| steps.sync_followed(value))?;
-    publish_followed(rt, steps, watch, durable)
+    publish(rt, steps, watch, durable, |value| {
+        steps.publish_followed(value)
+    })
 }
 
-/// Publishes what is durable, again after each refusal of memory.
-fn publish<R: Wait, S: Steps, W: Watch>(rt: &R, steps: &S, watch: &W, value: Durable) {
-    let mut value = value;
-    let mut is_short = false;
-    for _ in rt.forever() {
-        match steps.publish(value) {
-            Ok(()) => {
-                note_memory(watch, Actor::Flusher, is_short, false);
-                return;
-            }
-            Err(PublishError::NoMemory(back)) => value = back,
-            Err(PublishError::Stranger(back)) => {
-                steps.give_up(back);
-                return;
-            }
-        }
-        is_short = note_memory(watch, Actor::Flusher, is_short, true);
-        steps.rest(Awaited::Work, steps.changes(Awaited::Work));
-    }
-    unreachable!()
-}
-
-/// Publishes a durable group that is followed, again after each refusal of memory, and returns the
-/// group that followed it. Returns `None` where the value was a stranger, and is given up.
-fn publish_followed<R: Wait, S: Steps, W: Watch>(
+/// Publishes a durable value by this call, again after each refusal of memory, and returns what the
+/// call gives. Returns `None` where the value was a stranger, and is given up.
+fn publish<R: Wait, S: Steps, W: Watch, P: Copy, N, F: Fn(Commit<P>) -> Result<N, PublishError<P>>>(
     rt: &R,
     steps: &S,
     watch: &W,
-    value: DurableFollowed,
-) -> Option<Stable> {
+    value: Commit<P>,
+    call: F,
+) -> Option<N>
+    requires { F.IsAlwaysCallable call }
+{
     let mut value = value;
     let mut is_short = false;
     for _ in rt.forever() {
-        match steps.publish_followed(value) {
-            Ok(stable) => {
+        match call(value) {
+            Ok(next) => {
                 note_memory(watch, Actor::Flusher, is_short, false);
-                return Some(stable);
+                return Some(next);
             }
-            Err(PublishFollowedError::NoMemory(back)) => value = back,
-            Err(PublishFollowedError::Stranger(back)) => {
+            Err(PublishError::NoMemory(back)) => value = back,
+            Err(PublishError::Stranger(back)) => {
                 steps.give_up(back);
                 return None;
             }

@@ -6,10 +6,11 @@ ghost use Rattle.group_core.specs.declared.beginning.BeginError.TheVariants as b
 ghost use Rattle.store_loops.specs.Receipts.{IsTicketOrCommand, IsRedeemed, LeadsOn, LeadsOut, IsHandedIn, IsFollowedOrBack, IsPassedOn};
 
 use group_core::{
-    AtClosing, AtFollowed, AtFollowing, AtLaid, AtLive, AtOpened, AtPlan, AtStable, AtStaged,
-    AtSwitched, AtWritten, BeginError, Closing, Commit, Durable, DurableFollowed, FollowError,
-    Followed, Following, Laid, Live, Opened, Plan, Prepared, PublishError, PublishFollowedError,
-    Redeemed, Stable, StageError, Staged, StepError, SubmitError, Switched, Ticket, Written,
+    AtClosing, AtDurable, AtDurableFollowed, AtFollowed, AtFollowing, AtLaid, AtLive, AtOpened,
+    AtPlan, AtStable, AtStaged, AtSwitched, AtWritten, BeginError, Closing, Commit, Durable,
+    DurableFollowed, FollowError, Followed, Following, Laid, Live, Opened, Plan, Prepared,
+    PublishError, Redeemed, Stable, StageError, Staged, StepError, SubmitError, Switched, Ticket,
+    Written,
 };
 use path_db::Command;
 
@@ -29,7 +30,7 @@ pub enum Awaited {
 /// call to the next. A value that is returned is the one that was passed.
 pub trait Steps {
     ghost use Rattle.std.specs.Prelude.{List};
-    ghost use Rattle.path_db.specs.Database.{RowView};
+    ghost use Rattle.row_map.specs.Database.{RowView};
     ghost use Rattle.store_layout.specs.Opening.{StoreValue};
 
     /// What a receipt says of the rows that were shown when it was given.
@@ -41,8 +42,15 @@ pub trait Steps {
     /// It is known that a call was refused because the state has stopped.
     ghost has_stopped: { Self → Type 0 };
 
-    /// Submits a command. A command that is refused is returned with the error.
-    fn submit(&self, command: Command) -> Result<Ticket, (Command, SubmitError)>
+    /// Who submits commands.
+    type Sender;
+
+    /// Submits a command of a sender. A command that is refused is returned with the error.
+    fn submit(
+        &self,
+        sender: &mut Self::Sender,
+        command: Command,
+    ) -> Result<Ticket, (Command, SubmitError)>
         ensures { IsTicketOrCommand command result };
 
     /// Redeems a ticket. A ticket that is not redeemed yet, or that is not the state's, is
@@ -80,7 +88,7 @@ pub trait Steps {
 
     /// Publishes a durable group, which is committed then, or moves the tail to the other journal
     /// after a durable seal.
-    fn publish(&self, value: Durable) -> Result<(), PublishError>
+    fn publish(&self, value: Durable) -> Result<(), PublishError<AtDurable>>
         ensures { IsHandedIn value result };
 
     /// Stages a group to follow the group in flight, whose gate was written open. A value that no
@@ -99,11 +107,15 @@ pub trait Steps {
 
     /// Publishes the group in flight, which is committed then. The following group is in flight
     /// after that, written and synced.
-    fn publish_followed(&self, value: DurableFollowed) -> Result<Stable, PublishFollowedError>
+    fn publish_followed(
+        &self,
+        value: DurableFollowed,
+    ) -> Result<Stable, PublishError<AtDurableFollowed>>
         ensures { IsPassedOn value result };
 
-    /// Reads the next piece of the sealed half for a checkpoint that is begun after that: 256
-    /// sectors or, in the journal, as much more as the last group of the piece has.
+    /// Reads the next piece of the sealed half for a checkpoint that is begun after that, or applies
+    /// the next commands of its journal: 64 sectors or, in the journal, as much more as the last
+    /// group of the piece has.
     fn prepare(&self) -> Result<Prepared, BeginError>
         ensures { IfErr result (λ e. e ≡ begin_refused.Stopped → has_stopped self.now) };
 

@@ -1,5 +1,5 @@
 use Rattle.std.proofs.Common.{◌<◌, sym, subst, arith}
-use Rattle.command_log.proofs.KeeperSteps.{copies}
+use Rattle.command_log.proofs.OwnerSteps.{copies}
 use Rattle.command_log.proofs.steps.copy.Goals as goal
 
 pub split_seat-requires : goal.split_seat-requires

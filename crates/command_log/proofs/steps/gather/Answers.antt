@@ -1,5 +1,5 @@
 use Rattle.std.proofs.Common.{◌<◌, sym, ◌∙◌, subst, arith}
-use Rattle.command_log.proofs.KeeperSteps.{gathers}
+use Rattle.command_log.proofs.OwnerSteps.{gathers}
 use Rattle.command_log.proofs.steps.gather.Goals as goal
 
 pub join_seat-requires : goal.join_seat-requires

@@ -1,5 +1,5 @@
 use Rattle.std.proofs.Common.{◌<◌, sym, refl, subst, arith}
-use Rattle.command_log.proofs.KeeperSteps.{issues}
+use Rattle.command_log.proofs.OwnerSteps.{issues}
 use Rattle.command_log.specs.Passes.{no_view}
 use Rattle.command_log.proofs.steps.issue.Goals as goal
 

@@ -1,0 +1,4 @@
+pub mod Fronts
+pub mod Moments
+pub mod Rights
+pub mod Sent
