@@ -1,7 +1,7 @@
--- What goes from one thread to another: a claim, and a queue of what may go there.
+-- What goes from one thread to another: a claim, what begins senders, and a queue of what may go there.
 use denote.RattleType.{RattleType}
 use denote.Builtin.{u64}
-use denote.Param.Send.{IsSend, sendable, recorded_send, struct_send}
+use denote.Param.Send.{IsSend, IsSync, sendable, recorded_send, struct_send, struct_sync}
 use denote.Struct.Declared.{shape}
 use Rattle.std.proofs.Crossing.{crosses, Deque-send}
 use Rattle.logbook.proofs.tokens.Seen.TheSendSync as seen
@@ -14,12 +14,16 @@ use Rattle.command_queue.specs.contracts.history.HistoryRuleCommandU64.TheImpl a
 use Rattle.command_queue.specs.contracts.numbers.Numbers as Numbers
 use Rattle.command_queue.specs.contracts.queue.HandedIn as HandedIn
 use Rattle.command_queue.specs.contracts.queue.CommandQueue as CommandQueue
+use Rattle.command_queue.specs.contracts.sender.Senders as Senders
 
 command_send : IsSend (Command.the_field).row
 command_send = search (sendable, crosses) depth 60 fits 20000
 
 pub claim_send : (N : RattleType) (g : Ghosts N.Denot) → IsSend N → IsSend (Claim.the_field N g).row
 claim_send N g n = search (sendable, crosses, seen.the_send) depth 20
+
+pub senders_sync : (N : RattleType) → IsSync N → IsSync (Senders.the_field N).row
+senders_sync N m = struct_sync (shape (Senders.the_type N)) (search (sendable, crosses) depth 20, tt)
 
 module _ (N T : RattleType) (g : Ghosts N.Denot) (n : IsSend N) (t : IsSend T) where
   handed_send : IsSend (HandedIn.the_field N T g).row

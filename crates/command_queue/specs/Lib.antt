@@ -1,3 +1,4 @@
+pub mod Handed
 pub mod History
 pub mod Numbers
 pub mod Refusals

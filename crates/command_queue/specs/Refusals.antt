@@ -4,7 +4,7 @@ use Rattle.command_queue.specs.declared.not_queued.NotQueued.{NotQueued}
 use Rattle.command_queue.specs.declared.not_queued.NotQueued.TheVariants.{Closed, Full, Exhausted}
 use Rattle.command_queue.specs.declared.not_queued.TheConstants.{MOST_WAITING}
 
--- Why a queue takes no command, apart from want of memory: it is closed, or else 2,304 commands wait,
+-- Why a queue takes no command, apart from want of memory: it is closed, or else 8,448 commands wait,
 -- or else no number is left.
 abbrev pub queue_refusal : Bool → ℕ → ℕ → Option NotQueued
 queue_refusal is_closed waiting next =

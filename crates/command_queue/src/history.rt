@@ -59,17 +59,19 @@ impl Plain<Command, Command, u64> for Add {
 /// Names one queue by its history. The call that makes a queue picks the name, so a claim of one
 /// queue is refused by the types of another.
 pub trait QueueName {
-    ghost use Rattle.std.specs.Prelude.{Bool};
+    ghost use Rattle.std.specs.Prelude.{Bool, Option};
     ghost use Rattle.logbook.specs.Pages.{Book};
+    ghost use Rattle.group_core.specs.declared.submit_error.SubmitError.{SubmitError};
     ghost use Rattle.path_db.specs.declared.command.Command.{Command};
 
     /// The book that the history is in.
     ghost history: { Book };
 
-    /// It is known that a command was refused. Code over any name learns this of a command from
+    /// It is known that a command was refused for this reason, or, without a reason, that the state
+    /// stopped before the command was committed. Code over any name learns this of a command from
     /// two sources alone: the queue did not take the command, or the command was taken out of the
-    /// queue, and whoever has it may refuse it.
-    ghost refused: { Command → Bool };
+    /// queue. Whoever has it then says for which reason it is refused.
+    ghost refused: { Command → Option SubmitError → Bool };
 }
 
 impl QueueName for Brand {
@@ -77,7 +79,7 @@ impl QueueName for Brand {
 
     ghost history = { record { number = 0; log_name = 0; cells_name = 0 } };
 
-    ghost refused = { λ _. true };
+    ghost refused = { λ _ _. true };
 }
 
 /// An empty history, which no queue has yet.

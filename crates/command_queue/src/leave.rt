@@ -14,29 +14,32 @@ pub(crate) struct Leave<J: QueueName> {
 }
 
 impl<J: QueueName> Model for Leave<J> {
-    ghost use Rattle.std.specs.Prelude.{◌≡◌, true};
+    ghost use Rattle.std.specs.Prelude.{◌≡◌, true, Option};
+    ghost use Rattle.group_core.specs.declared.submit_error.SubmitError.{SubmitError};
     ghost use Rattle.path_db.specs.declared.command.Command.{Command};
 
     ghost Value = { Unit {0} };
 
     ghost view = { λ _. tt };
 
-    ghost invariant = { λ _. (command : Command) → J.refused command ≡ true };
+    ghost invariant = { λ _. (command : Command) (why : Option SubmitError) → J.refused command why ≡ true };
 }
 
 impl<J: QueueName> Leave<J> {
+    ghost use Rattle.std.specs.Prelude.{Option};
+    ghost use Rattle.group_core.specs.declared.submit_error.SubmitError.{SubmitError};
     ghost use Rattle.path_db.specs.declared.command.Command.{Command};
 
     /// The leave of the queue whose name is picked so.
     pub(crate) fn new() -> Leave<J>
-        requires { (command : Command) → J.refused command ≡ true }
+        requires { (command : Command) (why : Option SubmitError) → J.refused command why ≡ true }
     {
         Leave { of: PhantomData }
     }
 
-    /// A command is refused.
+    /// A command is refused, for any reason.
     pub(crate) fn refuse(&self, command: &Command)
-        ensures { J.refused command.now ≡ true }
+        ensures { (why : Option SubmitError) → J.refused command.now why ≡ true }
     {
         let _of = &self.of;
         let _ = command;

@@ -6,8 +6,9 @@
 //! that history at its number.
 //!
 //! To the layer above: `CommandQueue::hand_in` returns a claim of the command that was passed, with
-//! the next number. `CommandQueue::take` returns the command that waits longest, with a claim of
-//! that command. `Claim::same_number_means_same_command` shows that two claims of one number are of one command.
+//! the next number, and the command's `Sender` notes it. `CommandQueue::take` returns the command
+//! that waits longest, with a claim of that command. `Claim::same_number_means_same_command` shows
+//! that two claims of one number are of one command.
 #![tactic(auto)]
 
 mod claim;
@@ -16,8 +17,10 @@ mod leave;
 mod not_queued;
 mod numbers;
 mod queue;
+mod sender;
 
 pub use claim::Claim;
 pub use history::{History, NewHistory, QueueName};
 pub use not_queued::{MOST_WAITING, NotQueued};
 pub use queue::{CommandQueue, HandedIn};
+pub use sender::{Sender, Senders};

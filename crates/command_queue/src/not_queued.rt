@@ -3,16 +3,16 @@
 ghost use Rattle.std.specs.Prelude.{◌≡◌, ◌-◌, ◌^◌, ◌<◌, IfNone};
 ghost use Rattle.command_queue.specs.Refusals.{queue_refusal};
 
-/// The most commands that wait: as many as may be pending in a state, and 32 for each of 64
+/// The most commands that wait: as many as may be pending in a state, and 128 for each of 64
 /// sessions.
-pub const MOST_WAITING: usize = 256 + 64 * 32;
+pub const MOST_WAITING: usize = 256 + 64 * 128;
 
 /// Why a command was not queued.
 #[derive(Clone, Copy, Debug, PartialEq, Eq)]
 pub enum NotQueued {
     /// The queue is closed.
     Closed,
-    /// 2,304 commands wait.
+    /// 8,448 commands wait.
     Full,
     /// 2^64 - 1 commands were handed in, so that no number is left.
     Exhausted,

@@ -1,7 +1,9 @@
 //! The queue: commands that were handed in and not taken yet.
 
-ghost use Rattle.std.specs.Prelude.{◌≡◌, ◌==◌, ◌+◌, ◌-◌, ◌^◌, ◌<◌, ◌≤◌, ◌++◌, ◌∷◌, [], length, map, min, true, false, Some, None, unwrap_or, IfOk, IfErr, IfSome, OnOk, OnErr, MatchOption, IfNone};
+ghost use Rattle.std.specs.Prelude.{◌≡◌, ◌==◌, ◌+◌, ◌-◌, ◌^◌, ◌<◌, ◌≤◌, ◌++◌, ◌∷◌, [], length, map, min, true, false, Option, Some, None, unwrap_or, IfOk, IfErr, IfSome, OnOk, OnErr, MatchOption, IfNone};
 ghost use Rattle.std.specs.VecDeque.{deque_len, deque_capacity};
+ghost use Rattle.group_core.specs.declared.submit_error.SubmitError.{SubmitError};
+ghost use Rattle.command_queue.specs.Handed.{handed_with};
 ghost use Rattle.command_queue.specs.Numbers.{last_numbers};
 ghost use Rattle.command_queue.specs.Refusals.{queue_refusal};
 ghost use Rattle.command_queue.specs.declared.not_queued.NotQueued.TheVariants.{NoMemory};
@@ -11,9 +13,11 @@ use crate::history::{NewHistory, QueueName};
 use crate::leave::Leave;
 use crate::not_queued::{NotQueued, refusal};
 use crate::numbers::Numbers;
+use crate::sender::{Sender, Senders};
 use path_db::Command;
 use std::alloc::Global;
 use std::collections::VecDeque;
+use std::snapshot::Snapshot;
 
 /// A command that waits, its claim, and where its answer goes.
 #[derive(Drop)]
@@ -25,8 +29,8 @@ pub struct HandedIn<J: QueueName, T> {
     /// Where the answer goes.
     pub reply_to: T,
     ghost same: { command ≡ claim.command.value },
-    // Whoever has taken the command may refuse it.
-    ghost refusable: { J.refused claim.command.value ≡ true },
+    // Whoever has taken the command may refuse it, for any reason.
+    ghost refusable: { (why : Option SubmitError) → J.refused claim.command.value why ≡ true },
 }
 
 /// Commands that wait, the longest one first. Each has the number after that of the one before it,
@@ -44,29 +48,34 @@ pub struct CommandQueue<J: QueueName, T> {
 impl<J: QueueName, T: Drop> CommandQueue<J, T> {
     ghost use Rattle.path_db.specs.declared.command.Command.{Command};
 
-    /// A queue in which no command waits.
-    pub fn new(alloc: Global, history: NewHistory) -> CommandQueue<J, T>
+    /// A queue in which no command waits, and what begins its senders.
+    pub fn new(alloc: Global, history: NewHistory) -> (CommandQueue<J, T>, Senders<J>)
         requires history { history.seen.book ≡ J.history }
-        requires refusals { (command : Command) → J.refused command ≡ true }
-        ensures { (result.numbers.next ≡ 0) × (result.waiting.items ≡ []) × (result.is_closed ≡ false) }
+        requires refusals { (command : Command) (why : Option SubmitError) → J.refused command why ≡ true }
+        ensures { (result.0.numbers.next ≡ 0) × (result.0.waiting.items ≡ []) × (result.0.is_closed ≡ false) }
     {
-        CommandQueue {
+        let queue = CommandQueue {
             numbers: Numbers::new(history),
             is_closed: false,
             waiting: VecDeque::new(alloc),
             leave: Leave::new(),
-        }
+        };
+        (queue, Senders::new())
     }
 
-    /// Hands a command in, and returns a claim of that command with the next number. A command that
-    /// is not queued is returned, and the queue is as it was. The error is the first of `Closed`,
-    /// `Full` and `Exhausted` that is due, and otherwise `NoMemory`.
+    /// Hands a command in for a sender, which notes it, and returns a claim of that command with the
+    /// next number. A command that is not queued is returned, and the queue and the sender are as
+    /// they were. The error is the first of `Closed`, `Full` and `Exhausted` that is due, and
+    /// otherwise `NoMemory`.
     #[tactic(auto, using(crate::proofs::Waiting::waits))]
     pub fn hand_in(
         &mut self,
+        sender: &mut Sender<J>,
         command: Command,
         reply_to: T,
     ) -> Result<Claim<J>, (Command, NotQueued)>
+        ensures sent { OnOk result (sender.new ≡ handed_with command sender.old) }
+        ensures unsent { OnErr result (sender.new ≡ sender.old) }
         ensures claim { IfOk result (λ c. (c.command.value ≡ command) × (c.number ≡ self.old.numbers.next)) }
         ensures next { OnOk result (self.new.numbers.next ≡ self.old.numbers.next + 1) }
 
@@ -77,19 +86,20 @@ impl<J: QueueName, T: Drop> CommandQueue<J, T> {
         ensures back { IfErr result (λ e. e.0 ≡ command) }
         ensures same { OnErr result ((self.new.numbers.next ≡ self.old.numbers.next) × (self.new.waiting.items ≡ self.old.waiting.items)) }
         ensures why { IfErr result (λ e. e.1 ≡ unwrap_or (queue_refusal self.old.is_closed (length self.old.waiting.items) self.old.numbers.next) NoMemory) }
-        ensures refused { OnErr result (J.refused command ≡ true) }
+        ensures refused { OnErr result ((why : Option SubmitError) → J.refused command why ≡ true) }
         ensures door { self.new.is_closed ≡ self.old.is_closed }
     {
         if let Some(why) = self.refusal() {
             return Err(self.back(command, why));
         }
-        if self.waiting.reserve(1).is_err() {
+        if sender.is_full() || self.waiting.reserve(1).is_err() {
             return Err(self.back(command, NotQueued::NoMemory));
         }
         let Some((claim, theirs)) = self.numbers.give(&command) else {
             return Err(self.back(command, NotQueued::NoMemory));
         };
         self.leave.refuse(&command);
+        sender.note(Snapshot::of(&command));
         self.waiting.push_back_reserved(HandedIn {
             claim: theirs,
             command,
@@ -102,7 +112,7 @@ impl<J: QueueName, T: Drop> CommandQueue<J, T> {
     /// result is that of `hand_in`, or `NoMemory` where that would queue the command.
     pub fn turn_away(&self, command: &Command) -> NotQueued
         ensures why { result ≡ unwrap_or (queue_refusal self.now.is_closed (length self.now.waiting.items) self.now.numbers.next) NoMemory }
-        ensures refused { J.refused command.now ≡ true }
+        ensures refused { (why : Option SubmitError) → J.refused command.now why ≡ true }
     {
         self.leave.refuse(command);
         self.refusal().unwrap_or(NotQueued::NoMemory)
@@ -172,7 +182,7 @@ impl<J: QueueName, T: Drop> CommandQueue<J, T> {
     /// A command that is refused goes back.
     fn back(&self, command: Command, why: NotQueued) -> (Command, NotQueued)
         ensures result { (result.0 ≡ command) × (result.1 ≡ why) }
-        ensures refused { J.refused command ≡ true }
+        ensures refused { (why : Option SubmitError) → J.refused command why ≡ true }
     {
         self.leave.refuse(&command);
         (command, why)

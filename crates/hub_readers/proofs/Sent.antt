@@ -19,7 +19,7 @@ use Rattle.hub_readers.specs.contracts.reader.HubReader as HubReader
 use Rattle.hub_readers.specs.contracts.show.HubShow as HubShow
 use Rattle.seg_core.specs.contracts.segment.Segment as Segment
 use Rattle.end_index.specs.contracts.index.EndIndex as EndIndex
-use Rattle.path_db.specs.contracts.row.Row as Row
+use Rattle.row_map.specs.contracts.row.Row as Row
 use Rattle.path_db.specs.contracts.command.Command as Command
 use Rattle.path_db.specs.contracts.database.PathDb as PathDb
 

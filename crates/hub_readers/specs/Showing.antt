@@ -1,6 +1,6 @@
 -- What contracts see of a hub's showcase.
 use Rattle.std.specs.Prelude.{List}
-use Rattle.path_db.specs.Database.{RowView}
+use Rattle.row_map.specs.Database.{RowView}
 use Rattle.path_db.specs.declared.command.Command.{Command}
 use Rattle.store_layout.specs.Opening.{StoreValue}
 

@@ -4,7 +4,7 @@ use Rattle.std.specs.List.{AllByRecursion}
 use mathlib.Core.Option.{some}
 use mathlib.Core.List.{IsPrefix}
 use lib.ListN.{get_elem?}
-use Rattle.path_db.specs.Database.{RowView}
+use Rattle.row_map.specs.Database.{RowView}
 use Rattle.path_db.specs.Command.{database_after}
 use Rattle.path_db.specs.declared.command.Command.{Command}
 use Rattle.store_layout.specs.Opening.{StoreValue}

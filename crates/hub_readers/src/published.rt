@@ -16,7 +16,7 @@ pub struct Published {
 
 impl Model for Published {
     ghost use Rattle.std.specs.Prelude.{List};
-    ghost use Rattle.path_db.specs.Database.{RowView};
+    ghost use Rattle.row_map.specs.Database.{RowView};
     ghost use Rattle.store_layout.specs.Opening.{StoreValue};
 
     ghost Value = { StoreValue (List RowView) };

@@ -1,11 +1,12 @@
 -- What a hub's receipt of a command says.
-use Rattle.std.proofs.Common.{◌≡◌, ℕ, ◌+◌, ◌<◌, ◌∙◌, Bool, true, false, List, Option, Some, None, Result, Ok, Err, IfOk, OnErr, MatchOption, refl, subst, sym, ap, arith}
+use Rattle.std.proofs.Common.{◌≡◌, ℕ, ◌+◌, ◌<◌, ◌∙◌, Bool, true, false, List, Option, Some, None, Result, Ok, Err, IfOk, IfErr, MatchOption, refl, subst, sym, ap, arith}
 use Rattle.std.proofs.lemmas.Bool.Decides.{nat_tests}
 use Rattle.std.specs.Result.{ForOk, ForErr}
-use Rattle.path_db.specs.Database.{RowView}
+use Rattle.row_map.specs.Database.{RowView}
 use Rattle.path_db.specs.declared.command.Command.{Command}
 use Rattle.store_layout.specs.Opening.{StoreValue}
 use Rattle.command_log.specs.declared.rule.Claim.{Claim}
+use Rattle.group_core.specs.declared.submit_error.SubmitError.{SubmitError}
 use Rattle.group_core.specs.declared.ticket.Ticket.{Ticket}
 use Rattle.group_core.specs.declared.ticket.Redeemed.TheVariants.{Committed}
 use Rattle.group_core.specs.Redeeming.{Redeems}
@@ -14,9 +15,11 @@ use Rattle.logged_state.specs.Claims.{receipt_in}
 use Rattle.logged_state.specs.ReceiptView.{ReceiptView}
 use Rattle.store_loops.specs.Receipts.{IsShownAbove}
 use Rattle.store_loops.proofs.Through.{is_redeemed}
+use Rattle.path_hub.specs.declared.answer.NotCommitted.{NotCommitted}
+use Rattle.path_hub.specs.declared.answer.NotCommitted.TheVariants as answer
 use Rattle.path_hub.specs.declared.error.HubError.{HubError}
 use Rattle.path_hub.specs.declared.error.HubError.TheVariants as hub
-use Rattle.path_hub.specs.Committed.{ReceiptShows, RefusesCommand, EndsWaiting, is_above}
+use Rattle.path_hub.specs.Committed.{ReceiptShows, RefusesCommand, EndsWaiting, RefusesHandingIn, is_above, error_of, reason_in}
 
 -- a hub's note is the place of what was shown
 noted : (place : ℕ) (note : Option ℕ) → MatchOption note ⊥ (IsShownAbove (λ value shown. shown ≡ value.place) place) → MatchOption note ⊥ (λ shown. place < shown)
@@ -54,30 +57,31 @@ answer_shows opening claimed command (Ok receipt) shows placed above same =
 answer_shows opening claimed command (Err e) shows placed above same = tt
 
 -- where an answer has no receipt, each command that its claim shows is refused
-pub answer_refuses : {R E : Type 0} (refused : Command → Bool) (claimed command : Command) (outcome : Result R E) → ForErr outcome (λ _. refused claimed ≡ true)
-    → claimed ≡ command → OnErr outcome (refused command ≡ true)
+pub answer_refuses : {R : Type 0} (refused : Command → Option SubmitError → Bool) (claimed command : Command) (outcome : Result R NotCommitted)
+    → ForErr outcome (λ why. refused claimed (reason_in why) ≡ true) → claimed ≡ command → IfErr outcome (λ why. refused command (reason_in why) ≡ true)
 answer_refuses refused claimed command (Ok receipt) known same = tt
-answer_refuses refused claimed command (Err e) known same = sym (ap refused same) ∙ known e refl
+answer_refuses refused claimed command (Err why) known same = sym (ap (λ (c : Command). refused c (reason_in why)) same) ∙ known why refl
 
 -- a command that the hub refused has no receipt, whoever waits for it
-pub ends_waiting : (left refused : Bool) (e : HubError) → RefusesCommand e → refused ≡ true → EndsWaiting left refused e
-ends_waiting left refused hub.NoMemory why known = absurd why
-ends_waiting left refused hub.NoReader why known = absurd why
-ends_waiting left refused (hub.Stopped place) why known = known
-ends_waiting left refused (hub.Submit e) why known = known
-ends_waiting left refused hub.NotAwaited why known = absurd why
+pub ends_waiting : (refused : Option SubmitError → Bool) (left : Bool) (why : NotCommitted) (e : HubError) → e ≡ error_of why → refused (reason_in why) ≡ true → EndsWaiting refused left e
+ends_waiting refused left why e is known = subst (EndsWaiting refused left) (sym is) (ended why known)
+  where
+    ended : (reason : NotCommitted) → refused (reason_in reason) ≡ true → EndsWaiting refused left (error_of reason)
+    ended (answer.Stopped place) so = so
+    ended (answer.Refused refusal) so = so
 
 -- the wait of who never leaves ends by a refusal alone
-pub refuses : (refused : Bool) (e : HubError) → EndsWaiting false refused e → RefusesCommand e
+pub refuses : (refused : Option SubmitError → Bool) (e : HubError) → EndsWaiting refused false e → RefusesCommand refused e
 refuses refused hub.NoMemory why = absurd why
 refuses refused hub.NoReader why = absurd why
-refuses refused (hub.Stopped place) why = tt
-refuses refused (hub.Submit e) why = tt
+refuses refused (hub.Stopped place) why = why
+refuses refused (hub.Submit e) why = why
 refuses refused hub.NotAwaited why = absurd (cc why)
 
-pub is_refused : (refused : Bool) (e : HubError) → EndsWaiting false refused e → refused ≡ true
-is_refused refused hub.NoMemory why = absurd why
-is_refused refused hub.NoReader why = absurd why
-is_refused refused (hub.Stopped place) why = why
-is_refused refused (hub.Submit e) why = why
-is_refused refused hub.NotAwaited why = absurd (cc why)
+-- a command that was not handed in has no receipt
+pub not_handed_in : (refused : Option SubmitError → Bool) (e : HubError) → RefusesHandingIn refused e → RefusesCommand refused e
+not_handed_in refused hub.NoMemory why = absurd why
+not_handed_in refused hub.NoReader why = absurd why
+not_handed_in refused (hub.Stopped place) why = absurd why
+not_handed_in refused (hub.Submit e) why = why
+not_handed_in refused hub.NotAwaited why = absurd why

@@ -12,38 +12,40 @@ use Rattle.std.specs.contracts.alloc.Global as Global
 use Rattle.std.specs.contracts.impls.GlobalAllocator.TheImpl as heap
 use Rattle.command_queue.specs.declared.history.QueueName as queue
 use Rattle.command_queue.specs.contracts.queue.CommandQueue as CommandQueue
-use Rattle.command_queue.proofs.Sent.{claim_send, queue_send}
+use Rattle.command_queue.proofs.Sent.{claim_send, queue_send, senders_sync}
 use Rattle.std.specs.declared.sync.Wait as wait
 use Rattle.atomic_table.proofs.shared.Seat.TheSendSync as seat
 use Rattle.atomic_table.proofs.shared.Shared.TheSendSync as shared
 use Rattle.atomic_table.proofs.send_lease.SendLease.TheSendSync as lease
-use Rattle.hub_board.specs.contracts.board.Board as Board
+use Rattle.hub_status.specs.contracts.status.HubStatus as HubStatus
 use Rattle.sector_dev.specs.declared.device.Device as device
 use Rattle.command_log.specs.declared.name.LogName as named
 use Rattle.command_log.specs.contracts.gathering.LoggedList as LoggedList
-use Rattle.command_log.specs.contracts.gathering.LogDesk as LogDesk
+use Rattle.command_log.specs.contracts.gathering.ClaimCollector as ClaimCollector
 use Rattle.command_log.proofs.Sent.{accepted_send, list_send, log_send}
 use Rattle.logged_state.specs.declared.name.StateName as opened
 use Rattle.logged_state.specs.contracts.state.LoggedState as LoggedState
 use Rattle.hub_readers.specs.contracts.reader.HubReader as HubReader
-use Rattle.hub_readers.proofs.Sent.{segment_send, row_send, db_send, command_send, receipt_send, reader_send, show_send}
+use Rattle.hub_readers.proofs.Sent.{row_send, db_send, command_send, receipt_send, reader_send, show_send}
 use Rattle.path_hub.specs.contracts.answer.Answer as Answer
 use Rattle.path_hub.specs.contracts.answer.Slot as Slot
 use Rattle.path_hub.specs.contracts.guarded.Locked as Locked
 use Rattle.path_hub.specs.contracts.handing.UnderWay as UnderWay
 use Rattle.rising_map.specs.contracts.map.RisingMap as RisingMap
-use Rattle.row_edits.specs.contracts.pour.Pour as Pour
+use Rattle.row_edits.specs.contracts.rewrite.Rewrite as Rewrite
 use Rattle.ckpt_stream.specs.contracts.merge.Merge as Merge
-use Rattle.row_edits.proofs.note.RowsNote.TheSendSync as note
+use Rattle.ghost_note.proofs.note.Note.TheSendSync as note
 use Rattle.row_edits.specs.contracts.plan.Plan as Plan
 use Rattle.row_edits.specs.contracts.planner.Planner as Planner
+use Rattle.row_edits.specs.contracts.settling.Settling as Settling
 use Rattle.gate_journal.specs.contracts.scanner.Scan as Scan
 use Rattle.gate_journal.specs.contracts.scanner.Scanner as Scanner
 use Rattle.ckpt_pair.specs.contracts.reading.Front as Front
 use Rattle.ckpt_pair.specs.contracts.row_stream.RowStream as RowStream
 use Rattle.ckpt_stream.specs.contracts.old_journal.JournalRead as JournalRead
 use Rattle.ckpt_stream.specs.contracts.old_rows.RowsRead as RowsRead
-use Rattle.ckpt_stream.specs.contracts.old_rows.PlannedRows as PlannedRows
+use Rattle.ckpt_stream.specs.contracts.settled.RowsSettled as RowsSettled
+use Rattle.ckpt_stream.specs.contracts.settled.PlannedRows as PlannedRows
 use Rattle.ckpt_stream.specs.contracts.half_read.HalfRead as HalfRead
 use Rattle.ckpt_stream.specs.contracts.preparation.Preparation as Preparation
 use Rattle.group_core.specs.declared.showcase.Showcase as show
@@ -51,8 +53,8 @@ use Rattle.group_core.specs.contracts.state.State as State
 use Rattle.path_hub.specs.contracts.hub.Hub as Hub
 
 -- what puts claims together
-desk_sync : (N : RattleType) (l : named.Ghosts N.Denot) → IsSync N → IsSync (LogDesk.the_field N l).row
-desk_sync N l m = struct_sync (shape (LogDesk.the_type N l))
+collector_sync : (N : RattleType) (l : named.Ghosts N.Denot) → IsSync N → IsSync (ClaimCollector.the_field N l).row
+collector_sync N l m = struct_sync (shape (ClaimCollector.the_type N l))
     (search (sendable, crosses, seat.the_send, shared.the_send, shared.the_sync, lease.the_send, lease.the_sync) depth 60 fits 20000, (search (sendable, crosses) depth 20, tt))
 
 -- claims that were put together, under a lock
@@ -87,11 +89,11 @@ module _ (N : RattleType) (s : opened.Ghosts N.Denot) (l : named.Ghosts N.Denot)
 kept_send : (V : RattleType) → IsSend V → IsSend (RisingMap.the_row V)
 kept_send V v = search (sendable, crosses) depth 20
 
-pour_send : IsSend Pour.the_row
-pour_send = search (sendable, crosses, row_send) depth 60 fits 20000
+rewrite_send : IsSend Rewrite.the_row
+rewrite_send = search (sendable, crosses, row_send) depth 60 fits 20000
 
 merge_send : IsSend Merge.the_row
-merge_send = search (view_send, recorded_send, struct_send, sendable, crosses, pour_send, note.the_send) depth 80 fits 50000
+merge_send = search (view_send, recorded_send, struct_send, sendable, crosses, rewrite_send, note.the_send) depth 80 fits 50000
 
 front_send : IsSend (Front.the_field).row
 front_send = search (sendable, crosses) depth 60 fits 20000
@@ -106,7 +108,10 @@ plan_send : IsSend (Plan.the_field).row
 plan_send = search (sendable, crosses, row_send) depth 60 fits 20000
 
 planner_send : IsSend (Planner.the_field).row
-planner_send = search (sendable, crosses, segment_send) depth 60 fits 20000
+planner_send = search (sendable, crosses, db_send) depth 60 fits 20000
+
+settling_send : IsSend (Settling.the_field).row
+settling_send = search (sendable, crosses, db_send, command_send, row_send) depth 60 fits 20000
 
 stream_send : IsSend RowStream.the_row
 stream_send = search (sendable, crosses) depth 60 fits 20000
@@ -117,17 +122,22 @@ journal_read_send = struct_send (shape JournalRead.the_type) (front_send, (searc
 rows_read_send : IsSend (RowsRead.the_field).row
 rows_read_send =
     struct_send (shape RowsRead.the_type)
-    (front_send, (scan_send, (planner_send, (stream_send, (note.the_send, (search (sendable, crosses) depth 20, (search (sendable, crosses), tt)))))))
+    (front_send, (scan_send, (planner_send, (stream_send, (search note.the_send, (search (sendable, crosses) depth 20, (search (sendable, crosses), tt)))))))
+
+rows_settled_send : IsSend (RowsSettled.the_field).row
+rows_settled_send =
+    struct_send (shape RowsSettled.the_type)
+    (front_send, (search (sendable, crosses), (settling_send, (search note.the_send, (search note.the_send, (search (sendable, crosses) depth 20, tt))))))
 
 planned_rows_send : IsSend (PlannedRows.the_field).row
 planned_rows_send =
     struct_send (shape PlannedRows.the_type)
-    (front_send, (scan_send, (plan_send, (note.the_send, (search (sendable, crosses) depth 20, tt)))))
+    (front_send, (search (sendable, crosses), (plan_send, (search note.the_send, (search note.the_send, (search (sendable, crosses) depth 20, tt))))))
 
 half_read_send : IsSend (HalfRead.the_field).row
 half_read_send =
     enum_send (enum_shape HalfRead.the_type)
-    (tt, ((journal_read_send, tt), ((rows_read_send, tt), ((planned_rows_send, tt), tt))))
+    (tt, ((journal_read_send, tt), ((rows_read_send, tt), ((rows_settled_send, tt), ((planned_rows_send, tt), tt)))))
 
 preparation_send : IsSend Preparation.the_row
 preparation_send = search (sendable, crosses, half_read_send) depth 60 fits 20000
@@ -152,9 +162,9 @@ module _ (D N R : RattleType) (s : opened.Ghosts N.Denot) (l : named.Ghosts N.De
   state_sync : IsSync (Mutex.the_row (Locked.the_row D N R s l q d w))
   state_sync = search (crosses, locked_send) depth 12
 
-board_sync : IsSync (Board.the_field).row
-board_sync = search (sendable, crosses) depth 80 fits 50000
+status_sync : IsSync (HubStatus.the_field).row
+status_sync = search (sendable, crosses) depth 80 fits 50000
 
 module _ (D N R : RattleType) (s : opened.Ghosts N.Denot) (l : named.Ghosts N.Denot) (q : queue.Ghosts N.Denot) (d : device.Ghosts D.Denot) (w : wait.Ghosts R.Denot) (e : IsSend D) (n : IsSend N) (m : IsSync N) (r : IsSend R) (t : IsSync R) where
   pub hub_sync : IsSync (Hub.the_row D N R s l q d w)
-  hub_sync = recorded_sync _ _ _ (Hub.the_type D N R s l q d w).to_one (struct_sync (shape (Hub.the_type D N R s l q d w)) (t, (search (sendable, crosses), (queue_sync N s l q n, (search (sendable, crosses), (state_sync D N R s l q d w e n m r, (search (sendable, crosses) depth 20 fits 5000, (board_sync, (search (sendable, crosses), (readers_sync N s l n m, (desk_sync N l m, (acknowledged_sync N l n, tt))))))))))))
+  hub_sync = recorded_sync _ _ _ (Hub.the_type D N R s l q d w).to_one (struct_sync (shape (Hub.the_type D N R s l q d w)) (t, (search (sendable, crosses), (queue_sync N s l q n, (search (sendable, crosses), (state_sync D N R s l q d w e n m r, (search (sendable, crosses) depth 20 fits 5000, (status_sync, (search (sendable, crosses), (readers_sync N s l n m, (collector_sync N l m, (acknowledged_sync N l n, (senders_sync N m, tt)))))))))))))

@@ -1,9 +1,13 @@
 -- What a hub returns for a command that was handed in.
-use Rattle.std.specs.Prelude.{◌≡◌, ℕ, ◌+◌, ◌<◌, nat_lt, Bool, true, false, List, Option, Some, None, MatchOption}
-use Rattle.path_db.specs.Database.{RowView}
+use Rattle.std.specs.Prelude.{◌≡◌, ℕ, ◌+◌, ◌<◌, nat_lt, Bool, true, false, List, Option, Some, None, MatchOption, Result, Ok, Err}
+use Rattle.row_map.specs.Database.{RowView}
 use Rattle.path_db.specs.declared.command.Command.{Command}
 use Rattle.store_layout.specs.Opening.{StoreValue}
+use Rattle.group_core.specs.declared.submit_error.SubmitError.{SubmitError}
 use Rattle.logged_state.specs.ReceiptView.{ReceiptView}
+use Rattle.command_queue.specs.Handed.{Handed, handed_with}
+use Rattle.path_hub.specs.declared.answer.NotCommitted.{NotCommitted}
+use Rattle.path_hub.specs.declared.answer.NotCommitted.TheVariants as answer
 use Rattle.path_hub.specs.declared.error.HubError.{HubError}
 use Rattle.path_hub.specs.declared.error.HubError.TheVariants as hub
 
@@ -15,31 +19,44 @@ pub record ReceiptShows (opening : StoreValue (List RowView)) (handed : Command)
   pub place : receipt.place ≡ opening.place + receipt.logged.index
   pub note : MatchOption receipt.note ⊥ (λ shown. receipt.place < shown)
 
--- Why a command that was handed in has no receipt: it was not accepted, or the state stopped before
--- it was committed.
-abbrev pub RefusesCommand : HubError → Type 0
-RefusesCommand hub.NoMemory = ⊥
-RefusesCommand hub.NoReader = ⊥
-RefusesCommand (hub.Stopped place) = Unit {0}
-RefusesCommand (hub.Submit e) = Unit {0}
-RefusesCommand hub.NotAwaited = ⊥
+-- The error of a command that has no receipt.
+abbrev pub error_of : NotCommitted → HubError
+error_of (answer.Stopped place) = hub.Stopped place
+error_of (answer.Refused e) = hub.Submit e
 
--- Why a wait for the answer to a command ends without a receipt: who waited has left; or the hub
--- refused the command, since it was not accepted, or the state stopped before it was committed.
-abbrev pub EndsWaiting : Bool → Bool → HubError → Type 0
-EndsWaiting left refused hub.NoMemory = ⊥
-EndsWaiting left refused hub.NoReader = ⊥
-EndsWaiting left refused (hub.Stopped place) = refused ≡ true
-EndsWaiting left refused (hub.Submit e) = refused ≡ true
-EndsWaiting left refused hub.NotAwaited = left ≡ true
+-- Why it was refused, or nothing where the state stopped before it was committed.
+abbrev pub reason_in : NotCommitted → Option SubmitError
+reason_in (answer.Stopped place) = None
+reason_in (answer.Refused e) = Some e
 
--- Why a command is not handed in: it was not accepted.
-abbrev pub RefusesHandingIn : HubError → Type 0
-RefusesHandingIn hub.NoMemory = ⊥
-RefusesHandingIn hub.NoReader = ⊥
-RefusesHandingIn (hub.Stopped place) = ⊥
-RefusesHandingIn (hub.Submit e) = Unit {0}
-RefusesHandingIn hub.NotAwaited = ⊥
+-- Of a command it is known for which reasons it was refused.
+module _ (refused : Option SubmitError → Bool) where
+  -- Why a command that was handed in has no receipt: it was not accepted, for the reason for which it
+  -- was refused, or the state stopped before it was committed.
+  abbrev pub RefusesCommand : HubError → Type 0
+  RefusesCommand (hub.Stopped place) = refused None ≡ true
+  RefusesCommand (hub.Submit e) = refused (Some e) ≡ true
+  RefusesCommand _ = ⊥
+
+  -- Why a wait for the answer to a command ends without a receipt: who waited has left; or the
+  -- command was not accepted, for the reason for which it was refused, or the state stopped before it
+  -- was committed.
+  abbrev pub EndsWaiting : Bool → HubError → Type 0
+  EndsWaiting left hub.NoMemory = ⊥
+  EndsWaiting left hub.NoReader = ⊥
+  EndsWaiting left (hub.Stopped place) = refused None ≡ true
+  EndsWaiting left (hub.Submit e) = refused (Some e) ≡ true
+  EndsWaiting left hub.NotAwaited = left ≡ true
+
+  -- Why a command is not handed in: it was not accepted, for the reason for which it was refused.
+  abbrev pub RefusesHandingIn : HubError → Type 0
+  RefusesHandingIn (hub.Submit e) = refused (Some e) ≡ true
+  RefusesHandingIn _ = ⊥
+
+-- What a sender has handed in, where its command got this result: the command, or nothing more.
+abbrev pub NotesTaken : {A E : Type 0} → Command → Result A E → Handed → Handed → Type 0
+NotesTaken command (Ok a) old new = new ≡ handed_with command old
+NotesTaken command (Err e) old new = new ≡ old
 
 -- Whether there is a note, which is a place above this one.
 abbrev pub is_above : ℕ → Option ℕ → Bool

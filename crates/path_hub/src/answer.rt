@@ -1,8 +1,8 @@
 //! The answers to commands that were handed in.
 
-ghost use Rattle.std.specs.Prelude.{◌≡◌, ◌+◌, true, IfSome, IfOk, OnErr};
+ghost use Rattle.std.specs.Prelude.{◌≡◌, ◌+◌, true, IfSome, IfOk, IfErr};
 ghost use Rattle.std.specs.Result.{ForOk, ForErr};
-ghost use Rattle.path_hub.specs.Committed.{ReceiptShows, is_above};
+ghost use Rattle.path_hub.specs.Committed.{ReceiptShows, is_above, reason_in};
 
 use crate::error::HubError;
 use crate::name::HubName;
@@ -21,9 +21,10 @@ pub(crate) enum NotCommitted {
 }
 
 impl From<NotCommitted> for HubError {
-    ghost use Rattle.path_hub.specs.Committed.{RefusesCommand};
+    ghost use Rattle.std.specs.Prelude.{◌≡◌};
+    ghost use Rattle.path_hub.specs.Committed.{error_of};
 
-    ghost from_gives = { λ _ e. RefusesCommand e };
+    ghost from_gives = { λ why e. e ≡ error_of why };
 
     fn from(why: NotCommitted) -> HubError {
         match why {
@@ -41,7 +42,7 @@ pub(crate) struct Answer<N: HubName> {
     ghost shows: { ForOk outcome (λ receipt. receipt.logged.command ≡ claim.command.value) },
     ghost placed: { ForOk outcome (λ receipt. receipt.place ≡ N.opening.place + receipt.logged.index) },
     ghost noted: { ForOk outcome (λ receipt. is_above receipt.place receipt.note ≡ true) },
-    ghost refused: { ForErr outcome (λ _. N.refused claim.command.value ≡ true) },
+    ghost refused: { ForErr outcome (λ why. N.refused claim.command.value (reason_in why) ≡ true) },
 }
 
 impl<N: HubName> Answer<N> {
@@ -57,9 +58,9 @@ impl<N: HubName> Answer<N> {
     }
 
     /// The command of the claim has no receipt. Only a command that was taken out of the queue is
-    /// refused so.
+    /// refused so, for the reason that is said of it.
     pub(crate) fn refused(claim: Claim<N>, why: NotCommitted) -> Answer<N>
-        requires { N.refused claim.command.value ≡ true }
+        requires { N.refused claim.command.value (reason_in why) ≡ true }
     {
         Answer {
             claim,
@@ -76,7 +77,7 @@ impl<N: HubName> Answer<N> {
     #[tactic(auto, using(crate::proofs::Committed::answer_shows, crate::proofs::Committed::answer_refuses))]
     fn outcome_of(self, claim: &Claim<N>) -> Option<Result<HubReceipt<N>, NotCommitted>>
         ensures committed { IfSome result (λ outcome. IfOk outcome (ReceiptShows N.opening claim.now.command.value)) }
-        ensures refused { IfSome result (λ outcome. OnErr outcome (N.refused claim.now.command.value ≡ true)) }
+        ensures refused { IfSome result (λ outcome. IfErr outcome (λ why. N.refused claim.now.command.value (reason_in why) ≡ true)) }
     {
         let Answer {
             claim: answered,
@@ -116,7 +117,7 @@ impl<N: HubName> Slot<N> {
         claim: &Claim<N>,
     ) -> Option<Result<HubReceipt<N>, NotCommitted>>
         ensures committed { IfSome result (λ outcome. IfOk outcome (ReceiptShows N.opening claim.now.command.value)) }
-        ensures refused { IfSome result (λ outcome. OnErr outcome (N.refused claim.now.command.value ≡ true)) }
+        ensures refused { IfSome result (λ outcome. IfErr outcome (λ why. N.refused claim.now.command.value (reason_in why) ≡ true)) }
     {
         let answer = self.answer.lock(rt).take();
         answer?.outcome_of(claim)

@@ -1,7 +1,7 @@
 //! Claims on the answers to commands that were handed in.
 
-ghost use Rattle.std.specs.Prelude.{◌≡◌, true, IfSome, IfOk, OnErr};
-ghost use Rattle.path_hub.specs.Committed.{ReceiptShows};
+ghost use Rattle.std.specs.Prelude.{◌≡◌, true, IfSome, IfOk, IfErr};
+ghost use Rattle.path_hub.specs.Committed.{ReceiptShows, reason_in};
 
 use crate::answer::{NotCommitted, Slot};
 use crate::name::HubName;
@@ -44,7 +44,7 @@ impl<N: HubName> HubClaim<N> {
     /// Takes the answer, if it is there.
     pub(crate) fn take_answer(&self, rt: &impl Wait) -> Option<Result<HubReceipt<N>, NotCommitted>>
         ensures committed { IfSome result (λ outcome. IfOk outcome (ReceiptShows N.opening self.now)) }
-        ensures refused { IfSome result (λ outcome. OnErr outcome (N.refused self.now ≡ true)) }
+        ensures refused { IfSome result (λ outcome. IfErr outcome (λ why. N.refused self.now (reason_in why) ≡ true)) }
     {
         self.slot.take(rt, &self.claim)
     }

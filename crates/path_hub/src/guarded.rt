@@ -1,31 +1,31 @@
-//! The guarded calls over a hub's state: each takes the lock for one call, shows the state's
-//! numbers on the board, and then wakes the threads that wait for what it changed.
+//! The guarded calls over a hub's state: each takes the lock for one call, copies the
+//! state's numbers to the status, and then wakes the threads that wait for what it changed.
 
 ghost use Rattle.std.specs.Prelude.{◌≡◌, true, false};
 ghost use Rattle.store_loops.specs.Receipts.{IsTicketOrCommand, IsRedeemed, LeadsOn, LeadsOut, IsHandedIn, IsFollowedOrBack, IsPassedOn};
+ghost use Rattle.path_hub.specs.Committed.{NotesTaken};
 
 use crate::handing::{AllUnderWay, MOST_TAKEN};
 use crate::hub::Hub;
 use crate::name::HubName;
+use command_queue::Sender;
 use group_core::{
-    AtClosing, AtFollowed, AtFollowing, AtLaid, AtLive, AtOpened, AtPlan, AtStable, AtStaged,
-    AtSwitched, AtWritten, BeginError, Closing, Commit, Durable, DurableFollowed, FollowError,
-    Followed, Following, Laid, Live, Opened, Plan, Prepared, PublishError, PublishFollowedError,
-    Redeemed, Stable, StageError, Staged, StepError, SubmitError, Switched, Ticket, Written,
+    AtClosing, AtDurable, AtDurableFollowed, AtFollowed, AtFollowing, AtLaid, AtLive, AtOpened,
+    AtPlan, AtStable, AtStaged, AtSwitched, AtWritten, BeginError, Closing, Commit, Durable,
+    DurableFollowed, FollowError, Followed, Following, Laid, Live, Opened, Plan, Prepared,
+    PublishError, Redeemed, Stable, StageError, Staged, StepError, SubmitError, Switched, Ticket,
+    Written,
 };
-use hub_board::Done;
 use hub_readers::{HubNote, HubShow};
+use hub_status::Done;
 use logged_state::LoggedState;
 use path_db::Command;
 use sector_dev::Device;
+use std::snapshot::Snapshot;
 use std::sync::atomic::Ordering;
 use std::sync::{MutexGuard, Wait};
-use std::time::{Clock, Duration};
+use std::time::Clock;
 use store_loops::{Awaited, DeviceCall, Steps};
-
-/// How long the checkpointer leaves the state's lock to others between two pieces that it prepares,
-/// in milliseconds.
-const BETWEEN_PIECES: u64 = 1;
 
 /// The state of a hub, with its log.
 pub(crate) type HubState<D, N, R> = LoggedState<D, HubShow<N, R>, N>;
@@ -42,23 +42,30 @@ pub(crate) struct Locked<D: Device, N: HubName, R: Wait> {
 pub(crate) type Guarded<'a, D, N, R> = MutexGuard<'a, Locked<D, N, R>>;
 
 impl<D: Device, N: HubName, R: Wait + Clock> Hub<D, N, R> {
-    /// Takes the state's lock for a call that uses the device, and notes on the board that the call
-    /// begins.
+    /// Takes the state's lock for a call that uses the device, and notes in the status that the
+    /// call begins.
     fn begin_call(&self, call: DeviceCall) -> Guarded<'_, D, N, R> {
-        let locked = self.state.lock(&self.rt);
-        self.board.begin(&self.rt, call);
+        let locked = self.lock_state();
+        self.status.begin(&self.rt, call);
         locked
     }
 
-    /// Shows the state's numbers on the board at the end of a guarded call, with what the call has
-    /// completed, and gives the lock up. Commands of the queue are answered as far as their outcome
-    /// is known then.
-    #[tactic(auto, using(hub_board::proofs::Numbers::are_of_a_state))]
+    /// Takes the state's lock. Meanwhile this thread counts as one that waits for it.
+    pub(crate) fn lock_state(&self) -> Guarded<'_, D, N, R> {
+        self.changes.turns.begin();
+        let locked = self.state.lock(&self.rt);
+        self.changes.turns.take();
+        locked
+    }
+
+    /// Ends a guarded call: answers the commands whose outcome is known, copies the state's numbers
+    /// and what the call has completed to the status, and gives the lock up.
+    #[tactic(auto, using(hub_status::proofs::Numbers::are_of_a_state))]
     pub(crate) fn end_call(&self, mut locked: Guarded<'_, D, N, R>, done: Done) {
         self.answer_known(&mut locked);
-        self.board.end(&self.rt, locked.state.numbers(), done);
+        self.status.end(&self.rt, locked.state.numbers(), done);
         MutexGuard::unlock(locked);
-        self.changes.ringer.call(&self.rt);
+        self.changes.waker.call(&self.rt);
     }
 
     /// Wakes all that wait, where a step found that the state must stop.
@@ -66,14 +73,6 @@ impl<D: Device, N: HubName, R: Wait + Clock> Hub<D, N, R> {
         if let Err(StepError::Fault | StepError::Damaged) = next {
             self.changes.announce_stop();
         }
-    }
-
-    /// Leaves the state's lock to the threads that wait for it, for 1 millisecond. A thread that
-    /// takes the lock again as soon as it has given it up is mostly faster than those that wait.
-    fn leave_lock(&self) {
-        let seen = self.changes.count(Awaited::Seal);
-        let most = Duration::from_millis(BETWEEN_PIECES);
-        self.changes.rest_for(&self.rt, Awaited::Seal, seen, most);
     }
 
     /// Wakes all that wait, where the reading of a sealed half found that the state must stop.
@@ -89,17 +88,31 @@ impl<D: Device, N: HubName, R: Wait + Clock> Steps for Hub<D, N, R> {
 
     type Note = HubNote<N>;
 
+    type Sender = Sender<N>;
+
     ghost tells = { λ value note. note ≡ value.place };
 
     // Nothing is known of a hub's state between two calls, so also not that it has stopped.
     ghost has_stopped = { λ _. Unit {0} };
 
     #[tactic(auto, using(store_loops::proofs::Through::taken))]
-    fn submit(&self, command: Command) -> Result<Ticket, (Command, SubmitError)> {
-        let mut locked = self.state.lock(&self.rt);
+    fn submit(
+        &self,
+        sender: &mut Sender<N>,
+        command: Command,
+    ) -> Result<Ticket, (Command, SubmitError)>
+        ensures command { IsTicketOrCommand command result }
+        ensures sent { NotesTaken command result sender.old sender.new }
+    {
+        if sender.is_full() {
+            return Err((command, SubmitError::Exhausted));
+        }
+        let shown = Snapshot::of(&command);
+        let mut locked = self.lock_state();
         let submitted = locked.state.submit(command);
         self.end_call(locked, Done::Nothing);
         if submitted.is_ok() {
+            sender.note(shown);
             self.changes.announce(Awaited::Work);
         }
         submitted
@@ -107,14 +120,14 @@ impl<D: Device, N: HubName, R: Wait + Clock> Steps for Hub<D, N, R> {
 
     #[tactic(auto, using(store_loops::proofs::Through::is_redeemed))]
     fn redeem(&self, ticket: Ticket) -> Redeemed<HubNote<N>> {
-        let mut locked = self.state.lock(&self.rt);
+        let mut locked = self.lock_state();
         let redeemed = locked.state.redeem(ticket);
         self.end_call(locked, Done::Nothing);
         redeemed
     }
 
     fn halt(&self) {
-        let mut locked = self.state.lock(&self.rt);
+        let mut locked = self.lock_state();
         locked.state.halt();
         self.end_call(locked, Done::Nothing);
         self.changes.announce_stop();
@@ -122,7 +135,7 @@ impl<D: Device, N: HubName, R: Wait + Clock> Steps for Hub<D, N, R> {
 
     fn give_up<P: Copy>(&self, value: Commit<P>) {
         self.has_stranger.store(true, Ordering::SeqCst);
-        let mut locked = self.state.lock(&self.rt);
+        let mut locked = self.lock_state();
         locked.state.give_up(value);
         self.end_call(locked, Done::Nothing);
         self.changes.announce_stop();
@@ -130,7 +143,7 @@ impl<D: Device, N: HubName, R: Wait + Clock> Steps for Hub<D, N, R> {
 
     fn stage(&self) -> Result<Staged, StageError> {
         self.pause();
-        let mut locked = self.state.lock(&self.rt);
+        let mut locked = self.lock_state();
         self.take_commands(&mut locked, MOST_TAKEN);
         let staged = locked.state.stage();
         self.end_call(locked, Done::Staged.unless_refused(staged.is_ok()));
@@ -175,8 +188,8 @@ impl<D: Device, N: HubName, R: Wait + Clock> Steps for Hub<D, N, R> {
     }
 
     #[tactic(auto, using(store_loops::proofs::Through::handed_in))]
-    fn publish(&self, value: Durable) -> Result<(), PublishError> {
-        let mut locked = self.state.lock(&self.rt);
+    fn publish(&self, value: Durable) -> Result<(), PublishError<AtDurable>> {
+        let mut locked = self.lock_state();
         let from = locked.state.place();
         let published = locked.state.publish(value);
         let to = locked.state.place();
@@ -192,7 +205,8 @@ impl<D: Device, N: HubName, R: Wait + Clock> Steps for Hub<D, N, R> {
 
     #[tactic(auto, using(store_loops::proofs::Through::followed_or_back))]
     fn follow(&self, value: Opened) -> Result<Following, (Opened, FollowError)> {
-        let mut locked = self.state.lock(&self.rt);
+        self.pause_to_follow();
+        let mut locked = self.lock_state();
         self.take_commands(&mut locked, 2 * MOST_TAKEN);
         let next = locked.state.follow(value);
         self.end_call(locked, Done::Followed.unless_refused(next.is_ok()));
@@ -219,12 +233,16 @@ impl<D: Device, N: HubName, R: Wait + Clock> Steps for Hub<D, N, R> {
     }
 
     #[tactic(auto, using(store_loops::proofs::Through::passed_on))]
-    fn publish_followed(&self, value: DurableFollowed) -> Result<Stable, PublishFollowedError> {
-        let mut locked = self.state.lock(&self.rt);
+    fn publish_followed(
+        &self,
+        value: DurableFollowed,
+    ) -> Result<Stable, PublishError<AtDurableFollowed>> {
+        let mut locked = self.lock_state();
         let from = locked.state.place();
         let published = locked.state.publish_followed(value);
         let to = locked.state.place();
         let done = Done::published(from, to).unless_refused(published.is_ok());
+        self.changes.pause.note_answered(to.saturating_sub(from));
         self.end_call(locked, done);
         published
     }
@@ -235,7 +253,7 @@ impl<D: Device, N: HubName, R: Wait + Clock> Steps for Hub<D, N, R> {
         self.end_call(locked, Done::Nothing);
         self.wake_if_refused(&prepared);
         if let Ok(Prepared::Part) = prepared {
-            self.leave_lock();
+            self.changes.turns.leave(&self.rt);
         }
         prepared
     }
@@ -254,6 +272,7 @@ impl<D: Device, N: HubName, R: Wait + Clock> Steps for Hub<D, N, R> {
         let next = locked.state.write_chunk(value);
         self.end_call(locked, Done::Nothing);
         self.wake_if_stopped(&next);
+        self.changes.turns.leave(&self.rt);
         next
     }
 

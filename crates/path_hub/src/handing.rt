@@ -1,8 +1,9 @@
 //! What is done with a hub's state, under its lock, for the commands that were handed in: they are
 //! submitted, their tickets redeemed, and their answers put where they go.
 
-ghost use Rattle.std.specs.Prelude.{◌≡◌, ◌+◌, ◌<◌, ◌≤◌, true};
+ghost use Rattle.std.specs.Prelude.{◌≡◌, ◌+◌, ◌<◌, ◌≤◌, true, Option};
 ghost use Rattle.std.specs.VecDeque.{deque_len, deque_capacity};
+ghost use Rattle.group_core.specs.declared.submit_error.SubmitError.{SubmitError};
 
 use crate::answer::{Answer, NotCommitted, Slot};
 use crate::guarded::{HubState, Locked};
@@ -10,7 +11,7 @@ use crate::hub::Hub;
 use crate::name::HubName;
 use command_queue::{Claim, HandedIn, MOST_WAITING};
 use group_core::{SubmitError, Ticket};
-use hub_board::Done;
+use hub_status::Done;
 use logged_state::{Accepted, LoggedRedeemed};
 use path_db::Command;
 use sector_dev::Device;
@@ -37,7 +38,7 @@ pub(crate) struct UnderWay<N: HubName> {
     ghost same: { ticket.command.value ≡ claim.command.value },
     ghost placed: { ticket.place ≡ N.opening.place + accepted.index },
     ghost logged: { accepted.command ≡ ticket.command.value },
-    ghost refusable: { N.refused claim.command.value ≡ true },
+    ghost refusable: { (why : Option SubmitError) → N.refused claim.command.value why ≡ true },
 }
 
 /// The commands of the queue that were submitted and are not answered yet, in the order of their
@@ -114,14 +115,14 @@ impl<D: Device, N: HubName, R: Wait + Clock> Hub<D, N, R> {
 
     /// Submits commands of the queue in this thread: the hub has no thread for its flusher.
     pub(crate) fn take_at_once(&self) {
-        let mut locked = self.state.lock(&self.rt);
+        let mut locked = self.lock_state();
         self.take_commands(&mut locked, u64::MAX);
         self.end_call(locked, Done::Nothing);
     }
 
     /// Judges a command by the state.
     pub(crate) fn judge(&self, command: &Command) -> Result<(), SubmitError> {
-        let locked = self.state.lock(&self.rt);
+        let locked = self.lock_state();
         let judged = locked.state.judge(command);
         MutexGuard::unlock(locked);
         judged
@@ -202,11 +203,11 @@ impl<D: Device, N: HubName, R: Wait + Clock> Hub<D, N, R> {
         self.put(&slot, Answer::refused(claim, NotCommitted::Refused(why)));
     }
 
-    /// Puts an answer where it goes, and notes that its bell must be rung.
+    /// Puts an answer where it goes, and notes that its condition variable must be notified.
     fn put(&self, slot: &Slot<N>, answer: Answer<N>) {
         let number = answer.number();
         slot.put(&self.rt, answer);
-        self.changes.ringer.note(&self.rt, number);
+        self.changes.waker.note(&self.rt, number);
     }
 }
 

@@ -1,9 +1,11 @@
 //! The hub: one lock over the state, and the readers that are free.
 
-ghost use Rattle.std.specs.Prelude.{◌≡◌, true, IfOk, IfErr, OnErr};
+ghost use Rattle.std.specs.Prelude.{◌≡◌, ◌⊎◌, true, Option, IfOk, IfErr, OnOk, OnErr};
+ghost use Rattle.group_core.specs.declared.submit_error.SubmitError.{SubmitError as Why};
+ghost use Rattle.command_queue.specs.Handed.{handed_with};
 ghost use Rattle.path_hub.specs.declared.error.HubError.TheVariants.{NoReader};
-ghost use Rattle.path_hub.specs.Committed.{ReceiptShows, RefusesCommand, RefusesHandingIn, EndsWaiting};
-ghost use Rattle.hub_board.specs.Numbers.{AreNumbers};
+ghost use Rattle.path_hub.specs.Committed.{ReceiptShows, RefusesCommand, RefusesHandingIn, EndsWaiting, NotesTaken};
+ghost use Rattle.hub_status.specs.Numbers.{AreNumbers};
 
 use crate::answer::Slot;
 use crate::claim::HubClaim;
@@ -11,11 +13,11 @@ use crate::error::HubError;
 use crate::guarded::Locked;
 use crate::name::HubName;
 use crate::waiter::{Patient, Waiter};
-use command_queue::{CommandQueue, NotQueued};
+use command_queue::{CommandQueue, NotQueued, Sender, Senders};
 use group_core::{Numbers, SubmitError};
-use hub_board::{Board, Changes, Completed, LONGEST_REST};
 use hub_readers::{HubReader, HubReceipt};
-use logged_state::{LogDesk, LoggedList};
+use hub_status::{Changes, Completed, HubStatus, LONGEST_REST};
+use logged_state::{ClaimCollector, LoggedList};
 use path_db::Command;
 use sector_dev::Device;
 use std::alloc::{AllocError, Global};
@@ -38,13 +40,16 @@ pub struct Hub<D: Device, N: HubName, R: Wait + Clock> {
     pub(crate) has_flusher: AtomicBool,
     pub(crate) state: Mutex<Locked<D, N, R>>,
     pub(crate) changes: Changes,
-    pub(crate) board: Board,
+    pub(crate) status: HubStatus,
     /// Whether an actor has given up a stranger.
     pub(crate) has_stranger: AtomicBool,
     pub(crate) readers: Mutex<Vec<HubReader<N>>>,
-    pub(crate) desk: LogDesk<N>,
+    pub(crate) collector: ClaimCollector<N>,
     /// The claims of the commands that sessions which have ended had acknowledged.
     pub(crate) acknowledged: Mutex<LoggedList<N>>,
+    /// What begins the senders of the queue. Another crate gets it from its job or its workload
+    /// alone.
+    pub(crate) senders: Senders<N>,
 }
 
 impl<D: Device, N: HubName, R: Wait + Clock> Hub<D, N, R> {
@@ -71,42 +76,49 @@ impl<D: Device, N: HubName, R: Wait + Clock> Hub<D, N, R> {
         let _ = self.readers.lock(&self.rt).push(reader);
     }
 
-    /// What puts claims of receipts together. Its calls wait for nobody.
-    pub fn desk(&self) -> &LogDesk<N> {
-        &self.desk
+    /// The collector of the claims of receipts. Its calls wait for nobody.
+    pub fn collector(&self) -> &ClaimCollector<N> {
+        &self.collector
     }
 
-    /// Takes the claims of the commands that a session has acknowledged. The hub's log has each of
-    /// them at its end. A list cannot be dropped, so who has one hands it in.
+    /// Takes the claims of the commands that a session has acknowledged. When the hub ends,
+    /// its log has each of these commands. A list cannot be dropped, so who has one hands it in.
     pub fn keep_acknowledged(&self, acknowledged: LoggedList<N>) {
         let mut all = self.acknowledged.lock(&self.rt);
-        self.desk.append(&mut all, acknowledged);
+        self.collector.append(&mut all, acknowledged);
     }
 
-    /// Submits a command, and waits until it is committed. The receipt shows the command, and its
-    /// note a place above the command's own. A command that is not accepted is refused at once.
-    /// Where the state stops before the command is committed, the error has the command's place,
-    /// and it is not known whether the store keeps the command.
-    pub fn register(&self, command: Command) -> Result<HubReceipt<N>, HubError>
+    /// Submits a command of a sender, and waits until it is committed. The receipt shows the
+    /// command, and its note a place above the command's own. A command that is not accepted is
+    /// refused at once. Where the state stops before the command is committed, the error has the
+    /// command's place, and it is not known whether the store keeps the command.
+    #[tactic(auto, using(crate::proofs::Committed::not_handed_in))]
+    pub fn register(
+        &self,
+        sender: &mut Sender<N>,
+        command: Command,
+    ) -> Result<HubReceipt<N>, HubError>
         ensures committed { IfOk result (ReceiptShows N.opening command) }
-        ensures why { IfErr result RefusesCommand }
-        ensures refused { OnErr result (N.refused command ≡ true) }
+        ensures sent { OnOk result (sender.new ≡ handed_with command sender.old) }
+        ensures at_most { OnErr result ((sender.new ≡ handed_with command sender.old) ⊎ (sender.new ≡ sender.old)) }
+        ensures why { IfErr result (RefusesCommand (N.refused command)) }
     {
-        let claim = self.hand_in(command)?;
+        let claim = self.hand_in(sender, command)?;
         self.settle(claim)
     }
 
-    /// Hands a command in, and returns a claim on its answer. The state's lock is not taken, unless
-    /// the command is refused or the hub has no thread for its flusher. A command is refused as the
-    /// state would refuse it. It is also refused as busy where 2,304 commands wait, and for want of
-    /// memory where no room is given for the command and its answer. Commands are submitted in the
-    /// order in which they were handed in.
-    pub fn hand_in(&self, command: Command) -> Result<HubClaim<N>, HubError>
+    /// Hands a command of a sender in, and returns a claim on its answer. The sender notes the
+    /// command, and is as it was where the command is refused. The state's lock is not taken,
+    /// unless the command is refused or the hub has no thread for its flusher. A command is refused
+    /// as the state would refuse it. It is also refused as busy where 8,448 commands wait, and for
+    /// want of memory where no room is given for the command and its answer. Commands are submitted
+    /// in the order in which they were handed in.
+    pub fn hand_in(&self, sender: &mut Sender<N>, command: Command) -> Result<HubClaim<N>, HubError>
         ensures claim { IfOk result (λ claim. claim ≡ command) }
-        ensures why { IfErr result RefusesHandingIn }
-        ensures refused { OnErr result (N.refused command ≡ true) }
+        ensures sent { NotesTaken command result sender.old sender.new }
+        ensures why { IfErr result (RefusesHandingIn (N.refused command)) }
     {
-        match self.queue_up(command) {
+        match self.queue_up(sender, command) {
             Ok(claim) => {
                 self.changes.announce(Awaited::Work);
                 if !self.has_flusher.load(Ordering::SeqCst) {
@@ -122,11 +134,10 @@ impl<D: Device, N: HubName, R: Wait + Clock> Hub<D, N, R> {
     /// note a place above the command's own. A command that is not accepted is refused. Where the
     /// state stops before the command is committed, the error has the command's place, and it is
     /// not known whether the store keeps the command. The state's lock is not taken.
-    #[tactic(auto, using(crate::proofs::Committed::refuses, crate::proofs::Committed::is_refused))]
+    #[tactic(auto, using(crate::proofs::Committed::refuses))]
     pub fn settle(&self, claim: HubClaim<N>) -> Result<HubReceipt<N>, HubError>
         ensures committed { IfOk result (ReceiptShows N.opening claim) }
-        ensures why { IfErr result RefusesCommand }
-        ensures refused { OnErr result (N.refused claim ≡ true) }
+        ensures why { IfErr result (RefusesCommand (N.refused claim)) }
     {
         self.settle_for(claim, &mut Patient)
     }
@@ -141,12 +152,12 @@ impl<D: Device, N: HubName, R: Wait + Clock> Hub<D, N, R> {
         waiter: &mut W,
     ) -> Result<HubReceipt<N>, HubError>
         ensures committed { IfOk result (ReceiptShows N.opening claim) }
-        ensures why { IfErr result (EndsWaiting (W.has_left waiter.new) (N.refused claim)) }
+        ensures why { IfErr result (EndsWaiting (N.refused claim) (W.has_left waiter.new)) }
     {
-        let bell = self.changes.ringer.bell(claim.number());
+        let condvar = self.changes.waker.condvar(claim.number());
         let mut has_rested = false;
         for _ in self.rt.forever() {
-            let seen = bell.notifications();
+            let seen = condvar.notifications();
             if let Some(outcome) = claim.take_answer(&self.rt) {
                 waiter.note_answer();
                 return Ok(outcome?);
@@ -154,23 +165,31 @@ impl<D: Device, N: HubName, R: Wait + Clock> Hub<D, N, R> {
             if has_rested && waiter.has_left() {
                 return Err(HubError::NotAwaited);
             }
-            bell.sleep(&self.rt, seen, Duration::from_millis(LONGEST_REST));
+            condvar.sleep(&self.rt, seen, Duration::from_millis(LONGEST_REST));
             has_rested = true;
         }
         unreachable!()
     }
 
     /// Puts a command into the queue, with room for its answer.
-    fn queue_up(&self, command: Command) -> Result<HubClaim<N>, (Command, NotQueued)>
+    fn queue_up(
+        &self,
+        sender: &mut Sender<N>,
+        command: Command,
+    ) -> Result<HubClaim<N>, (Command, NotQueued)>
         ensures claim { IfOk result (λ claim. claim ≡ command) }
+        ensures sent { NotesTaken command result sender.old sender.new }
         ensures back { IfErr result (λ e. e.0 ≡ command) }
-        ensures refused { OnErr result (N.refused command ≡ true) }
+        ensures refused { OnErr result ((why : Option Why) → N.refused command why ≡ true) }
     {
         let Ok((slot, reply_to)) = self.room() else {
             let why = self.queue.lock(&self.rt).turn_away(&command);
             return Err((command, why));
         };
-        let claim = self.queue.lock(&self.rt).hand_in(command, reply_to)?;
+        let claim = self
+            .queue
+            .lock(&self.rt)
+            .hand_in(sender, command, reply_to)?;
         Ok(HubClaim::on(claim, slot))
     }
 
@@ -202,20 +221,20 @@ impl<D: Device, N: HubName, R: Wait + Clock> Hub<D, N, R> {
     pub fn numbers(&self) -> (Numbers, Completed)
         ensures { ∥ AreNumbers result.0 ∥₁ }
     {
-        self.board.numbers(&self.rt)
+        self.status.numbers(&self.rt)
     }
 
     /// The guarded call that is using the device, and the time that it has taken so far, in
     /// microseconds. The state's lock is not taken. The result is `None` where there is no such
     /// call, or the clock cannot be read. No clause can say which call is under way.
     pub fn under_way(&self) -> Option<(DeviceCall, u64)> {
-        self.board.under_way(&self.rt)
+        self.status.under_way(&self.rt)
     }
 
-    /// Says that threads of the flusher and of the ringer work for the hub from now on.
+    /// Notes that the flusher and the waker have threads from now on.
     pub(crate) fn expect_threads(&self) {
         self.has_flusher.store(true, Ordering::SeqCst);
-        self.changes.ringer.expect_thread();
+        self.changes.waker.expect_thread();
     }
 
     /// Whether an actor has given up a value that a step refused as a stranger.

@@ -1,22 +1,24 @@
-//! The hub: a store's state under one lock, the two actors that work on it, and the queue before it.
+//! The hub: a store's state under one lock, the two actors that work on it, and the queue before
+//! it.
 //!
-//! A hub has one flusher, which commits accepted commands in groups, one checkpointer, which folds
-//! a sealed journal into the other half, any number of threads that register commands, and the 64
-//! readers of `hub_readers`, which look up what is published without a lock.
+//! A hub has one flusher, which commits accepted commands in groups, and one checkpointer, which
+//! writes all rows after a sealed journal to the other half. It has any number of threads that
+//! register commands, and the 64 readers of `hub_readers`, which look up what is published without
+//! a lock.
 //!
 //! A thread that registers a command does not take the state's lock. It hands the command in to a
 //! queue, which has a lock of its own; the flusher submits the commands of the queue before it
-//! stages a group, and lays the answers out once the group is published.
+//! stages a group, and puts each answer where its claim waits once the group is published.
 //!
 //! To the layer above: `Hub::hand_in` returns a claim of the command that was passed, and
 //! `Hub::settle` returns a receipt of the command of a claim, once the command is committed;
-//! `Hub::register` does both. `Hub::settle_for` waits only until its `Waiter` has left. `Hub::reader`
-//! hands a reader out.
+//! `Hub::register` does both. `Hub::settle_for` waits only until its `Waiter` has left.
+//! `Hub::reader` hands a reader out. Who hands in is a `Sender`, which notes each command that is
+//! queued.
 #![tactic(auto)]
 
 mod answer;
 mod claim;
-mod crew;
 mod error;
 mod guarded;
 mod handing;
@@ -25,14 +27,15 @@ mod making;
 mod name;
 mod pause;
 mod waiter;
+mod workload;
 
 pub use claim::HubClaim;
-pub use crew::{Crew, with_crew};
+pub use command_queue::{Sender, Senders};
 pub use error::HubError;
 pub use hub::Hub;
-pub use hub_board::Completed;
+pub use hub_status::Completed;
 pub use logged_state::{
-    Left, LogDesk, Logged, LoggedList, LoggedReceipt, UnnamedClaim, UnnamedList,
+    ClaimCollector, Left, Logged, LoggedList, LoggedReceipt, UnnamedClaim, UnnamedList,
 };
 pub use making::{HubJob, with_hub};
 pub use name::HubName;
@@ -41,3 +44,4 @@ pub use store_loops::{
     checkpointer_loop, flusher_loop,
 };
 pub use waiter::{Patient, Waiter};
+pub use workload::{Workload, with_workload};

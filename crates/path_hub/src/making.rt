@@ -1,9 +1,10 @@
 //! Making a hub, and its end.
 
-ghost use Rattle.std.specs.Prelude.{◌≡◌, ◌⊎◌, true, IfOk, IfErr};
+ghost use Rattle.std.specs.Prelude.{◌≡◌, ◌⊎◌, true, Option, IfOk, IfErr};
 ghost use Rattle.sector_dev.specs.Disk.{IsHonest};
 ghost use Rattle.sector_dev.specs.Image.{EveryImage};
 ghost use Rattle.group_core.specs.Starting.{value_of_store};
+ghost use Rattle.group_core.specs.declared.submit_error.SubmitError.{SubmitError};
 ghost use Rattle.path_db.specs.declared.command.Command.{Command};
 ghost use Rattle.path_hub.specs.declared.error.HubError.TheVariants.{NoMemory, NoReader};
 ghost use Rattle.sector_dev.specs.Stretch.{Stretch};
@@ -15,10 +16,10 @@ use crate::guarded::Locked;
 use crate::handing::{AllUnderWay, MOST_UNDER_WAY, give_up_all};
 use crate::hub::Hub;
 use crate::name::{HubName, NewName};
-use command_queue::CommandQueue;
+use command_queue::{CommandQueue, Senders};
 use group_core::State;
-use hub_board::{Board, Changes};
 use hub_readers::{ReaderError, open_readers};
+use hub_status::{Changes, HubStatus};
 use logged_state::{Left, LoggedState};
 use sector_dev::Device;
 use std::alloc::Global;
@@ -30,17 +31,17 @@ use store_open::Store;
 
 /// A job with a hub. A job cannot name a hub itself, so all that it gets is of this hub.
 pub trait HubJob<D: Device, R: Wait + Clock> {
-    ghost use Rattle.atomic_table.specs.Seated.{TableId};
+    ghost use Rattle.command_log.specs.Log.{LogId};
 
     /// The result of the job.
     type Out;
 
     /// Results that the job may give, by the table of the log of the hub's state. A claim that the
     /// job returns is of that table, and so is the log that is left.
-    ghost does: { Self → Self.Out → TableId → Type 0 } = { λ _ _ _. Unit {0} };
+    ghost does: { Self → Self.Out → LogId → Type 0 } = { λ _ _ _. Unit {0} };
 
-    /// Does the job with a hub.
-    fn run<N: HubName + Send + Sync>(self, hub: &Hub<D, N, R>) -> Self::Out
+    /// Does the job with a hub. What is handed in is a sender's, which the job begins.
+    fn run<N: HubName + Send + Sync>(self, hub: &Hub<D, N, R>, senders: &Senders<N>) -> Self::Out
         ensures { does self result N.table };
 }
 
@@ -86,7 +87,7 @@ fn do_with<N: HubName + Send + Sync, D: Device, J: HubJob<D, R>, R: Wait + Clock
     requires start { store.disk ≡ N.start }
     requires log { name.log.table ≡ N.table }
     requires history { name.history.seen.book ≡ N.history }
-    requires refusals { (command : Command) → N.refused command ≡ true }
+    requires refusals { (command : Command) (why : Option SubmitError) → N.refused command why ≡ true }
     ensures done { IfOk result (λ done. J.does job done.0 done.2.table) }
     ensures left { IfOk result (λ done. IsHonest (D.disk done.1) → EveryImage (D.disk done.1).history.now (OpensToLog N.opening done.2.log)) }
     ensures acknowledged { IfOk result (λ done. IsHonest (D.disk done.1)
@@ -102,14 +103,14 @@ fn do_with<N: HubName + Send + Sync, D: Device, J: HubJob<D, R>, R: Wait + Clock
         Ok(hub) => hub,
         Err((store, refused)) => return Err((store, job, refused)),
     };
-    let out = job.run::<N>(&hub);
+    let out = job.run::<N>(&hub, &hub.senders);
     let (device, left) = hub.close();
     Ok((out, device, left))
 }
 
 impl<D: Device, N: HubName, R: Wait + Clock> Hub<D, N, R> {
     /// A hub of this name over a store, or the store again.
-    #[tactic(auto, using(hub_board::proofs::Numbers::are_of_a_state))]
+    #[tactic(auto, using(hub_status::proofs::Numbers::are_of_a_state))]
     pub(crate) fn open(
         rt: R,
         alloc: Global,
@@ -123,11 +124,11 @@ impl<D: Device, N: HubName, R: Wait + Clock> Hub<D, N, R> {
         requires start { store.disk ≡ N.start }
         requires log { name.log.table ≡ N.table }
         requires history { name.history.seen.book ≡ N.history }
-        requires refusals { (command : Command) → N.refused command ≡ true }
+        requires refusals { (command : Command) (why : Option SubmitError) → N.refused command why ≡ true }
         ensures back { IfErr result (λ back. back.0 ≡ store) }
         ensures why { IfErr result (λ back. (back.1 ≡ NoMemory) ⊎ (back.1 ≡ NoReader)) }
     {
-        let Ok(desk) = name.log.desk::<N>() else {
+        let Ok(collector) = name.log.collector::<N>() else {
             return Err((store, HubError::NoMemory));
         };
         let (show, readers) = match open_readers::<N, R>(rt, alloc, store.db(), store.place()) {
@@ -141,19 +142,21 @@ impl<D: Device, N: HubName, R: Wait + Clock> Hub<D, N, R> {
         };
         let NewName { history, log } = name;
         let state = LoggedState::new(State::new(alloc, store, show, home), log);
-        let board = Board::new(state.numbers());
+        let status = HubStatus::new(state.numbers());
+        let (queue, senders) = CommandQueue::new(alloc, history);
         Ok(Hub {
             rt,
             alloc,
-            queue: Mutex::new(CommandQueue::new(alloc, history)),
+            queue: Mutex::new(queue),
             has_flusher: AtomicBool::new(false),
             state: Mutex::new(Locked { state, under_way }),
             changes: Changes::new(),
-            board,
+            status,
             has_stranger: AtomicBool::new(false),
             readers: Mutex::new(readers),
-            acknowledged: Mutex::new(desk.empty_list()),
-            desk,
+            acknowledged: Mutex::new(collector.empty_list()),
+            collector,
+            senders,
         })
     }
 
@@ -177,11 +180,12 @@ impl<D: Device, N: HubName, R: Wait + Clock> Hub<D, N, R> {
             has_flusher: _has_flusher,
             state,
             changes: _changes,
-            board: _board,
+            status: _status,
             has_stranger: _has_stranger,
             readers: _readers,
-            desk: _desk,
+            collector: _collector,
             acknowledged,
+            senders: _senders,
         } = self;
         let Locked {
             mut state,

@@ -1,4 +1,4 @@
-//! The flusher's pause before it stages a group.
+//! The flusher's pause before it stages a group, or has one follow.
 
 use crate::handing::MOST_TAKEN;
 use crate::hub::Hub;
@@ -15,18 +15,38 @@ impl<D: Device, N: HubName, R: Wait + Clock> Hub<D, N, R> {
     /// held meanwhile. A state that stops in between lets the pause end.
     pub(crate) fn pause(&self) {
         let answered = self.changes.pause.take_answered();
-        if answered < 2 {
-            return;
+        if answered > 1 {
+            let _in_time = self.wait_for_sessions(answered);
         }
+    }
+
+    /// Pauses in the same way before a group follows, where a few sessions were answered and syncs
+    /// are long. Where the sessions need longer than the pause to send again, the next groups
+    /// follow without one.
+    pub(crate) fn pause_to_follow(&self) {
+        let answered = self.changes.pause.take_answered();
+        if self.waiting() < answered && self.changes.pause.is_worth(answered) {
+            let in_time = self.wait_for_sessions(answered);
+            self.changes.pause.note_end(in_time);
+        }
+    }
+
+    /// Waits until this many commands wait in the queue, and at most a quarter of the time that the
+    /// last sync took. Returns whether they do.
+    fn wait_for_sessions(&self, answered: u64) -> bool {
         let Ok(begun) = Instant::now(&self.rt) else {
-            return;
+            return false;
         };
         for _ in 0..MOST_TAKEN {
             let seen = self.changes.count(Awaited::Work);
-            if self.waiting() >= answered || !self.rest_from(begun, seen) {
-                return;
+            if self.waiting() >= answered {
+                return true;
+            }
+            if !self.rest_from(begun, seen) {
+                return false;
             }
         }
+        false
     }
 
     /// The number of commands that wait in the queue.
@@ -53,7 +73,7 @@ impl<D: Device, N: HubName, R: Wait + Clock> Hub<D, N, R> {
     /// Notes how long a sync took that is about to end, where it is one of the flusher's.
     pub(crate) fn note_sync(&self) {
         if let Some((DeviceCall::SyncGate | DeviceCall::SyncFollowed, took)) = self
-            .board
+            .status
             .under_way(&self.rt)
         {
             self.changes.pause.note_sync(took);

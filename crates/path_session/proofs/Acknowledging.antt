@@ -9,11 +9,12 @@ use Rattle.seg_check.specs.declared.error.CheckError.{CheckError}
 use Rattle.seg_check.specs.Checking.{first_refusal}
 use Rattle.path_db.specs.declared.command.Command.{Command}
 use Rattle.path_db.specs.declared.command.Command.TheVariants as command
-use Rattle.path_db.specs.Database.{RowView}
+use Rattle.row_map.specs.Database.{RowView}
 use Rattle.seg_lookup.specs.declared.error.LookupError.{LookupError}
 use Rattle.seg_lookup.specs.Query.{QueryView}
 use Rattle.seg_lookup.specs.Classification.{query_of}
 use Rattle.store_layout.specs.Opening.{StoreValue}
+use Rattle.group_core.specs.declared.submit_error.SubmitError.{SubmitError}
 use Rattle.command_log.specs.declared.rule.Claim.{Claim}
 use Rattle.session_core.specs.declared.list_request.ListRequest.{ListRequest}
 use Rattle.session_core.specs.declared.message.Message.TheVariants.{Register, Lookup, Purge, Remove}
@@ -33,7 +34,7 @@ module _ (opening : StoreValue (List RowView)) where
   Keeps before message None after = after ≡ before
   Keeps before message (Some ack) after = (claim : Claim) × (after ≡ before ++ claim ∷ []) × Acknowledges opening message ack claim
 
-module _ (opening : StoreValue (List RowView)) (refused : Command → Bool) where
+module _ (opening : StoreValue (List RowView)) (refused : Command → Option SubmitError → Bool) where
   refusal_keeps : (code : ℕ) (old : Serving) (message : MessageView) (reply : ReplyView) (new : Serving) → IsRefusedWithCode code old reply new → Keeps opening old.acknowledged message (ack_in reply) new.acknowledged
   refusal_keeps code old message reply new r = subst (λ (x : ReplyView). Keeps opening old.acknowledged message (ack_in x) new.acknowledged) (sym r.0) (ap (λ (s : Serving). s.acknowledged) r.1)
 

@@ -1,2 +1,3 @@
 mod ServingLemmas
 pub mod Acknowledging
+pub mod Sending

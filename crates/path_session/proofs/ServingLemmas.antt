@@ -9,8 +9,9 @@ use Rattle.seg_check.specs.declared.error.CheckError.{CheckError}
 use Rattle.seg_check.specs.Checking.{first_refusal}
 use Rattle.path_db.specs.declared.command.Command.{Command}
 use Rattle.path_db.specs.declared.command.Command.TheVariants as command
-use Rattle.path_db.specs.Database.{RowView}
+use Rattle.row_map.specs.Database.{RowView}
 use Rattle.store_layout.specs.Opening.{StoreValue}
+use Rattle.group_core.specs.declared.submit_error.SubmitError.{SubmitError}
 use Rattle.session_core.specs.declared.command_kind.CommandKind.{CommandKind}
 use Rattle.session_core.specs.declared.command_kind.CommandKind.TheVariants as kind
 use Rattle.session_core.specs.declared.message.Message.TheVariants.{Register, Lookup, Purge, Remove}
@@ -36,7 +37,7 @@ use Rattle.path_session.specs.UnderWay.{reply_with, IsForRows, IsForUnread, IsFo
 
 -- ---- commands
 
-command_answered : (opening : StoreValue (List RowView)) (refused : Command → Bool) (taken : Ack → ReplyView) (old : Serving) (c : Command) (result : Result Ack Refusal) (new : Serving)
+command_answered : (opening : StoreValue (List RowView)) (refused : Command → Option SubmitError → Bool) (taken : Ack → ReplyView) (old : Serving) (c : Command) (result : Result Ack Refusal) (new : Serving)
     → IsCommandAnswered opening refused old c result new → AnswersCommand opening refused taken old c (reply_to_command taken result) new
 command_answered opening refused taken old c (Ok ack) new took = inl (record { ack = ack; replied = refl; committed = took })
 command_answered opening refused taken old c (Err (refusal.Submit e)) new took = inr (inl (record { why = e; refusal = record { by_hub = took.by_hub; replied = (refl, took.same) } }))
@@ -51,8 +52,8 @@ command_answered opening refused taken old c (Err refusal.Future) new took = abs
 command_answered opening refused taken old c (Err refusal.NoCommands) new took = absurd took
 
 -- a wait that ended without a receipt is answered by its refusal
-pub wait_ended : (opening : StoreValue (List RowView)) (refused : Command → Bool) (old : Serving) (c : Command) (new : Serving) (e : HubError)
-    → EndsWaiting new.left (refused c) e → new ≡ with_left old new.left → IsCommandAnswered opening refused old c (Err (hub_refusal e)) new
+pub wait_ended : (opening : StoreValue (List RowView)) (refused : Command → Option SubmitError → Bool) (old : Serving) (c : Command) (new : Serving) (e : HubError)
+    → EndsWaiting (refused c) new.left e → new ≡ with_left old new.left → IsCommandAnswered opening refused old c (Err (hub_refusal e)) new
 wait_ended opening refused old c new hub.NoMemory why same = absurd why
 wait_ended opening refused old c new hub.NoReader why same = absurd why
 wait_ended opening refused old c new (hub.Stopped place) why same = record { by_hub = why; same = same }
@@ -60,7 +61,7 @@ wait_ended opening refused old c new (hub.Submit e) why same = record { by_hub =
 wait_ended opening refused old c new hub.NotAwaited why same = record { gone = why; same = same }
 
 -- the clock is not asked while the hub is
-moment_stays : (opening : StoreValue (List RowView)) (refused : Command → Bool) (old : Serving) (c : Command) (result : Result Ack Refusal) (new : Serving) → IsCommandAnswered opening refused old c result new → new.moment ≡ old.moment
+moment_stays : (opening : StoreValue (List RowView)) (refused : Command → Option SubmitError → Bool) (old : Serving) (c : Command) (result : Result Ack Refusal) (new : Serving) → IsCommandAnswered opening refused old c result new → new.moment ≡ old.moment
 moment_stays opening refused old c (Ok ack) new took = ap (λ (s : Serving). s.moment) took.kept
 moment_stays opening refused old c (Err (refusal.Submit e)) new took = ap (λ (s : Serving). s.moment) took.same
 moment_stays opening refused old c (Err refusal.Stopped) new took = ap (λ (s : Serving). s.moment) took.same
@@ -74,7 +75,7 @@ moment_stays opening refused old c (Err refusal.Future) new took = absurd took
 moment_stays opening refused old c (Err refusal.NoCommands) new took = absurd took
 
 -- nor does the verifier change
-verdicts_kept : (opening : StoreValue (List RowView)) (refused : Command → Bool) (old : Serving) (c : Command) (result : Result Ack Refusal) (new : Serving) → IsCommandAnswered opening refused old c result new → new.verifies ≡ old.verifies
+verdicts_kept : (opening : StoreValue (List RowView)) (refused : Command → Option SubmitError → Bool) (old : Serving) (c : Command) (result : Result Ack Refusal) (new : Serving) → IsCommandAnswered opening refused old c result new → new.verifies ≡ old.verifies
 verdicts_kept opening refused old c (Ok ack) new took = ap (λ (s : Serving). s.verifies) took.kept
 verdicts_kept opening refused old c (Err (refusal.Submit e)) new took = ap (λ (s : Serving). s.verifies) took.same
 verdicts_kept opening refused old c (Err refusal.Stopped) new took = ap (λ (s : Serving). s.verifies) took.same
@@ -101,7 +102,7 @@ is_memory seg.Entries = inr (λ is. (cc))
 is_memory seg.BadType = inr (λ is. (cc))
 is_memory seg.TooLarge = inr (λ is. (cc))
 
-module _ (opening : StoreValue (List RowView)) (refused : Command → Bool) (old : Serving) where
+module _ (opening : StoreValue (List RowView)) (refused : Command → Option SubmitError → Bool) (old : Serving) where
   registration_answered : (body : List ℕ) (rows : List RowView) (moment : ℕ) (result : Result Ack Refusal) (new : Serving)
       → registration_decoding body ≡ Ok rows → first_refusal old.verifies moment rows ≡ None
       → IsCommandAnswered opening refused (at_moment old moment) (command.Register rows) result new
@@ -263,7 +264,7 @@ module _ (opening : StoreValue (List RowView)) (refused : Command → Bool) (old
       subst (λ (reply : ReplyView). HubAnswers opening refused old message reply new) (sym is) (settled under_way message result new known answered k of_kind)
 
 -- the verdicts do not change
-pub verdicts_stay : (opening : StoreValue (List RowView)) (refused : Command → Bool) (old new : Serving) (handed : Result Command Refusal) (result : Result Ack Refusal) (moment : Option ℕ) → AnswersTaken opening refused (after_check old moment) handed result new → new.verifies ≡ old.verifies
+pub verdicts_stay : (opening : StoreValue (List RowView)) (refused : Command → Option SubmitError → Bool) (old new : Serving) (handed : Result Command Refusal) (result : Result Ack Refusal) (moment : Option ℕ) → AnswersTaken opening refused (after_check old moment) handed result new → new.verifies ≡ old.verifies
 verdicts_stay opening refused old new (Err refusal) result (Some moment) answered = ap (λ (s : Serving). s.verifies) answered.1
 verdicts_stay opening refused old new (Err refusal) result None answered = ap (λ (s : Serving). s.verifies) answered.1
 verdicts_stay opening refused old new (Ok c) result (Some moment) answered = verdicts_kept opening refused (at_moment old moment) c result new answered

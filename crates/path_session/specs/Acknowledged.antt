@@ -4,7 +4,7 @@ use Rattle.seg_core.specs.declared.seg_type.SegType.{SegType}
 use Rattle.seg_core.specs.Registration.{registration_decoding, type_of}
 use Rattle.path_db.specs.declared.command.Command.{Command}
 use Rattle.path_db.specs.declared.command.Command.TheVariants as command
-use Rattle.path_db.specs.Database.{RowView}
+use Rattle.row_map.specs.Database.{RowView}
 use Rattle.store_layout.specs.Opening.{StoreValue}
 use Rattle.command_log.specs.declared.rule.Claim.{Claim}
 use Rattle.session_core.specs.declared.message.Message.TheVariants.{Register, Lookup, Purge, Remove}
@@ -18,11 +18,9 @@ use Rattle.session_core.specs.Service.{Exchange}
 -- The acknowledgement that a reply is, if it is one.
 abbrev pub ack_in : ReplyView → Option Ack
 ack_in (reply.Registered ack) = Some ack
-ack_in (reply.Found kind segments) = None
 ack_in (reply.Purged ack) = Some ack
 ack_in (reply.Removed ack) = Some ack
-ack_in (reply.Listed more kind segments) = None
-ack_in (reply.Refused code) = None
+ack_in _ = None
 
 -- A message is read as a registration of these segments.
 pub record IsRegistrationOf (body : List ℕ) (c : Command) : Type 0 where

@@ -9,7 +9,7 @@ use Rattle.seg_check.specs.declared.error.CheckError.{CheckError}
 use Rattle.seg_check.specs.Checking.{first_refusal}
 use Rattle.path_db.specs.declared.command.Command.{Command}
 use Rattle.path_db.specs.declared.command.Command.TheVariants as command
-use Rattle.path_db.specs.Database.{RowView}
+use Rattle.row_map.specs.Database.{RowView}
 use Rattle.path_db.specs.Answer.{segments_of}
 use Rattle.seg_lookup.specs.declared.error.LookupError.{LookupError}
 use Rattle.seg_lookup.specs.Query.{QueryView}
@@ -65,18 +65,24 @@ module _ (opening : StoreValue (List RowView)) where
     pub replied : reply ≡ taken ack
     pub committed : AcknowledgesCommit old c ack new
 
-module _ (refused : Command → Bool) where
-  -- The hub refused the command, with this code, and nothing changed, but that the peer may have
-  -- been asked whether it has left.
-  pub record IsNotCommitted (code : ℕ) (old : Serving) (c : Command) (reply : ReplyView) (new : Serving) : Type 0 where
-    -- It is known that the hub refused the command.
-    pub by_hub : refused c ≡ true
-    pub replied : IsRefusedWithCode code (with_left old new.left) reply new
+-- The code of a refusal by the hub: of its reason, or that the store stopped before the command was
+-- committed.
+abbrev pub hub_code : Option SubmitError → ℕ
+hub_code (Some e) = submit_code e
+hub_code None = stopped_code
+
+module _ (refused : Command → Option SubmitError → Bool) where
+  -- The hub refused the command, with the code of its reason, and nothing changed, but that the peer
+  -- may have been asked whether it has left.
+  pub record IsNotCommitted (why : Option SubmitError) (old : Serving) (c : Command) (reply : ReplyView) (new : Serving) : Type 0 where
+    -- It is known that the hub refused the command for this reason.
+    pub by_hub : refused c why ≡ true
+    pub replied : IsRefusedWithCode (hub_code why) (with_left old new.left) reply new
 
   -- The hub did not accept the command.
   pub record IsNotAccepted (old : Serving) (c : Command) (reply : ReplyView) (new : Serving) : Type 0 where
     pub why : SubmitError
-    pub refusal : IsNotCommitted (submit_code why) old c reply new
+    pub refusal : IsNotCommitted (Some why) old c reply new
 
 -- The peer had left, and the wait for a command's commit was given up. Nothing else changed. The
 -- command goes on.
@@ -84,14 +90,14 @@ pub record IsNotAwaited (old : Serving) (reply : ReplyView) (new : Serving) : Ty
   pub gone : new.left ≡ true
   pub replied : IsRefusedWithCode not_awaited_code (with_left old new.left) reply new
 
--- At a hub that opened with this value, and of whose commands it is known which ones were refused.
-module _ (opening : StoreValue (List RowView)) (refused : Command → Bool) where
+-- At a hub that opened with this value, and of whose commands it is known for which reasons they were refused.
+module _ (opening : StoreValue (List RowView)) (refused : Command → Option SubmitError → Bool) where
   -- The command was committed. Otherwise the hub refused it, since it was not accepted or the store
   -- stopped before it was committed; or the peer had left. Nothing else changed then.
   abbrev pub AnswersCommand : (Ack → ReplyView) → Serving → Command → ReplyView → Serving → Type 0
   AnswersCommand taken old c reply new =
       IsAcknowledged opening taken old c reply new
-      ⊎ (IsNotAccepted refused old c reply new ⊎ (IsNotCommitted refused stopped_code old c reply new ⊎ IsNotAwaited old reply new))
+      ⊎ (IsNotAccepted refused old c reply new ⊎ (IsNotCommitted refused None old c reply new ⊎ IsNotAwaited old reply new))
 
   -- A registration whose segments were checked is refused, or its command is answered.
   abbrev pub AnswersChecked : Serving → List RowView → Option CheckError → ReplyView → Serving → Type 0
@@ -200,13 +206,10 @@ module _ (opening : StoreValue (List RowView)) where
 -- Memory may be refused where a registration is read, once its outline was read.
 abbrev pub RegistrationLacksMemory : Serving → MessageView → ReplyView → Serving → Type 0
 RegistrationLacksMemory old (Register body) reply new = IsRefusedWithCode memory_code old reply new × IsOk (registration_outline body)
-RegistrationLacksMemory old (Lookup body) reply new = ⊥
-RegistrationLacksMemory old (Purge moment) reply new = ⊥
-RegistrationLacksMemory old (Remove kind id) reply new = ⊥
-RegistrationLacksMemory old (message.List request) reply new = ⊥
+RegistrationLacksMemory old _ reply new = ⊥
 
--- At a hub that opened with this value, and of whose commands it is known which ones were refused.
-module _ (opening : StoreValue (List RowView)) (refused : Command → Bool) where
+-- At a hub that opened with this value, and of whose commands it is known for which reasons they were refused.
+module _ (opening : StoreValue (List RowView)) (refused : Command → Option SubmitError → Bool) where
   -- One message is read, checked or classified, and passed to the hub. The first refusal is the
   -- reply.
   unfoldable pub IsAnswered : Serving → MessageView → ReplyView → Serving → Type 0

@@ -5,3 +5,4 @@ pub mod Taking
 pub mod UnderWay
 pub mod Kept
 pub mod Acknowledged
+pub mod Sending

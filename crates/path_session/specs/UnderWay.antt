@@ -7,8 +7,9 @@ use Rattle.seg_check.specs.Signatures.{Verdicts}
 use Rattle.seg_check.specs.Checking.{first_refusal}
 use Rattle.path_db.specs.declared.command.Command.{Command}
 use Rattle.path_db.specs.declared.command.Command.TheVariants as command
-use Rattle.path_db.specs.Database.{RowView}
+use Rattle.row_map.specs.Database.{RowView}
 use Rattle.store_layout.specs.Opening.{StoreValue}
+use Rattle.group_core.specs.declared.submit_error.SubmitError.{SubmitError}
 use Rattle.session_core.specs.declared.command_kind.CommandKind.{CommandKind}
 use Rattle.session_core.specs.declared.command_kind.CommandKind.TheVariants as kind
 use Rattle.session_core.specs.declared.message.Message.TheVariants.{Register, Lookup, Purge, Remove}
@@ -18,7 +19,7 @@ use Rattle.session_core.specs.Frames.{MessageView}
 use Rattle.session_core.specs.Reply as reply
 use Rattle.session_core.specs.Reply.{ReplyView}
 use Rattle.reply_codes.specs.declared.refusal.Refusal.{Refusal}
-use Rattle.reply_codes.specs.declared.refusal.Refusal.TheVariants.{NoMemory, Message, Check, Lookup as NoLookup, Submit, NoReader, Stopped, NotAwaited, Future, NoCommands}
+use Rattle.reply_codes.specs.declared.refusal.Refusal.TheVariants.{Message, Check, Submit}
 use Rattle.path_session.specs.declared.under_way.HubUnderWay.{HubUnderWay}
 use Rattle.path_session.specs.Serving.{Serving, at_moment}
 use Rattle.path_session.specs.Taking.{IsCommandAnswered}
@@ -38,34 +39,18 @@ after_check old None = old
 
 -- A registration was not read. Memory is refused only once its outline was read.
 abbrev pub IsForUnread : List ℕ → Result Command Refusal → Type 0
-IsForUnread body (Ok c) = ⊥
 IsForUnread body (Err (Message e)) = (e ≢ seg.NoMemory → registration_decoding body ≡ Err e) × (e ≡ seg.NoMemory → IsOk (registration_outline body))
-IsForUnread body (Err NoMemory) = ⊥
-IsForUnread body (Err (Check e)) = ⊥
-IsForUnread body (Err (Submit e)) = ⊥
-IsForUnread body (Err Stopped) = ⊥
-IsForUnread body (Err (NoLookup e)) = ⊥
-IsForUnread body (Err NoReader) = ⊥
-IsForUnread body (Err NotAwaited) = ⊥
-IsForUnread body (Err Future) = ⊥
-IsForUnread body (Err NoCommands) = ⊥
+IsForUnread body _ = ⊥
 
--- Of the commands of the hub it is known which ones were refused.
-module _ (refused : Command → Bool) where
+-- Of the commands of the hub it is known for which reasons they were refused.
+module _ (refused : Command → Option SubmitError → Bool) where
   -- The segments of a registration were checked at this moment. They are accepted, and this is their
   -- command, or the hub refused it; or they are refused.
   abbrev pub IsForRows : Verdicts → List RowView → ℕ → Result Command Refusal → Type 0
   IsForRows verifies rows moment (Ok c) = (first_refusal verifies moment rows ≡ None) × (c ≡ command.Register rows)
   IsForRows verifies rows moment (Err (Check e)) = first_refusal verifies moment rows ≡ Some e
-  IsForRows verifies rows moment (Err (Submit e)) = (first_refusal verifies moment rows ≡ None) × (refused (command.Register rows) ≡ true)
-  IsForRows verifies rows moment (Err Stopped) = ⊥
-  IsForRows verifies rows moment (Err NoMemory) = ⊥
-  IsForRows verifies rows moment (Err (Message e)) = ⊥
-  IsForRows verifies rows moment (Err (NoLookup e)) = ⊥
-  IsForRows verifies rows moment (Err NoReader) = ⊥
-  IsForRows verifies rows moment (Err NotAwaited) = ⊥
-  IsForRows verifies rows moment (Err Future) = ⊥
-  IsForRows verifies rows moment (Err NoCommands) = ⊥
+  IsForRows verifies rows moment (Err (Submit e)) = (first_refusal verifies moment rows ≡ None) × (refused (command.Register rows) (Some e) ≡ true)
+  IsForRows verifies rows moment _ = ⊥
 
   -- A registration was read as these rows, which were checked.
   pub record IsForChecked (verifies : Verdicts) (body : List ℕ) (moment : ℕ) (handed : Result Command Refusal) : Type 0 where
@@ -81,31 +66,16 @@ module _ (refused : Command → Bool) where
   -- This is the command of a purge, or the hub refused it.
   abbrev pub IsForPurge : ℕ → Result Command Refusal → Type 0
   IsForPurge until (Ok c) = c ≡ command.Purge until
-  IsForPurge until (Err (Submit e)) = refused (command.Purge until) ≡ true
-  IsForPurge until (Err Stopped) = ⊥
-  IsForPurge until (Err NoMemory) = ⊥
-  IsForPurge until (Err (Message e)) = ⊥
-  IsForPurge until (Err (Check e)) = ⊥
-  IsForPurge until (Err (NoLookup e)) = ⊥
-  IsForPurge until (Err NoReader) = ⊥
-  IsForPurge until (Err NotAwaited) = ⊥
-  IsForPurge until (Err Future) = ⊥
-  IsForPurge until (Err NoCommands) = ⊥
+  IsForPurge until (Err (Submit e)) = refused (command.Purge until) (Some e) ≡ true
+  IsForPurge until _ = ⊥
 
   -- The type of a removal was read. This is its command, or the hub refused it; or the type was not
   -- read.
   abbrev pub IsForRemoval : ℕ → List ℕ → Result Command Refusal → Type 0
   IsForRemoval number id (Ok c) = (of_type : SegType) × (type_of number ≡ Ok of_type) × (c ≡ command.Remove of_type id)
   IsForRemoval number id (Err (Message e)) = type_of number ≡ Err e
-  IsForRemoval number id (Err (Submit e)) = (of_type : SegType) × (type_of number ≡ Ok of_type) × (refused (command.Remove of_type id) ≡ true)
-  IsForRemoval number id (Err Stopped) = ⊥
-  IsForRemoval number id (Err NoMemory) = ⊥
-  IsForRemoval number id (Err (Check e)) = ⊥
-  IsForRemoval number id (Err (NoLookup e)) = ⊥
-  IsForRemoval number id (Err NoReader) = ⊥
-  IsForRemoval number id (Err NotAwaited) = ⊥
-  IsForRemoval number id (Err Future) = ⊥
-  IsForRemoval number id (Err NoCommands) = ⊥
+  IsForRemoval number id (Err (Submit e)) = (of_type : SegType) × (type_of number ≡ Ok of_type) × (refused (command.Remove of_type id) (Some e) ≡ true)
+  IsForRemoval number id _ = ⊥
 
   -- By these verdicts on signatures, this is under way for the message.
   abbrev pub IsFor : {N : Type 0} → Verdicts → HubUnderWay N → MessageView → Type 0
@@ -117,7 +87,7 @@ module _ (refused : Command → Bool) where
 
 -- ---- what is answered
 
-module _ (opening : StoreValue (List RowView)) (refused : Command → Bool) where
+module _ (opening : StoreValue (List RowView)) (refused : Command → Option SubmitError → Bool) where
   -- A command that was taken is answered by the hub. A refusal is answered as it is.
   abbrev pub AnswersTaken : Serving → Result Command Refusal → Result Ack Refusal → Serving → Type 0
   AnswersTaken old (Ok c) result new = IsCommandAnswered opening refused old c result new

@@ -1,11 +1,14 @@
 //! A session's service over a hub.
 
-ghost use Rattle.std.specs.Prelude.{◌≡◌, ◌≤◌, length, IfOk, IfErr, IfSome, IsSome, OnOk};
+ghost use Rattle.std.specs.Prelude.{◌≡◌, ◌≤◌, length, Some, IfOk, IfErr, IfSome, IsSome, OnOk, MatchOption};
 ghost use Rattle.std.specs.List.{AllByRecursion};
 ghost use Rattle.seg_core.specs.Encoding.{IsSegment};
-ghost use Rattle.session_core.specs.declared.message.Message.TheVariants.{Lookup, List};
+ghost use Rattle.session_core.specs.declared.message.Message.TheVariants.{Register, Lookup, Purge, Remove, List};
 ghost use Rattle.session_core.specs.declared.service.TheConstants.{MOST_SEGMENTS};
-ghost use Rattle.session_core.specs.Commands.{command_kind};
+ghost use Rattle.session_core.specs.Commands.{command_kind, reply_to_kind};
+ghost use Rattle.session_core.specs.Service.{reply_to_register, reply_to_lookup, reply_to_purge, reply_to_remove, reply_to_list};
+ghost use Rattle.session_core.specs.Frames.{MessageView};
+ghost use Rattle.session_core.specs.declared.command_kind.CommandKind.{CommandKind};
 ghost use Rattle.session_core.specs.Front.{message_at};
 ghost use Rattle.reply_codes.specs.Replies.{reply_to_query, reply_to_page};
 ghost use Rattle.path_session.specs.Serving.{beginning};
@@ -13,13 +16,15 @@ ghost use Rattle.path_session.specs.Answered.{HubAnswers};
 ghost use Rattle.path_session.specs.Taking.{IsCommandAnswered, RefusesTaking};
 ghost use Rattle.path_session.specs.UnderWay.{IsForRegistration, IsForRows, IsForPurge, IsForRemoval, IsFor, after_check, AnswersTaken};
 ghost use Rattle.path_session.specs.Kept.{serving};
+ghost use Rattle.path_session.specs.declared.under_way.HubUnderWay.{HubUnderWay as UnderWayValue};
+ghost use Rattle.path_session.specs.Sending.{HandsIn, HandsInAtMost};
 
 use crate::refused::{coded, reader_refusal_of, refusal_of};
 use crate::under_way::HubUnderWay;
 use hub_readers::{HubReader, HubReceipt};
 use isd_as::IsdAs;
 use path_db::{Command, Registration};
-use path_hub::{Hub, HubClaim, HubName, LoggedList, Waiter};
+use path_hub::{Hub, HubClaim, HubName, LoggedList, Sender, Waiter};
 use reply_codes::Refusal;
 use sector_dev::Device;
 use seg_check::{Verifier, check_all};
@@ -36,8 +41,9 @@ use std::time::Clock;
 /// claims of the commands that were acknowledged, too.
 ///
 /// The clock is asked once for each registration that was read, when the service takes it, and once
-/// for each lookup that was classified and for each list of a type that there is. Signatures are checked before the hub is called, so under
-/// no lock. Lookups and lists wait for nobody. A command's commit is awaited until the peer has left.
+/// for each lookup that was classified and for each list of a type that there is. Signatures are
+/// checked before the hub is called, so under no lock. Lookups and lists wait for nobody. A
+/// command's commit is awaited until the peer has left.
 pub struct HubService<'a, D: Device, N: HubName, R: Wait + Clock, V: Verifier, C: Now, P: Waiter> {
     hub: &'a Hub<D, N, R>,
     reader: HubReader<N>,
@@ -53,6 +59,8 @@ pub struct HubService<'a, D: Device, N: HubName, R: Wait + Clock, V: Verifier, C
     last: Option<HubReceipt<N>>,
     /// The claims of all commands that were committed, in the order of their acknowledgements.
     acknowledged: LoggedList<N>,
+    /// Who hands in the session's commands.
+    sender: Sender<N>,
 }
 
 impl<'a, D: Device, N: HubName, R: Wait + Clock, V: Verifier, C: Now, P: Waiter> HubService<
@@ -64,7 +72,8 @@ impl<'a, D: Device, N: HubName, R: Wait + Clock, V: Verifier, C: Now, P: Waiter>
     C,
     P,
 > {
-    /// A service that has answered no message, for a peer that it waits for commits with.
+    /// A service that has answered no message, for a peer that it waits for commits with. The
+    /// session's commands are the sender's.
     pub fn new(
         hub: &'a Hub<D, N, R>,
         reader: HubReader<N>,
@@ -72,8 +81,10 @@ impl<'a, D: Device, N: HubName, R: Wait + Clock, V: Verifier, C: Now, P: Waiter>
         clock: C,
         roster: &'a Roster,
         peer: P,
+        sender: Sender<N>,
     ) -> HubService<'a, D, N, R, V, C, P>
-        ensures { serving V.verifies P.has_left result ≡ beginning roster.now (V.verifies verifier.now) reader (P.has_left peer) }
+        ensures begins { serving V.verifies P.has_left result ≡ beginning roster.now (V.verifies verifier.now) reader (P.has_left peer) }
+        ensures sender { result.sender ≡ sender }
     {
         HubService {
             hub,
@@ -84,7 +95,8 @@ impl<'a, D: Device, N: HubName, R: Wait + Clock, V: Verifier, C: Now, P: Waiter>
             peer,
             moment: 0,
             last: None,
-            acknowledged: hub.desk().empty_list(),
+            acknowledged: hub.collector().empty_list(),
+            sender,
         }
     }
 
@@ -123,6 +135,7 @@ impl<'a, D: Device, N: HubName, R: Wait + Clock, V: Verifier, C: Now, P: Waiter>
             moment: _,
             last: _last,
             acknowledged,
+            sender: _sender,
         } = self;
         (reader, acknowledged)
     }
@@ -133,6 +146,7 @@ impl<'a, D: Device, N: HubName, R: Wait + Clock, V: Verifier, C: Now, P: Waiter>
     fn take_registration(&mut self, alloc: Global, body: &[u8]) -> HubUnderWay<N>
         ensures known { IsForRegistration N.refused (V.verifies self.new.verifier.now) body.now result.moment result.handed }
         ensures clock { IfSome result.moment (λ moment. moment ≡ C.moment self.new.clock) }
+        ensures sent { HandsIn result.handed self.old.sender self.new.sender }
         ensures same { serving V.verifies P.has_left self.new ≡ serving V.verifies P.has_left self.old }
     {
         match read_registration(alloc, body) {
@@ -152,20 +166,25 @@ impl<'a, D: Device, N: HubName, R: Wait + Clock, V: Verifier, C: Now, P: Waiter>
 
     /// Checks segments at a moment, and hands their registration in.
     fn hand_in_checked(
-        &self,
+        &mut self,
         segments: Vec<(SegType, Segment)>,
         now: u64,
     ) -> Result<HubClaim<N>, Refusal>
-        ensures { IsForRows N.refused (V.verifies self.now.verifier.now) segments.items now result }
+        ensures known { IsForRows N.refused (V.verifies self.new.verifier.now) segments.items now result }
+        ensures sent { HandsIn result self.old.sender self.new.sender }
+        ensures same { serving V.verifies P.has_left self.new ≡ serving V.verifies P.has_left self.old }
+        ensures clock { self.new.clock ≡ self.old.clock }
     {
         check_all(&segments, self.verifier, now)?;
         self.hand_in_command(Command::Register(Registration::new(segments)))
     }
 
     /// Hands a purge in.
-    fn take_purge(&self, until: u64) -> HubUnderWay<N>
+    fn take_purge(&mut self, until: u64) -> HubUnderWay<N>
         ensures moment { result.moment ≡ None }
         ensures known { IsForPurge N.refused until result.handed }
+        ensures sent { HandsIn result.handed self.old.sender self.new.sender }
+        ensures same { serving V.verifies P.has_left self.new ≡ serving V.verifies P.has_left self.old }
     {
         HubUnderWay {
             moment: None,
@@ -174,9 +193,11 @@ impl<'a, D: Device, N: HubName, R: Wait + Clock, V: Verifier, C: Now, P: Waiter>
     }
 
     /// Hands the removal of the segment of a type's number and an id in.
-    fn take_removal(&self, kind: u8, id: &[u8; 32]) -> HubUnderWay<N>
+    fn take_removal(&mut self, kind: u8, id: &[u8; 32]) -> HubUnderWay<N>
         ensures moment { result.moment ≡ None }
         ensures known { IsForRemoval N.refused kind id.now result.handed }
+        ensures sent { HandsIn result.handed self.old.sender self.new.sender }
+        ensures same { serving V.verifies P.has_left self.new ≡ serving V.verifies P.has_left self.old }
     {
         HubUnderWay {
             moment: None,
@@ -185,27 +206,34 @@ impl<'a, D: Device, N: HubName, R: Wait + Clock, V: Verifier, C: Now, P: Waiter>
     }
 
     /// Reads the type of a removal, and hands its command in.
-    fn hand_in_removal(&self, kind: u8, id: &[u8; 32]) -> Result<HubClaim<N>, Refusal>
-        ensures { IsForRemoval N.refused kind id.now result }
+    fn hand_in_removal(&mut self, kind: u8, id: &[u8; 32]) -> Result<HubClaim<N>, Refusal>
+        ensures known { IsForRemoval N.refused kind id.now result }
+        ensures sent { HandsIn result self.old.sender self.new.sender }
+        ensures same { serving V.verifies P.has_left self.new ≡ serving V.verifies P.has_left self.old }
     {
         let kind = SegType::from_number(u64::from(kind))?;
         self.hand_in_command(Command::Remove(kind, *id))
     }
 
     /// Hands a command in to the hub.
-    fn hand_in_command(&self, command: Command) -> Result<HubClaim<N>, Refusal>
+    fn hand_in_command(&mut self, command: Command) -> Result<HubClaim<N>, Refusal>
         ensures taken { IfOk result (λ taken. taken ≡ command) }
         ensures refused { IfErr result (RefusesTaking N.refused command) }
+        ensures sent { HandsIn result self.old.sender self.new.sender }
+        ensures same { serving V.verifies P.has_left self.new ≡ serving V.verifies P.has_left self.old }
+        ensures fixed { (self.new.clock ≡ self.old.clock) × (self.new.verifier ≡ self.old.verifier) }
     {
-        self.hub.hand_in(command).map_err(refusal_of)
+        let handed = self.hub.hand_in(&mut self.sender, command);
+        handed.map_err(refusal_of)
     }
 
     // ---- answering messages
 
     /// Answers a message that was taken.
     fn answer(&mut self, under_way: HubUnderWay<N>) -> Result<Ack, Refusal>
-        ensures { AnswersTaken N.opening N.refused (after_check (serving V.verifies P.has_left self.old) under_way.moment)
+        ensures answered { AnswersTaken N.opening N.refused (after_check (serving V.verifies P.has_left self.old) under_way.moment)
             under_way.handed result (serving V.verifies P.has_left self.new) }
+        ensures sent { self.new.sender ≡ self.old.sender }
     {
         let HubUnderWay { moment, handed } = under_way;
         self.note_moment(moment);
@@ -214,7 +242,8 @@ impl<'a, D: Device, N: HubName, R: Wait + Clock, V: Verifier, C: Now, P: Waiter>
 
     /// Notes the moment at which a message was checked, if it has one.
     fn note_moment(&mut self, moment: Option<u64>)
-        ensures { serving V.verifies P.has_left self.new ≡ after_check (serving V.verifies P.has_left self.old) moment }
+        ensures moment { serving V.verifies P.has_left self.new ≡ after_check (serving V.verifies P.has_left self.old) moment }
+        ensures sent { self.new.sender ≡ self.old.sender }
     {
         if let Some(moment) = moment {
             self.moment = moment;
@@ -225,12 +254,13 @@ impl<'a, D: Device, N: HubName, R: Wait + Clock, V: Verifier, C: Now, P: Waiter>
     /// it, with its claim.
     #[tactic(auto, using(crate::proofs::ServingLemmas::wait_ended))]
     fn commit(&mut self, claim: HubClaim<N>) -> Result<Ack, Refusal>
-        ensures { IsCommandAnswered N.opening N.refused (serving V.verifies P.has_left self.old) claim result (serving V.verifies P.has_left self.new) }
+        ensures answered { IsCommandAnswered N.opening N.refused (serving V.verifies P.has_left self.old) claim result (serving V.verifies P.has_left self.new) }
+        ensures sent { self.new.sender ≡ self.old.sender }
     {
         let settled = self.hub.settle_for(claim, &mut self.peer);
         let mut receipt = settled.map_err(refusal_of)?;
         self.reader.learn(&mut receipt);
-        receipt.add_to(self.hub.desk(), &mut self.acknowledged);
+        receipt.add_to(self.hub.collector(), &mut self.acknowledged);
         let ack = Ack {
             place: receipt.place(),
             outcome: receipt.outcome(),
@@ -247,6 +277,7 @@ impl<'a, D: Device, N: HubName, R: Wait + Clock, V: Verifier, C: Now, P: Waiter>
         ensures few { IfOk result (λ found. length found.1.items ≤ MOST_SEGMENTS) }
         ensures whole { IfOk result (λ found. AllByRecursion IsSegment found.1.items) }
         ensures clock { OnOk result (self.new.moment ≡ C.moment self.new.clock) }
+        ensures sent { self.new.sender ≡ self.old.sender }
     {
         let (source, destination) = read_request(message)?;
         let query = classify(self.roster, source, destination)?;
@@ -264,6 +295,7 @@ impl<'a, D: Device, N: HubName, R: Wait + Clock, V: Verifier, C: Now, P: Waiter>
         ensures few { IfOk result (λ listing. length listing.segments.items ≤ MOST_SEGMENTS) }
         ensures whole { IfOk result (λ listing. AllByRecursion IsSegment listing.segments.items) }
         ensures clock { OnOk result (self.new.moment ≡ C.moment self.new.clock) }
+        ensures sent { self.new.sender ≡ self.old.sender }
     {
         let kind = SegType::from_number(u64::from(request.kind))?;
         let query = Query {
@@ -285,6 +317,8 @@ impl<'a, D: Device, N: HubName, R: Wait + Clock, V: Verifier, C: Now, P: Waiter>
     }
 }
 
+/// A message hands in at most its own command, once, where it is taken. A lookup and a list hand
+/// nothing in, and neither does `settle`.
 impl<D: Device, N: HubName, R: Wait + Clock, V: Verifier, C: Now, P: Waiter> Service
     for HubService<'_, D, N, R, V, C, P> {
     ghost use Rattle.path_session.specs.Serving.{Serving};
@@ -302,25 +336,44 @@ impl<D: Device, N: HubName, R: Wait + Clock, V: Verifier, C: Now, P: Waiter> Ser
 
     ghost is_for = { λ service under_way message. IsFor N.refused service.verifies under_way message };
 
-    fn register(&mut self, alloc: Global, message: &[u8]) -> Result<Ack, Code> {
+    fn register(&mut self, alloc: Global, message: &[u8]) -> Result<Ack, Code>
+        ensures answers { HubAnswers N.opening N.refused (serving V.verifies P.has_left self.old) (Register message.now) (reply_to_register result) (serving V.verifies P.has_left self.new) }
+        ensures sent { HandsInAtMost (Register message.now) self.old.sender self.new.sender }
+    {
         let under_way = self.take_registration(alloc, message);
         self.settle(under_way)
     }
 
-    fn lookup(&mut self, _alloc: Global, message: &[u8]) -> Result<(SegType, Vec<Segment>), Code> {
+    fn lookup(&mut self, _alloc: Global, message: &[u8]) -> Result<(SegType, Vec<Segment>), Code>
+        ensures answers { HubAnswers N.opening N.refused (serving V.verifies P.has_left self.old) (Lookup message.now) (reply_to_lookup result) (serving V.verifies P.has_left self.new) }
+        ensures few { IfOk result (λ found. length found.1.items ≤ MOST_SEGMENTS) }
+        ensures whole { IfOk result (λ found. AllByRecursion IsSegment found.1.items) }
+        ensures sent { self.new.sender ≡ self.old.sender }
+    {
         Ok(self.find(message)?)
     }
 
-    fn list(&mut self, _alloc: Global, request: &ListRequest) -> Result<Listing, Code> {
+    fn list(&mut self, _alloc: Global, request: &ListRequest) -> Result<Listing, Code>
+        ensures answers { HubAnswers N.opening N.refused (serving V.verifies P.has_left self.old) (List request.now) (reply_to_list result) (serving V.verifies P.has_left self.new) }
+        ensures few { IfOk result (λ listing. length listing.segments.items ≤ MOST_SEGMENTS) }
+        ensures whole { IfOk result (λ listing. AllByRecursion IsSegment listing.segments.items) }
+        ensures sent { self.new.sender ≡ self.old.sender }
+    {
         Ok(self.find_page(request)?)
     }
 
-    fn purge(&mut self, moment: u64) -> Result<Ack, Code> {
+    fn purge(&mut self, moment: u64) -> Result<Ack, Code>
+        ensures answers { HubAnswers N.opening N.refused (serving V.verifies P.has_left self.old) (Purge moment) (reply_to_purge result) (serving V.verifies P.has_left self.new) }
+        ensures sent { HandsInAtMost (Purge moment) self.old.sender self.new.sender }
+    {
         let under_way = self.take_purge(moment);
         self.settle(under_way)
     }
 
-    fn remove(&mut self, kind: u8, id: &[u8; 32]) -> Result<Ack, Code> {
+    fn remove(&mut self, kind: u8, id: &[u8; 32]) -> Result<Ack, Code>
+        ensures answers { HubAnswers N.opening N.refused (serving V.verifies P.has_left self.old) (Remove kind id.now) (reply_to_remove result) (serving V.verifies P.has_left self.new) }
+        ensures sent { HandsInAtMost (Remove kind id.now) self.old.sender self.new.sender }
+    {
         let under_way = self.take_removal(kind, id);
         self.settle(under_way)
     }
@@ -330,6 +383,7 @@ impl<D: Device, N: HubName, R: Wait + Clock, V: Verifier, C: Now, P: Waiter> Ser
         ensures command { IfSome result (λ _. IsSome (command_kind (message_at message.entry))) }
         ensures known { IfSome result (λ under_way. IsFor N.refused (serving V.verifies P.has_left self.new).verifies under_way (message_at message.entry)) }
         ensures same { serving V.verifies P.has_left self.new ≡ serving V.verifies P.has_left self.old }
+        ensures sent { MatchOption result (self.new.sender ≡ self.old.sender) (λ under_way. HandsIn under_way.handed self.old.sender self.new.sender) }
         ensures clock { IfSome result (λ under_way. IfSome under_way.moment (λ moment. moment ≡ C.moment self.new.clock)) }
     {
         match message {
@@ -340,7 +394,13 @@ impl<D: Device, N: HubName, R: Wait + Clock, V: Verifier, C: Now, P: Waiter> Ser
         }
     }
 
-    fn settle(&mut self, under_way: HubUnderWay<N>) -> Result<Ack, Code> {
+    fn settle(&mut self, under_way: HubUnderWay<N>) -> Result<Ack, Code>
+        ensures answers { (message : MessageView) (kind : CommandKind) → IsFor N.refused (serving V.verifies P.has_left self.old).verifies under_way message → command_kind message ≡ Some kind
+            → HubAnswers N.opening N.refused (serving V.verifies P.has_left self.old) message (reply_to_kind kind result) (serving V.verifies P.has_left self.new) }
+        ensures others { (other : UnderWayValue N) (message : MessageView) → IsFor N.refused (serving V.verifies P.has_left self.old).verifies other message
+            → IsFor N.refused (serving V.verifies P.has_left self.new).verifies other message }
+        ensures sent { self.new.sender ≡ self.old.sender }
+    {
         coded(self.answer(under_way))
     }
 }

@@ -1,7 +1,7 @@
 use Rattle.std.proofs.Common.{length, ap, arith, length-append}
 use Rattle.command_queue.proofs.queue.CommandQueue.take_into.Goals as goal
 
--- this many were moved, and so many had waited
+-- this many were moved, and this many had waited
 pub returns-after-loop-clause-count : goal.returns-after-loop-clause-count
 returns-after-loop-clause-count g c =
     let all = ap length c.loop.invariant.order in

@@ -1,5 +1,5 @@
 use Rattle.std.proofs.Common.{◌≡◌, List, sym, ap, ◌∙◌, subst}
-use Rattle.path_db.specs.Database.{RowView}
+use Rattle.row_map.specs.Database.{RowView}
 use Rattle.sector_dev.specs.Disk.{History}
 use Rattle.sector_dev.proofs.Stretches.{honest_after}
 use Rattle.store_layout.specs.Opening.{StoreValue}

@@ -1,7 +1,21 @@
-use Rattle.std.proofs.Common.{refl}
+use Rattle.std.proofs.Common.{refl, sym, subst}
+use Rattle.command_queue.specs.Handed.{Handed}
 use Rattle.session_core.specs.declared.command_kind.CommandKind.TheVariants as kind
 use Rattle.session_core.specs.declared.message.Message.TheVariants.{Purge}
+use Rattle.session_core.specs.Service.{reply_to_purge}
+use Rattle.path_session.specs.Answered.{HubAnswers}
+use Rattle.path_session.specs.Kept.{serving}
+use Rattle.path_session.specs.Serving.{Serving}
+use Rattle.path_session.specs.Sending.{HandsInAtMost}
+use Rattle.path_session.proofs.Sending.{purge_sent}
 use Rattle.path_session.proofs.service.HubServiceService.purge.Goals as goal
 
 pub returns : goal.returns
-returns g c = c.settle.ensures.answers (Purge c.args.moment) kind.Purge (c.take_purge-under_way.ensures.moment, c.take_purge-under_way.ensures.known) refl
+returns g c =
+    let taken = c.take_purge-under_way.ensures in
+    let new = serving g.V.Verifier.verifies g.P.Waiter.has_left c.settle.new.self in
+    let handed = purge_sent g.N.QueueName.refused c.args.self.now.sender c.take_purge-under_way.new.self.sender c.args.moment c.take_purge-under_way.result.handed taken.known taken.sent in
+    record {
+      answers = subst (λ (old : Serving). HubAnswers g.N.StateName.opening g.N.QueueName.refused old (Purge c.args.moment) (reply_to_purge c.settle.result) new) taken.same (c.settle.ensures.answers (Purge c.args.moment) kind.Purge (taken.moment, taken.known) refl);
+      sent = subst (λ (s : Handed). HandsInAtMost (Purge c.args.moment) c.args.self.now.sender s) (sym c.settle.ensures.sent) handed;
+    }

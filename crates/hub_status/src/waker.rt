@@ -1,0 +1,98 @@
+//! Waking the threads whose commands are answered.
+
+use crate::condvars::{CONDVARS, Condvars};
+use std::mem::replace;
+use std::sync::atomic::{AtomicBool, Ordering};
+use std::sync::{Condvar, Mutex, Wait};
+use std::time::Duration;
+
+/// The longest sleep of the thread that notifies, in milliseconds.
+const LONGEST_SLEEP: u64 = 10;
+
+/// The condition variables of commands that were handed in, by their numbers. A thread of its own
+/// notifies several condition variables, so that the thread that answers a whole group does not
+/// wait until all are woken. A condition variable alone is notified by the thread that answers, and
+/// so are all where no thread runs the waker.
+#[derive(Drop)]
+pub struct Waker {
+    condvars: Condvars,
+    /// For each condition variable, whether it must be notified.
+    due: Mutex<[bool; CONDVARS]>,
+    calls: Condvar,
+    has_thread: AtomicBool,
+    is_over: AtomicBool,
+}
+
+impl Waker {
+    /// No condition variable must be notified, and there is no thread that notifies them.
+    pub fn new() -> Waker {
+        Waker {
+            condvars: Condvars::new(),
+            due: Mutex::new([false; CONDVARS]),
+            calls: Condvar::new(),
+            has_thread: AtomicBool::new(false),
+            is_over: AtomicBool::new(false),
+        }
+    }
+
+    /// The condition variable of the command of a number.
+    pub fn condvar(&self, number: u64) -> &Condvar {
+        self.condvars.of(number)
+    }
+
+    /// Notes that the condition variable of a number must be notified.
+    pub fn note<R: Wait>(&self, rt: &R, number: u64) {
+        self.due.lock(rt)[(number % CONDVARS as u64) as usize] = true;
+    }
+
+    /// Has the noted condition variables notified: by the waker's thread, where it has one and
+    /// several are noted, else by this thread.
+    pub fn call<R: Wait>(&self, rt: &R) {
+        if self.has_thread.load(Ordering::SeqCst) && self.count_due(rt) > 1 {
+            self.calls.notify_all();
+        } else {
+            self.notify_due(rt);
+        }
+    }
+
+    /// Says that a thread is going to run the waker.
+    pub fn expect_thread(&self) {
+        self.has_thread.store(true, Ordering::SeqCst);
+    }
+
+    /// Ends the waker's thread, once it has notified what is noted.
+    pub fn end(&self) {
+        self.is_over.store(true, Ordering::SeqCst);
+        self.calls.notify_all();
+    }
+
+    /// Notifies condition variables as they are noted, until the waker is ended.
+    pub fn run<R: Wait>(&self, rt: &R) {
+        for _ in rt.forever() {
+            let seen = self.calls.notifications();
+            let is_over = self.is_over.load(Ordering::SeqCst);
+            self.notify_due(rt);
+            if is_over {
+                return;
+            }
+            self.calls
+                .sleep(rt, seen, Duration::from_millis(LONGEST_SLEEP));
+        }
+        unreachable!()
+    }
+
+    /// The number of condition variables that are noted.
+    fn count_due<R: Wait>(&self, rt: &R) -> usize {
+        self.due.lock(rt).iter().filter(|is_due| **is_due).count()
+    }
+
+    /// Notifies the condition variables that are noted.
+    fn notify_due<R: Wait>(&self, rt: &R) {
+        let due = replace(&mut *self.due.lock(rt), [false; CONDVARS]);
+        for (index, is_due) in due.iter().enumerate() {
+            if *is_due {
+                self.condvars.of(index as u64).notify_all();
+            }
+        }
+    }
+}
