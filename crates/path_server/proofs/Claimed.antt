@@ -1,8 +1,9 @@
 -- Each acknowledgement of a limited session has its claim: for `Server::serve`.
 use Rattle.std.proofs.Common.{◌≡◌, ◌⊎◌, inl, inr, ℕ, Bool, List, Option, Some, None, refl, sym, ap, ◌∙◌, subst}
 use Rattle.path_db.specs.declared.command.Command.{Command}
-use Rattle.path_db.specs.Database.{RowView}
+use Rattle.row_map.specs.Database.{RowView}
 use Rattle.store_layout.specs.Opening.{StoreValue}
+use Rattle.group_core.specs.declared.submit_error.SubmitError.{SubmitError}
 use Rattle.session_core.specs.Frames.{MessageView}
 use Rattle.session_core.specs.Reply.{ReplyView}
 use Rattle.path_session.specs.Serving.{Serving}
@@ -17,7 +18,7 @@ judging_keeps : (old : LimitedView Serving) (moment : Option ℕ) → (after_jud
 judging_keeps old (Some moment) = refl
 judging_keeps old None = refl
 
-pub limited_keeps : (opening : StoreValue (List RowView)) (refused : Command → Bool) (old : LimitedView Serving) (message : MessageView) (reply : ReplyView) (new : LimitedView Serving)
+pub limited_keeps : (opening : StoreValue (List RowView)) (refused : Command → Option SubmitError → Bool) (old : LimitedView Serving) (message : MessageView) (reply : ReplyView) (new : LimitedView Serving)
     → LimitedAnswers (HubAnswers opening refused) old message reply new → Keeps opening old.inner.acknowledged message (ack_in reply) new.inner.acknowledged
 limited_keeps opening refused old message reply new (inl a) = answer_keeps opening refused old.inner message reply new.inner a.answered
 limited_keeps opening refused old message reply new (inr a) =

@@ -1,8 +1,9 @@
 -- A session whose commands are not taken acknowledges nothing: for `Server::serve`.
 use Rattle.std.proofs.Common.{◌≡◌, ◌⊎◌, inl, inr, ℕ, Bool, true, false, List, [], ◌∷◌, Option, Some, None, refl, sym, ap, ◌∙◌}
 use Rattle.path_db.specs.declared.command.Command.{Command}
-use Rattle.path_db.specs.Database.{RowView}
+use Rattle.row_map.specs.Database.{RowView}
 use Rattle.store_layout.specs.Opening.{StoreValue}
+use Rattle.group_core.specs.declared.submit_error.SubmitError.{SubmitError}
 use Rattle.command_log.specs.declared.rule.Claim.{Claim}
 use Rattle.session_core.specs.declared.message.Message.TheVariants.{Register, Lookup, Purge, Remove}
 use Rattle.session_core.specs.declared.message.Message.TheVariants as message
@@ -26,7 +27,7 @@ judging_claims : (old : LimitedView Serving) (moment : Option ℕ) → (after_ju
 judging_claims old (Some moment) = refl
 judging_claims old None = refl
 
-module _ (opening : StoreValue (List RowView)) (refused : Command → Bool) where
+module _ (opening : StoreValue (List RowView)) (refused : Command → Option SubmitError → Bool) where
   -- what is no command is not acknowledged
   no_claim : (asked : MessageView) (before : List Claim) (ack : Option Ack) (after : List Claim) → command_kind asked ≡ None → Keeps opening before asked ack after → after ≡ before
   no_claim asked before None after none kept = kept

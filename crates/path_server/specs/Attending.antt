@@ -1,8 +1,9 @@
 -- What a session of a hub has read, answered and sent when it ends.
 use Rattle.std.specs.Prelude.{ℕ, Bool, List, Option, Result}
 use Rattle.path_db.specs.declared.command.Command.{Command}
-use Rattle.path_db.specs.Database.{RowView}
+use Rattle.row_map.specs.Database.{RowView}
 use Rattle.store_layout.specs.Opening.{StoreValue}
+use Rattle.group_core.specs.declared.submit_error.SubmitError.{SubmitError}
 use Rattle.command_log.specs.declared.rule.Claim.{Claim}
 use Rattle.seg_check.specs.Signatures.{Verdicts}
 use Rattle.seg_lookup.specs.Roster.{RosterView}
@@ -20,8 +21,8 @@ abbrev pub limited_beginning : Option ℕ → Bool → Bool → Serving → Limi
 limited_beginning future shares commands serving = record { future = future; shares = shares; commands = commands; moment = 0; inner = serving }
 
 -- A limited service over a hub served a session over a connection. The hub opened with this value,
--- and of its commands it is known which ones were refused.
-pub record IsHubServed {T : Type 0} (opening : StoreValue (List RowView)) (refused : Command → Bool) (given taken : T → List ℕ) (is_at_end : T → Type 0) (future : Option ℕ) (shares commands : Bool) (roster : RosterView) (verifies : Verdicts) (left : Bool)
+-- and of its commands it is known for which reasons they were refused.
+pub record IsHubServed {T : Type 0} (opening : StoreValue (List RowView)) (refused : Command → Option SubmitError → Bool) (given taken : T → List ℕ) (is_at_end : T → Type 0) (future : Option ℕ) (shares commands : Bool) (roster : RosterView) (verifies : Verdicts) (left : Bool)
     (input input_left output output_left : T) (result : Result ℕ FrameError) (claims : List Claim) : Type 0 where
   -- The reader by which the service began.
   pub reader : Sight

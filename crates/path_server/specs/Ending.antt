@@ -23,9 +23,7 @@ cause_of (Err error.Turns) around = Server
 
 -- The cause is reported.
 abbrev pub is_fault : Cause → Bool
-is_fault Orderly = false
-is_fault Idle = false
 is_fault Frame = true
 is_fault Failed = true
 is_fault NoMemory = true
-is_fault Server = false
+is_fault _ = false

@@ -77,7 +77,7 @@ pub(crate) fn next_arrival<
     unreachable!()
 }
 
-/// Pauses after an accept that failed by an error, of which `fail` is told with the pause. Returns
+/// Pauses after an accept that failed by an error, which `fail` hears of with the pause. Returns
 /// the pause in milliseconds, where the one before was this.
 pub(crate) fn pause_after<R: Clock, F: Fn(i32, u64)>(
     rt: &R,

@@ -1,12 +1,12 @@
 //! Peers that arrive at a server.
 
 use crate::accepting::Arrival;
-use crate::guest::Seat;
 use crate::listeners::Listener;
 use crate::reports::{Report, Reports};
 use crate::role::Role;
 use crate::seats::{NoSeat, Peer};
 use crate::server::Server;
+use crate::task::Seat;
 use crate::turning_away::turn_away;
 use seg_check::Verifier;
 use std::net::{SocketAddr, TcpStream};

@@ -5,16 +5,16 @@ ghost use Rattle.path_server.specs.Attending.{IsHubServed};
 ghost use Rattle.path_server.specs.Roles.{shares_room, takes_commands};
 
 use crate::ends::{Circumstances, cause_of};
-use crate::guest::Seat;
 use crate::listeners::Listener;
 use crate::parting::end_early;
 use crate::peer_socket::PeerSocket;
 use crate::reports::{Report, Reports};
 use crate::role::Role;
 use crate::server::Server;
+use crate::task::Seat;
 use crate::turning_away::turn_away;
 use paced_stream::{Ended, StreamCalls, SystemStream, serve_connection};
-use path_hub::{Hub, HubName, LoggedList, Waiter};
+use path_hub::{Hub, HubName, LoggedList, Sender, Waiter};
 use path_session::{HubService, SystemNow};
 use sector_dev::Device;
 use seg_check::Verifier;
@@ -34,6 +34,7 @@ impl<L: Listener + Drop, V: Verifier, O: Reports> Server<'_, L, V, O> {
     pub(crate) fn attend_session<D: Device, N: HubName, R: Wait + Clock>(
         &self,
         hub: &Hub<D, N, R>,
+        sender: Sender<N>,
         seat: Seat,
     ) {
         let rt = hub.handle();
@@ -45,7 +46,8 @@ impl<L: Listener + Drop, V: Verifier, O: Reports> Server<'_, L, V, O> {
         };
         let input = SystemStream::new(&peer.stream);
         let output = SystemStream::new(&peer.stream);
-        match self.serve(hub, role, PeerSocket::new(rt, &peer.stream), input, output) {
+        let waiter = PeerSocket::new(rt, &peer.stream);
+        match self.serve(hub, sender, role, waiter, input, output) {
             Some((ended, claims)) => {
                 hub.keep_acknowledged(claims);
                 seats.leave(rt, number);
@@ -58,11 +60,13 @@ impl<L: Listener + Drop, V: Verifier, O: Reports> Server<'_, L, V, O> {
         }
     }
 
-    /// Serves a peer by a reader of the hub, as its role allows, and returns with the end the claims of all commands
-    /// that were acknowledged. The result is `None` where there is no reader.
+    /// Serves a peer by a reader of the hub, as its role allows, and returns with the end the
+    /// claims of all commands that were acknowledged. The result is `None` where there is no
+    /// reader.
     fn serve<D: Device, N: HubName, R: Wait + Clock, P: Waiter + Drop, T: StreamCalls + Drop>(
         &self,
         hub: &Hub<D, N, R>,
+        sender: Sender<N>,
         role: Role,
         peer: P,
         input: T,
@@ -77,10 +81,10 @@ impl<L: Listener + Drop, V: Verifier, O: Reports> Server<'_, L, V, O> {
         let rt = hub.handle();
         let clock = SystemNow::new(rt);
         let cores = &self.options.cores;
-        let service = HubService::new(hub, reader, self.verifier, clock, cores, peer);
+        let service = HubService::new(hub, reader, self.verifier, clock, cores, peer, sender);
         let limits = self.limits(role);
         let limited = Limited::new(service, SystemNow::new(rt), limits, rt);
-        let mut counted = Counted::new(limited, &self.replies);
+        let mut counted = Counted::new(limited, &self.replies, rt);
         let idle = self.options.idle;
         let ended = serve_connection(rt, self.alloc, input, output, &mut counted, idle);
         let (reader, acknowledged) = counted.into_service().into_service().into_parts();

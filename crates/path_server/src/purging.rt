@@ -7,7 +7,7 @@ use crate::purger::Purger;
 use crate::reports::{Report, Reports};
 use crate::server::Server;
 use paced_stream::Deadline;
-use path_hub::{Hub, HubError, HubName, Waiter};
+use path_hub::{Hub, HubError, HubName, Sender, Waiter};
 use path_session::SystemNow;
 use sector_dev::Device;
 use seg_check::Verifier;
@@ -42,10 +42,11 @@ impl<L: Listener + Drop, V: Verifier, O: Reports> Server<'_, L, V, O> {
     pub(crate) fn purge<D: Device, N: HubName, R: Wait + Clock>(
         &self,
         hub: &Hub<D, N, R>,
+        sender: Sender<N>,
         period: Duration,
     ) {
         let rt = hub.handle();
-        let mut purger = Purger::new(hub, SystemNow::new(rt));
+        let mut purger = Purger::new(hub, SystemNow::new(rt), sender);
         for _ in rt.forever() {
             if !self.rest(rt, period) {
                 return;
@@ -55,7 +56,10 @@ impl<L: Listener + Drop, V: Verifier, O: Reports> Server<'_, L, V, O> {
                 has_left: false,
             };
             match purger.purge(&mut waiter) {
-                Ok(_receipt) => self.note_purge(),
+                Ok(receipt) => {
+                    self.replies.count_outcome(receipt.outcome());
+                    self.note_purge();
+                }
                 Err(HubError::NotAwaited) => return,
                 Err(error) => self.note_no_purge(error),
             }

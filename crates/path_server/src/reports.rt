@@ -2,6 +2,7 @@
 
 use path_hub::{Actor, HubError};
 use session_core::FrameError;
+use status_page::Usage;
 use std::fmt;
 use std::fmt::{Display, Formatter};
 use std::net::SocketAddr;
@@ -167,6 +168,11 @@ pub trait Reports {
     /// The number of reports that were dropped, since too many waited to be printed.
     fn dropped(&self) -> u64 {
         0
+    }
+
+    /// What the process uses of the machine, or `None` where that is not known.
+    fn usage(&self) -> Option<Usage> {
+        None
     }
 }
 

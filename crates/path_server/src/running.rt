@@ -13,7 +13,7 @@ use crate::listeners::{Listener, Listeners};
 use crate::options::Options;
 use crate::reports::Reports;
 use crate::server::Server;
-use path_hub::{Left, with_crew};
+use path_hub::{Left, with_workload};
 use sector_dev::Device;
 use seg_check::{TrustAll, Verifier};
 use std::alloc::Global;
@@ -100,7 +100,7 @@ fn serve_checked<
     let server = Server::new(
         alloc, listeners, begun, begun_at, options, verifier, reports,
     );
-    let (device, left, attended) = with_crew(rt, alloc, store, HOME, &server);
+    let (device, left, attended) = with_workload(rt, alloc, store, HOME, &server);
     match attended {
         Ok(_) => (device, left, server.served()),
         Err(_) => (device, left, Err(RunError::NoMemory)),

@@ -16,7 +16,7 @@ pub const MOST_SESSIONS: u64 = READERS as u64;
 pub const MOST_LOOKUP_SEATS: u64 = 56;
 
 /// The number of seats for the sessions that may have commands, and of those for the others, of
-/// which so many are wanted. Without a listener of lookups all seats are for the former.
+/// which this number is wanted. Without a listener of lookups all seats are for the former.
 pub(crate) fn shares_of(has_lookups: bool, wanted: u64) -> (u64, u64)
     ensures all { result.0 + result.1 ≡ 64 }
     ensures none { has_lookups ≡ false → result.1 ≡ 0 }

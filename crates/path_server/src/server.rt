@@ -6,7 +6,6 @@ ghost use Rattle.path_server.specs.Roles.{shares_room, takes_commands};
 use crate::door::Door;
 use crate::ends::Ends;
 use crate::error::RunError;
-use crate::guest::{Guest, Seat};
 use crate::listeners::{Listener, Listeners};
 use crate::options::Options;
 use crate::reports::{Report, Reports};
@@ -15,9 +14,10 @@ use crate::seats::{Seats, shares_of};
 use crate::seldom::Seldom;
 use crate::status_listener::StatusListener;
 use crate::stopwatch::Stopwatch;
+use crate::task::{Seat, Task};
 use crate::two_listeners::Entrances;
 use crate::waiting::Waiting;
-use path_hub::{Crew, Hub, HubName, Notice};
+use path_hub::{Hub, HubName, Notice, Senders, Workload};
 use sector_dev::Device;
 use seg_check::Verifier;
 use session_limits::{Limits, Rooms};
@@ -224,21 +224,21 @@ impl<'a, L: Listener + Drop, V: Verifier, O: Reports> Server<'a, L, V, O> {
     }
 }
 
-impl<D: Device, R: Wait + Clock, L: Listener + Drop + Send, V: Verifier, O: Reports> Crew<D, R>
+impl<D: Device, R: Wait + Clock, L: Listener + Drop + Send, V: Verifier, O: Reports> Workload<D, R>
     for Server<'_, L, V, O> {
-    type Guest = Guest;
+    type Task = Task;
 
-    fn next<N: HubName>(&self, hub: &Hub<D, N, R>) -> Option<Guest> {
+    fn next<N: HubName>(&self, hub: &Hub<D, N, R>) -> Option<Task> {
         let rt = hub.handle();
         if self.status.offer(rt) {
-            return Some(Guest::Status);
+            return Some(Task::Status);
         }
         if let Some(period) = self.offered_purges() {
-            return Some(Guest::Purges(period));
+            return Some(Task::Purges(period));
         }
         self.report_ready();
         if let Some(seat) = self.next_session(rt) {
-            return Some(Guest::Session(seat));
+            return Some(Task::Session(seat));
         }
         self.ending.store(true, Ordering::SeqCst);
         self.door.close(rt);
@@ -249,22 +249,22 @@ impl<D: Device, R: Wait + Clock, L: Listener + Drop + Send, V: Verifier, O: Repo
         None
     }
 
-    fn attend<N: HubName>(&self, hub: &Hub<D, N, R>, guest: Guest) {
-        match guest {
-            Guest::Session(seat) => self.attend_session(hub, seat),
-            Guest::Status => {
+    fn attend<N: HubName>(&self, hub: &Hub<D, N, R>, senders: &Senders<N>, task: Task) {
+        match task {
+            Task::Session(seat) => self.attend_session(hub, senders.begin(), seat),
+            Task::Status => {
                 if let Some(listener) = self.status.take(hub.handle()) {
                     self.watch(hub, &listener);
                 }
             }
-            Guest::Purges(period) => self.purge(hub, period),
+            Task::Purges(period) => self.purge(hub, senders.begin(), period),
         }
     }
 
-    fn miss<N: HubName>(&self, hub: &Hub<D, N, R>, guest: Guest) {
-        match guest {
-            Guest::Session(seat) => self.miss_session(hub.handle(), seat),
-            Guest::Status | Guest::Purges(_) => self.is_short.store(true, Ordering::SeqCst),
+    fn miss<N: HubName>(&self, hub: &Hub<D, N, R>, task: Task) {
+        match task {
+            Task::Session(seat) => self.miss_session(hub.handle(), seat),
+            Task::Status | Task::Purges(_) => self.is_short.store(true, Ordering::SeqCst),
         }
     }
 

@@ -1,6 +1,7 @@
 //! Peers that ask for the numbers of a server.
 
 ghost use Rattle.std.specs.Prelude.{◌≡◌};
+ghost use Rattle.status_server.specs.LookupTimes.{AreLookupTimes};
 
 use crate::ends::Cause;
 use crate::listeners::Listener;
@@ -51,7 +52,7 @@ impl<L: Listener + Drop, V: Verifier, O: Reports> Server<'_, L, V, O> {
         answer(self.alloc, asked, &numbers, &counts, refusals.as_slice())
     }
 
-    /// The counts of what the server has done, with what its actors have completed, and the call of
+    /// The counts of what the server has done, with what its actors have completed and the call of
     /// the device that is under way.
     fn counts(&self, clock: &impl Clock, call: Option<CallTime>, completed: Completed) -> Counts
         ensures call { result.call ≡ call }
@@ -59,6 +60,7 @@ impl<L: Listener + Drop, V: Verifier, O: Reports> Server<'_, L, V, O> {
         ensures seals { result.seals ≡ completed.seals }
         ensures checkpoints { result.checkpoints ≡ completed.checkpoints }
         ensures commits { result.commits ≡ completed.commits }
+        ensures lookups { AreLookupTimes result.lookups }
     {
         Counts {
             call,
@@ -71,6 +73,7 @@ impl<L: Listener + Drop, V: Verifier, O: Reports> Server<'_, L, V, O> {
                 .saturating_mul(1_000),
             waits: self.waiting.now(),
             commits: completed.commits,
+            lookups: self.replies.lookup_times(),
             sessions: self.taken().min(MOST_SESSIONS),
             started: self.door.started(),
             refused: self.refused(),
@@ -80,9 +83,11 @@ impl<L: Listener + Drop, V: Verifier, O: Reports> Server<'_, L, V, O> {
             listed: self.replies.of(ReplyKind::Listed),
             purged: self.replies.of(ReplyKind::Purged),
             removed: self.replies.of(ReplyKind::Removed),
+            outcomes: self.replies.outcomes(),
             dropped: self.reports.dropped(),
             seconds: self.seconds(clock),
             begun: self.begun_at,
+            usage: self.reports.usage(),
         }
     }
 

@@ -93,7 +93,4 @@ pub record ReplyWriteFails (output output_left : Option (List ℕ)) (bytes : Lis
 abbrev pub FailsToWrite : Option (List ℕ) → Option (List ℕ) → List ℕ → FrameError → Type 0
 FailsToWrite output output_left bytes error.Write = IsWrittenInPart output output_left bytes
 FailsToWrite output output_left bytes error.NoMemory = Appends output output_left []
-FailsToWrite output output_left bytes error.Length = ⊥
-FailsToWrite output output_left bytes error.Kind = ⊥
-FailsToWrite output output_left bytes error.Read = ⊥
-FailsToWrite output output_left bytes error.Turns = ⊥
+FailsToWrite output output_left bytes _ = ⊥

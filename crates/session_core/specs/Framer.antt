@@ -46,10 +46,6 @@ IsFaultOf bytes (Some e) = IsFaultAt bytes e
 
 -- The ending of a stream with these bytes after its last whole frame, and with this fault.
 abbrev pub ending_of : List ℕ → Option FrameError → Ending
-ending_of bytes None = Rest bytes
 ending_of bytes (Some error.Length) = BadLength
 ending_of bytes (Some error.Kind) = BadKind
-ending_of bytes (Some error.NoMemory) = Rest bytes
-ending_of bytes (Some error.Read) = Rest bytes
-ending_of bytes (Some error.Write) = Rest bytes
-ending_of bytes (Some error.Turns) = Rest bytes
+ending_of bytes _ = Rest bytes

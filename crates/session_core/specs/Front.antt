@@ -26,10 +26,7 @@ pub record BeginsWithFrame (bytes : List ℕ) (message : MessageView) (len : ℕ
 abbrev pub IsFaultAt : List ℕ → FrameError → Type 0
 IsFaultAt bytes error.Length = HasBadLength bytes
 IsFaultAt bytes error.Kind = HasBadKind bytes
-IsFaultAt bytes error.NoMemory = ⊥
-IsFaultAt bytes error.Read = ⊥
-IsFaultAt bytes error.Write = ⊥
-IsFaultAt bytes error.Turns = ⊥
+IsFaultAt bytes _ = ⊥
 
 -- The result of reading the front: a whole frame with its message, less than a frame, or the fault
 -- of the frame.

@@ -16,9 +16,6 @@ reply_view (reply.Refused code) = Refused code.0
 
 -- The reply has at most 64 segments.
 abbrev pub HasFewSegments : Reply → Type 0
-HasFewSegments (reply.Registered ack) = Unit {0}
 HasFewSegments (reply.Found kind segments) = length segments.items ≤ MOST_SEGMENTS
-HasFewSegments (reply.Purged ack) = Unit {0}
-HasFewSegments (reply.Removed ack) = Unit {0}
 HasFewSegments (reply.Listed listing) = length listing.segments.items ≤ MOST_SEGMENTS
-HasFewSegments (reply.Refused code) = Unit {0}
+HasFewSegments _ = Unit {0}

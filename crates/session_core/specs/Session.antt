@@ -54,13 +54,9 @@ pub record TellsFrontOfLast (form : Form) (written : List ℕ) (exchanges : List
 -- written, except that after a failed write the last one may be missing or cut, and where memory
 -- was refused the last one may be missing.
 abbrev pub WritesReplies : Form → Result ℕ FrameError → List ℕ → List Exchange → Type 0
-WritesReplies form (Ok count) written exchanges = written ≡ all_told form exchanges
 WritesReplies form (Err error.NoMemory) written exchanges = TellsAllBefore form written exchanges
-WritesReplies form (Err error.Length) written exchanges = written ≡ all_told form exchanges
-WritesReplies form (Err error.Kind) written exchanges = written ≡ all_told form exchanges
-WritesReplies form (Err error.Read) written exchanges = written ≡ all_told form exchanges
 WritesReplies form (Err error.Write) written exchanges = TellsFrontOfLast form written exchanges
-WritesReplies form (Err error.Turns) written exchanges = written ≡ all_told form exchanges
+WritesReplies form _ written exchanges = written ≡ all_told form exchanges
 
 -- All whole frames of the pieces before the last one were answered, those pieces have no fault, and
 -- the replies to their messages were written.
@@ -102,13 +98,9 @@ pub record AreAhead (messages : List MessageView) (bytes : List ℕ) : Type 0 wh
 -- The messages that are handed in and not answered when a session ends, where these bytes are not
 -- answered: none, unless a write failed or memory was refused.
 abbrev pub LeavesAhead : Result ℕ FrameError → List MessageView → List ℕ → Type 0
-LeavesAhead (Ok count) messages rest = messages ≡ []
 LeavesAhead (Err error.NoMemory) messages rest = AreAhead messages rest
-LeavesAhead (Err error.Length) messages rest = messages ≡ []
-LeavesAhead (Err error.Kind) messages rest = messages ≡ []
-LeavesAhead (Err error.Read) messages rest = messages ≡ []
 LeavesAhead (Err error.Write) messages rest = AreAhead messages rest
-LeavesAhead (Err error.Turns) messages rest = messages ≡ []
+LeavesAhead _ messages rest = messages ≡ []
 
 -- ---- why a session ends
 
@@ -140,13 +132,8 @@ EndsFor input_ended turns pieces exchanges rest (Err e) = SessionEndsEarly (IsPa
 -- After a session that ends so, nothing that was written is held back, where a write failed
 -- excepted.
 abbrev pub IsSentFor : Type 0 → Result ℕ FrameError → Type 0
-IsSentFor sent (Ok count) = sent
-IsSentFor sent (Err error.NoMemory) = sent
-IsSentFor sent (Err error.Length) = sent
-IsSentFor sent (Err error.Kind) = sent
-IsSentFor sent (Err error.Read) = sent
 IsSentFor sent (Err error.Write) = Unit {0}
-IsSentFor sent (Err error.Turns) = sent
+IsSentFor sent _ = sent
 
 -- ---- a session
 

@@ -17,11 +17,9 @@ pub record AreReads {R : Type 0} (gives : R → List ℕ → R → Type 0) (turn
 abbrev pub EndsReading : {A : Type 0} → ℕ → Type 0 → List (List ℕ) → Result (Vec ℕ A) FrameError → Type 0
 EndsReading turns input_ended pieces (Ok bytes) = input_ended × (bytes.items ≡ concat pieces)
 EndsReading turns input_ended pieces (Err error.NoMemory) = Unit {0}
-EndsReading turns input_ended pieces (Err error.Length) = ⊥
-EndsReading turns input_ended pieces (Err error.Kind) = ⊥
 EndsReading turns input_ended pieces (Err error.Read) = Unit {0}
-EndsReading turns input_ended pieces (Err error.Write) = ⊥
 EndsReading turns input_ended pieces (Err error.Turns) = length pieces ≡ turns
+EndsReading turns input_ended pieces _ = ⊥
 
 -- A source was read to its end, or up to an error, in at most `turns` reads.
 pub record IsAllRead {R A : Type 0} (gives : R → List ℕ → R → Type 0) (turns : ℕ) (source source_left : R) (input_ended : Type 0) (result : Result (Vec ℕ A) FrameError) : Type 0 where

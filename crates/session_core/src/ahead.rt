@@ -11,7 +11,7 @@ use std::alloc::Global;
 use std::collections::VecDeque;
 
 /// The most commands of a session that are handed in and not answered yet.
-pub const MOST_AHEAD: usize = 32;
+pub const MOST_AHEAD: usize = 128;
 
 /// A command that was handed in: its kind, the number of bytes of its frame, and what is under way.
 #[derive(Drop)]

@@ -1,4 +1,4 @@
-//! The kinds of frames, and how many bytes they have.
+//! How many bytes frames have.
 
 use seg_core::MOST_REGISTERED_BYTES;
 
@@ -6,17 +6,6 @@ use seg_core::MOST_REGISTERED_BYTES;
 pub const LENGTH_SIZE: usize = 4;
 /// The number of bytes of a frame's kind.
 const KIND_SIZE: usize = 1;
-
-/// The kind of a registration.
-pub(crate) const REGISTER: u8 = 1;
-/// The kind of a lookup.
-pub(crate) const LOOKUP: u8 = 2;
-/// The kind of a purge.
-pub(crate) const PURGE: u8 = 3;
-/// The kind of a removal.
-pub(crate) const REMOVE: u8 = 4;
-/// The kind of a list.
-pub(crate) const LIST: u8 = 5;
 
 /// The greatest length of a message's frame: its kind, and the most bytes of a registration.
 pub const MOST_LENGTH: usize = KIND_SIZE + MOST_REGISTERED_BYTES;
@@ -29,19 +18,6 @@ pub(crate) const REMOVE_LENGTH: usize = KIND_SIZE + 1 + 32;
 pub(crate) const LIST_LENGTH: usize = KIND_SIZE + 1 + 2 * 8;
 /// The length of the frame of a list with an id of 32 bytes after them.
 pub(crate) const LIST_AFTER_LENGTH: usize = LIST_LENGTH + 32;
-
-/// The kind of a reply to a registration.
-pub(crate) const REGISTERED: u8 = 0x81;
-/// The kind of a reply to a lookup.
-pub(crate) const FOUND: u8 = 0x82;
-/// The kind of a reply to a purge.
-pub(crate) const PURGED: u8 = 0x83;
-/// The kind of a reply to a removal.
-pub(crate) const REMOVED: u8 = 0x84;
-/// The kind of a reply to a list.
-pub(crate) const LISTED: u8 = 0x85;
-/// The kind of a refusal.
-pub(crate) const REFUSED: u8 = 0xff;
 
 /// The length of a refusal's frame: its kind, and the code.
 pub(crate) const REFUSAL_LENGTH: usize = KIND_SIZE + 1;

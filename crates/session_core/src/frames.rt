@@ -7,9 +7,9 @@ ghost use Rattle.session_core.specs.Front.{message_at, IsFrontReading};
 
 use crate::error::FrameError;
 use crate::format::{
-    LENGTH_SIZE, LIST, LIST_AFTER_LENGTH, LIST_LENGTH, LOOKUP, MOST_LENGTH, PURGE, PURGE_LENGTH,
-    REGISTER, REMOVE, REMOVE_LENGTH,
+    LENGTH_SIZE, LIST_AFTER_LENGTH, LIST_LENGTH, MOST_LENGTH, PURGE_LENGTH, REMOVE_LENGTH,
 };
+use crate::kinds::{LIST, LOOKUP, PURGE, REGISTER, REMOVE};
 use crate::list_request::ListRequest;
 use crate::message::Message;
 use byteorder::{BigEndian, ByteOrder};

@@ -13,6 +13,7 @@ mod format;
 mod framer;
 mod frames;
 mod inbox;
+pub mod kinds;
 pub mod laws;
 mod lines;
 mod list_request;

@@ -9,10 +9,8 @@ ghost use Rattle.session_core.specs.Reply.{ack_encoding, more_byte, reply_frame,
 ghost use Rattle.session_core.specs.ReplyViews.{reply_view};
 
 use crate::command_kind::CommandKind;
-use crate::format::{
-    ACK_FRAME, ACK_LENGTH, FOUND, LISTED, MOST_REPLY, PURGED, REFUSAL_FRAME, REFUSAL_LENGTH,
-    REFUSED, REGISTERED, REMOVED,
-};
+use crate::format::{ACK_FRAME, ACK_LENGTH, MOST_REPLY, REFUSAL_FRAME, REFUSAL_LENGTH};
+use crate::kinds::{FOUND, LISTED, PURGED, REFUSED, REGISTERED, REMOVED};
 use crate::service::{Ack, Code, Listing};
 use byteorder::{BigEndian, ByteOrder};
 use seg_core::{SegType, Segment, write_response_of};

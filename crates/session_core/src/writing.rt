@@ -7,7 +7,7 @@ ghost use Rattle.session_core.specs.ReplyViews.{reply_view};
 ghost use Rattle.session_core.specs.Answered.{FailsToWrite, ReplyWriteFails};
 
 use crate::error::FrameError;
-use crate::format::{PURGED, REGISTERED, REMOVED};
+use crate::kinds::{PURGED, REGISTERED, REMOVED};
 use crate::reply::{
     Form, Reply, ack_frame, found_head, listed_head, refusal_frame, response_of, whole_frame,
 };

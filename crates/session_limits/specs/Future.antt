@@ -4,8 +4,8 @@ use Rattle.std.specs.List.{list_any}
 use Rattle.std.specs.Result.{is_ok}
 use Rattle.seg_slots.specs.declared.error.SegError.{SegError}
 use Rattle.seg_core.specs.Registration.{registration_decoding}
-use Rattle.path_db.specs.Database.{RowView}
-use Rattle.session_core.specs.declared.message.Message.TheVariants.{Register, Lookup, Purge, Remove}
+use Rattle.row_map.specs.Database.{RowView}
+use Rattle.session_core.specs.declared.message.Message.TheVariants.{Register, Purge}
 use Rattle.session_core.specs.declared.message.Message.TheVariants as message
 use Rattle.session_core.specs.Frames.{MessageView}
 
@@ -26,18 +26,14 @@ is_read_after last (Err e) = false
 -- a registration's segments, or the moment of a purge. Now is in half seconds.
 abbrev pub is_future : ℕ → ℕ → MessageView → Bool
 is_future bound now (Register body) = is_read_after (last_moment bound now) (registration_decoding body)
-is_future bound now (Lookup body) = false
 is_future bound now (Purge until) = nat_lt (last_moment bound now) until
-is_future bound now (Remove kind id) = false
-is_future bound now (message.List request) = false
+is_future bound now _ = false
 
 -- A message names a time: a registration that can be read, or a purge.
 abbrev pub names_time : MessageView → Bool
 names_time (Register body) = is_ok (registration_decoding body)
-names_time (Lookup body) = false
 names_time (Purge until) = true
-names_time (Remove kind id) = false
-names_time (message.List request) = false
+names_time _ = false
 
 -- Whether a message lies in the future is judged by the bound, if there is one, at the moment that
 -- the clock gave. The clock is asked for messages that name a time.

@@ -2,7 +2,7 @@
 use Rattle.std.specs.Prelude.{◌≡◌, ◌⊎◌, ℕ, Bool, true, false, Option, Some, None, Result, Ok, Err, IsOk, IsSome, is_some}
 use Rattle.seg_core.specs.Registration.{registration_outline}
 use Rattle.group_core.specs.declared.submit_error.SubmitError.TheVariants.{Busy}
-use Rattle.session_core.specs.declared.message.Message.TheVariants.{Register, Lookup, Purge, Remove}
+use Rattle.session_core.specs.declared.message.Message.TheVariants.{Register}
 use Rattle.session_core.specs.declared.message.Message.TheVariants as message
 use Rattle.session_core.specs.Commands.{command_kind}
 use Rattle.session_core.specs.Frames.{MessageView}
@@ -48,12 +48,8 @@ limit_code NoCommands = no_commands_code
 
 -- A message that has to be read, by a bound, may be refused memory once its outline was read.
 abbrev pub MayLackMemory : Option ℕ → MessageView → Type 0
-MayLackMemory None message = ⊥
 MayLackMemory (Some bound) (Register body) = IsOk (registration_outline body)
-MayLackMemory (Some bound) (Lookup body) = ⊥
-MayLackMemory (Some bound) (Purge until) = ⊥
-MayLackMemory (Some bound) (Remove kind id) = ⊥
-MayLackMemory (Some bound) (message.List request) = ⊥
+MayLackMemory _ _ = ⊥
 
 -- Why a message is refused, or None where it goes on to the service below. A session that takes no
 -- commands refuses each one for that, and has no other refusal. Elsewhere a message is refused that

@@ -2,8 +2,8 @@
 //!
 //! To the layer above, `Limited` is a service that answers as another one does, but for three
 //! limits: a session may take no commands, no time of a command lies too far in the future, and only
-//! so many sessions have commands under way at one time. `Rooms` is the number of these sessions,
-//! which threads share.
+//! a given number of sessions have commands under way at one time. `Rooms` counts these sessions,
+//! and threads share it.
 #![tactic(auto)]
 
 mod future;

@@ -1,9 +1,8 @@
-pub mod Build
 pub mod Calls
-pub mod Commits
+pub mod Histogram
 pub mod Lines
 pub mod Page
 pub mod Phases
 pub mod Request
 pub mod Response
-pub mod Sessions
+pub mod Rows

@@ -32,10 +32,7 @@ IsAt path Plots = path ≡ plots_path
 IsAt path Health = path ≡ health_path
 IsAt path Alive = path ≡ alive_path
 IsAt path Ready = path ≡ ready_path
-IsAt path OtherPath = ⊥
-IsAt path OtherMethod = ⊥
-IsAt path More = ⊥
-IsAt path Unreadable = ⊥
+IsAt path _ = ⊥
 
 -- Nothing is at a path.
 abbrev pub IsNoPath : List ℕ → Type 0

@@ -1,6 +1,9 @@
 //! What a server has done.
 
-use store_loops::{CommitTimes, DeviceCall};
+use store_loops::{Bucket, CommitTimes, DeviceCall};
+
+/// The number of buckets of a `LookupTimes`.
+pub const LOOKUP_BUCKETS: usize = 12;
 
 /// What a server has done since it started.
 #[derive(Clone, Copy, Debug, PartialEq, Eq)]
@@ -19,6 +22,8 @@ pub struct Counts {
     pub waits: MemoryWaits,
     /// How long the commits of groups took.
     pub commits: CommitTimes,
+    /// How long the lookups took that were answered.
+    pub lookups: LookupTimes,
     /// The number of sessions that are open.
     pub sessions: u64,
     /// The number of sessions that were started.
@@ -37,12 +42,53 @@ pub struct Counts {
     pub purged: u64,
     /// The number of removals that were accepted.
     pub removed: u64,
+    /// What became of the segments and rows of acknowledged commands.
+    pub outcomes: OutcomeCounts,
     /// The number of notices that were dropped, since the log took none.
     pub dropped: u64,
     /// The number of seconds that the server has run.
     pub seconds: u64,
     /// When the server began, in seconds since 1970, or 0 where that could not be read.
     pub begun: u64,
+    /// What the process uses of the machine. `None`: that is not known.
+    pub usage: Option<Usage>,
+}
+
+/// What a process uses of its machine.
+#[derive(Clone, Copy, Debug, PartialEq, Eq)]
+pub struct Usage {
+    /// The bytes of memory that it has in use.
+    pub memory: u64,
+    /// The processor time that it has taken, in microseconds.
+    pub processor: u64,
+    /// The number of file descriptors that it has open.
+    pub open_files: u64,
+    /// The number of file descriptors that it may have open.
+    pub most_files: u64,
+}
+
+/// How long lookups took.
+#[derive(Clone, Copy, Debug, PartialEq, Eq)]
+pub struct LookupTimes {
+    /// For each of some times, in rising order, the number of lookups that took at most that time.
+    pub buckets: [Bucket; LOOKUP_BUCKETS],
+    /// The number of lookups.
+    pub count: u64,
+    /// The time that they took in all, in microseconds.
+    pub microseconds: u64,
+}
+
+/// What became of the segments and rows of acknowledged commands.
+#[derive(Clone, Copy, Debug, PartialEq, Eq)]
+pub struct OutcomeCounts {
+    /// The number of segments of which a row was inserted.
+    pub inserted: u64,
+    /// The number of segments that took the place of an older one.
+    pub updated: u64,
+    /// The number of segments that changed nothing, as a newer one was kept.
+    pub kept: u64,
+    /// The number of rows that purges and removals have dropped.
+    pub removed: u64,
 }
 
 /// Which threads of the store were refused memory, and try again.

@@ -10,20 +10,29 @@
 mod answers;
 mod build;
 mod calls;
-mod commits;
 mod counts;
+mod histogram;
 mod lines;
+mod names;
 mod phases;
 mod plots;
+mod process;
 mod request;
+mod rows;
 mod sessions;
+mod store;
 mod text;
+mod times;
+mod work;
 
 pub use answers::{
     BAD_REQUEST, HANGS, HEALTHY, NO_MEMORY, NOT_ALLOWED, NOT_FOUND, STOPPED, plots_response,
     response,
 };
 pub use build::VERSION;
-pub use counts::{CallTime, CodeCount, Counts, EndCounts, MemoryWaits, RefusedCounts};
+pub use counts::{
+    CallTime, CodeCount, Counts, EndCounts, LOOKUP_BUCKETS, LookupTimes, MemoryWaits,
+    OutcomeCounts, RefusedCounts, Usage,
+};
 pub use request::{Asked, read_head};
 pub use text::page;

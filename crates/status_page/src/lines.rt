@@ -1,10 +1,45 @@
 //! The lines of a page.
 
-ghost use Rattle.std.specs.Prelude.{◌≡◌, ◌<◌, IfOk, string_bytes};
-ghost use Rattle.status_page.specs.Lines.{help_line, type_line, heading, six_digits, seconds, sample, time_sample, labelled, time_labelled, counter, time_counter, gauge, flag};
+ghost use Rattle.std.specs.Prelude.{◌≡◌, IfOk, string_bytes};
+ghost use Rattle.status_page.specs.Lines.{kind_text, help_line, type_line, heading, six_digits, seconds, value_text, sample, labelled};
 
 use std::alloc::{AllocError, Global};
 use store_loops::SECOND;
+
+/// The type of a metric.
+#[derive(Clone, Copy)]
+pub(crate) enum Kind {
+    /// A number that grows and shrinks.
+    Gauge,
+    /// A number that only grows.
+    Counter,
+    /// Numbers by the time that something took.
+    Histogram,
+}
+
+/// The number of a line.
+#[derive(Clone, Copy)]
+pub(crate) enum Value {
+    /// A number.
+    Number(u64),
+    /// A time in microseconds, which is written as seconds.
+    Time(u64),
+    /// Such a time where this is true, and 0 elsewhere.
+    TimeIf(bool, u64),
+    /// 1 for true, and 0 for false.
+    Truth(bool),
+}
+
+/// The word for a type.
+fn kind_text(kind: Kind) -> &'static str
+    ensures { result.now ≡ kind_text kind }
+{
+    match kind {
+        Kind::Gauge => "gauge",
+        Kind::Counter => "counter",
+        Kind::Histogram => "histogram",
+    }
+}
 
 /// The line with what a metric says.
 #[tactic(auto, unfolding(crate::specs::Lines::help_line))]
@@ -27,13 +62,13 @@ fn type_line(alloc: Global, name: &str, kind: &str) -> Result<String, AllocError
 pub(crate) fn heading(
     alloc: Global,
     name: &str,
+    kind: Kind,
     help: &str,
-    kind: &str,
 ) -> Result<String, AllocError>
-    ensures { IfOk result (λ lines. string_bytes lines ≡ heading name.now help.now kind.now) }
+    ensures { IfOk result (λ lines. string_bytes lines ≡ heading name.now kind help.now) }
 {
     let help = help_line(alloc, name, help)?;
-    let kind = type_line(alloc, name, kind)?;
+    let kind = type_line(alloc, name, kind_text(kind))?;
     format!(in alloc; "{help}{kind}")
 }
 
@@ -57,25 +92,28 @@ pub(crate) fn seconds(alloc: Global, microseconds: u64) -> Result<String, AllocE
     format!(in alloc; "{whole}.{digits}")
 }
 
-/// The line of a metric with a number.
-#[tactic(auto, unfolding(crate::specs::Lines::sample))]
-pub(crate) fn sample(alloc: Global, name: &str, number: u64) -> Result<String, AllocError>
-    ensures { IfOk result (λ line. string_bytes line ≡ sample name.now number) }
+/// The digits of a line's number.
+fn value_text(alloc: Global, value: Value) -> Result<String, AllocError>
+    ensures { IfOk result (λ text. string_bytes text ≡ value_text value) }
 {
-    format!(in alloc; "{name} {number}\n")
+    match value {
+        Value::Number(number) => format!(in alloc; "{number}"),
+        Value::Time(microseconds) | Value::TimeIf(true, microseconds) => {
+            seconds(alloc, microseconds)
+        }
+        Value::TimeIf(false, _) => seconds(alloc, 0),
+        Value::Truth(true) => format!(in alloc; "1"),
+        Value::Truth(false) => format!(in alloc; "0"),
+    }
 }
 
-/// The line of a metric with a time in microseconds, as seconds.
-#[tactic(auto, unfolding(crate::specs::Lines::time_sample))]
-pub(crate) fn time_sample(
-    alloc: Global,
-    name: &str,
-    microseconds: u64,
-) -> Result<String, AllocError>
-    ensures { IfOk result (λ line. string_bytes line ≡ time_sample name.now microseconds) }
+/// The line of a metric with a number.
+#[tactic(auto, unfolding(crate::specs::Lines::sample))]
+pub(crate) fn sample(alloc: Global, name: &str, value: Value) -> Result<String, AllocError>
+    ensures { IfOk result (λ line. string_bytes line ≡ sample name.now value) }
 {
-    let time = seconds(alloc, microseconds)?;
-    format!(in alloc; "{name} {time}\n")
+    let value = value_text(alloc, value)?;
+    format!(in alloc; "{name} {value}\n")
 }
 
 /// The line of a metric with a number under a label.
@@ -84,75 +122,10 @@ pub(crate) fn labelled(
     alloc: Global,
     name: &str,
     label: &str,
-    number: u64,
+    value: Value,
 ) -> Result<String, AllocError>
-    ensures { IfOk result (λ line. string_bytes line ≡ labelled name.now label.now number) }
+    ensures { IfOk result (λ line. string_bytes line ≡ labelled name.now label.now value) }
 {
-    format!(in alloc; "{name}{{{label}}} {number}\n")
-}
-
-/// The line of a metric with a time in microseconds under a label, as seconds.
-#[tactic(auto, unfolding(crate::specs::Lines::time_labelled))]
-pub(crate) fn time_labelled(
-    alloc: Global,
-    name: &str,
-    label: &str,
-    microseconds: u64,
-) -> Result<String, AllocError>
-    ensures { IfOk result (λ line. string_bytes line ≡ time_labelled name.now label.now microseconds) }
-{
-    let time = seconds(alloc, microseconds)?;
-    format!(in alloc; "{name}{{{label}}} {time}\n")
-}
-
-/// The lines of a number that only grows.
-#[tactic(auto, unfolding(crate::specs::Lines::counter))]
-pub(crate) fn counter(
-    alloc: Global,
-    name: &str,
-    help: &str,
-    number: u64,
-) -> Result<String, AllocError>
-    ensures { IfOk result (λ lines. string_bytes lines ≡ counter name.now help.now number) }
-{
-    let heading = heading(alloc, name, help, "counter")?;
-    let line = sample(alloc, name, number)?;
-    format!(in alloc; "{heading}{line}")
-}
-
-/// The lines of a time in microseconds that only grows, as seconds.
-#[tactic(auto, unfolding(crate::specs::Lines::time_counter))]
-pub(crate) fn time_counter(
-    alloc: Global,
-    name: &str,
-    help: &str,
-    microseconds: u64,
-) -> Result<String, AllocError>
-    ensures { IfOk result (λ lines. string_bytes lines ≡ time_counter name.now help.now microseconds) }
-{
-    let heading = heading(alloc, name, help, "counter")?;
-    let line = time_sample(alloc, name, microseconds)?;
-    format!(in alloc; "{heading}{line}")
-}
-
-/// The lines of a number that grows and shrinks.
-#[tactic(auto, unfolding(crate::specs::Lines::gauge))]
-pub(crate) fn gauge(
-    alloc: Global,
-    name: &str,
-    help: &str,
-    number: u64,
-) -> Result<String, AllocError>
-    ensures { IfOk result (λ lines. string_bytes lines ≡ gauge name.now help.now number) }
-{
-    let heading = heading(alloc, name, help, "gauge")?;
-    let line = sample(alloc, name, number)?;
-    format!(in alloc; "{heading}{line}")
-}
-
-/// The number of a truth: 0 for false, and 1 for true.
-pub(crate) fn flag(is: bool) -> u64
-    ensures { result ≡ flag is }
-{
-    if is { 1 } else { 0 }
+    let value = value_text(alloc, value)?;
+    format!(in alloc; "{name}{{{label}}} {value}\n")
 }

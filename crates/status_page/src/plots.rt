@@ -106,7 +106,7 @@ function growth(start, { now, before }) {
 }
 
 // What a plot shows of a sample: a number, its growth in a second, its growth by that of another one,
-// and the milliseconds within which a part of the commits came, as the end of a bucket.
+// and the milliseconds within which a part of what a histogram counts was done, as the end of a bucket.
 const level = (name) => ({ now }) => now.get(name);
 const rate = (start) => (sample) => {
   const grown = growth(start, sample);
@@ -116,19 +116,22 @@ const share = (start, of) => (sample) => {
   const others = growth(of, sample);
   return others ? growth(start, sample) / others : null;
 };
-const within = (part) => (sample) => {
-  const all = growth('pathd_commit_seconds_count', sample);
+const within = (histogram, part) => (sample) => {
+  const all = growth(`${histogram}_count`, sample);
   if (!all) return null;
-  const buckets = named(sample.now, 'pathd_commit_seconds_bucket');
+  const buckets = named(sample.now, `${histogram}_bucket`);
   const [name] = buckets.find(([bucket]) => growth(bucket, sample) >= part * all);
   return 1000 * Math.min(1, Number(label(name).replace('+Inf', '1')));
 };
 
+const halves = (histogram) => [within(histogram, .5), within(histogram, .99)];
+
 // A plot: its title, its unit, the one or two things that it shows, and its top where that is fixed.
 const PLOTS = [
   ['Lookups', 'a second', [rate('pathd_replies_total{kind="found"}')]],
+  ['Time of lookups: half, 99 of 100', 'ms, to 1,000', halves('pathd_lookup_seconds')],
   ['Commands that were committed', 'a second', [rate('pathd_commands_total')]],
-  ['Time of commits: half, 99 of 100', 'ms, to 1,000', [within(.5), within(.99)]],
+  ['Time of commits: half, 99 of 100', 'ms, to 1,000', halves('pathd_commit_seconds')],
   ['Groups that were committed', 'a second', [rate('pathd_groups_total')]],
   ['Commands in a group', 'of 32', [share('pathd_commands_total', 'pathd_groups_total')], 32],
   ['Segments', '', [level('pathd_rows')]],
@@ -278,7 +281,7 @@ step();
 
 /// What a browser may load and run for it. The hashes are those of its script and of its style.
 const POLICY: &str =
-    "default-src 'none'; script-src 'sha256-tt0y7F75L2KmmsJ/ayXFmH6WyozqfDIMhXTHY9WPWKE='; style-src 'sha256-oJQnRmJOxfddD3oSFOsc3/+dd1j2GHjH3KRdIry138w='; img-src data:; connect-src 'self'; base-uri 'none'; form-action 'none'; frame-ancestors 'none'";
+    "default-src 'none'; script-src 'sha256-sPy0tFjNx9v8SKU/Zkb7O+rJYOaTJ59OIi8sdSj5yMA='; style-src 'sha256-oJQnRmJOxfddD3oSFOsc3/+dd1j2GHjH3KRdIry138w='; img-src data:; connect-src 'self'; base-uri 'none'; form-action 'none'; frame-ancestors 'none'";
 
 /// The page that draws the numbers of a server, and reads them from it again and again.
 #[tactic(auto, unfolding(crate::specs::Response::plots))]

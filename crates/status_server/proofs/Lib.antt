@@ -1,2 +1,3 @@
+mod LookupLemmas
 mod RefusalLemmas
 mod VisitLemmas

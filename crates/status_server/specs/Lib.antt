@@ -1,5 +1,6 @@
 pub mod Answers
 pub mod Kinds
+pub mod LookupTimes
 pub mod Refusals
 pub mod Requests
 pub mod Turns

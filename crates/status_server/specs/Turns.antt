@@ -10,7 +10,7 @@ IfAsks (Asks asked) P = P asked
 IfAsks Waits P = Unit {0}
 IfAsks Over P = Unit {0}
 
--- A piece of so many bytes at most was read after those that were there.
+-- A piece of at most this number of bytes was read after those that were there.
 abbrev pub IsReadOn : ℕ → List ℕ → List ℕ → Type 0
 IsReadOn most old new = (piece : List ℕ) × (new ≡ old ++ piece) × (length piece ≤ most)
 

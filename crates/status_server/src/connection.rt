@@ -5,8 +5,8 @@ use std::io::{ErrorKind, Read};
 use std::net::{Shutdown, TcpStream};
 use std::time::Clock;
 
-/// The most bytes of one read.
-const PIECE: usize = 1_024;
+/// The most bytes of one read of a request.
+pub(crate) const PIECE: usize = 1_024;
 
 /// Reads once, and returns the number of bytes, of which 0 is the end. A read that is interrupted
 /// is made again for the time that is left. The result is `None` where the time is over, or the

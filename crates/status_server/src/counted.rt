@@ -5,21 +5,28 @@ use crate::reply_kind::{kind_to_command, kind_to_list, kind_to_lookup};
 use seg_core::{SegType, Segment};
 use session_core::{Ack, Code, CommandKind, ListRequest, Listing, Message, Service};
 use std::alloc::Global;
+use std::time::{Clock, Instant};
 
-/// Answers as another service does, and counts each reply.
-pub struct Counted<'a, S> {
+/// Answers as another service does, and counts each reply, what commands did, and how long lookups
+/// took.
+pub struct Counted<'a, S, K> {
     service: S,
     replies: &'a Replies,
+    clock: &'a K,
 }
 
-impl<'a, S: Service> Counted<'a, S> {
+impl<'a, S: Service, K: Clock> Counted<'a, S, K> {
     ghost use Rattle.std.specs.Prelude.{◌≡◌};
 
     /// Counts the replies of a service from now on.
-    pub fn new(service: S, replies: &'a Replies) -> Counted<'a, S>
+    pub fn new(service: S, replies: &'a Replies, clock: &'a K) -> Counted<'a, S, K>
         ensures { result.service ≡ service }
     {
-        Counted { service, replies }
+        Counted {
+            service,
+            replies,
+            clock,
+        }
     }
 
     /// Takes the service out.
@@ -29,8 +36,28 @@ impl<'a, S: Service> Counted<'a, S> {
         let Counted {
             service,
             replies: _,
+            clock: _,
         } = self;
         service
+    }
+
+    /// Counts the reply to a command, and what the command did.
+    fn count_command(&self, kind: CommandKind, answered: &Result<Ack, Code>) {
+        self.replies.count(kind_to_command(kind, answered));
+        if let Ok(ack) = answered {
+            self.replies.count_outcome(ack.outcome);
+        }
+    }
+
+    /// Counts a lookup that was begun at a moment and is answered now, unless the clock could not be
+    /// read.
+    fn count_lookup(&self, begun: Option<Instant>) {
+        if let Some(begun) = begun
+            && let Ok(time) = begun.elapsed(self.clock)
+        {
+            let nanoseconds = u64::try_from(time.as_nanos()).unwrap_or(u64::MAX);
+            self.replies.count_lookup(nanoseconds);
+        }
     }
 }
 
@@ -42,7 +69,7 @@ pub struct CountedCommand<U> {
 }
 
 /// A command that is handed in is counted with its reply.
-impl<S: Service> Service for Counted<'_, S> {
+impl<S: Service, K: Clock> Service for Counted<'_, S, K> {
     type UnderWay = CountedCommand<S::UnderWay>;
 
     ghost State = { S.State };
@@ -55,14 +82,17 @@ impl<S: Service> Service for Counted<'_, S> {
 
     fn register(&mut self, alloc: Global, message: &[u8]) -> Result<Ack, Code> {
         let answered = self.service.register(alloc, message);
-        self.replies
-            .count(kind_to_command(CommandKind::Register, &answered));
+        self.count_command(CommandKind::Register, &answered);
         answered
     }
 
     fn lookup(&mut self, alloc: Global, message: &[u8]) -> Result<(SegType, Vec<Segment>), Code> {
+        let begun = Instant::now(self.clock).ok();
         let answered = self.service.lookup(alloc, message);
         self.replies.count(kind_to_lookup(&answered));
+        if answered.is_ok() {
+            self.count_lookup(begun);
+        }
         answered
     }
 
@@ -74,15 +104,13 @@ impl<S: Service> Service for Counted<'_, S> {
 
     fn purge(&mut self, moment: u64) -> Result<Ack, Code> {
         let answered = self.service.purge(moment);
-        self.replies
-            .count(kind_to_command(CommandKind::Purge, &answered));
+        self.count_command(CommandKind::Purge, &answered);
         answered
     }
 
     fn remove(&mut self, kind: u8, id: &[u8; 32]) -> Result<Ack, Code> {
         let answered = self.service.remove(kind, id);
-        self.replies
-            .count(kind_to_command(CommandKind::Remove, &answered));
+        self.count_command(CommandKind::Remove, &answered);
         answered
     }
 
@@ -99,7 +127,7 @@ impl<S: Service> Service for Counted<'_, S> {
     fn settle(&mut self, counted: CountedCommand<S::UnderWay>) -> Result<Ack, Code> {
         let CountedCommand { kind, under_way } = counted;
         let answered = self.service.settle(under_way);
-        self.replies.count(kind_to_command(kind, &answered));
+        self.count_command(kind, &answered);
         answered
     }
 }

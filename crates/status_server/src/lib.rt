@@ -1,13 +1,15 @@
 //! What a server counts of its replies, and how it answers the peers that ask for its numbers.
 //!
 //! To the layer above: `Counted` is a service that changes no reply of another service and counts
-//! each in `Replies`, which threads share. `answer` is the text that a peer is sent for what it
+//! each in `Replies`, which threads share, with what commands did and how long lookups took. `answer` is the text that a peer is sent for what it
 //! asks. `Visits` has the connections of such peers, and waits for none of them.
 #![tactic(auto)]
 
 mod answers;
 mod connection;
 mod counted;
+mod lookup_times;
+mod outcomes;
 mod refusals;
 mod replies;
 mod reply_kind;

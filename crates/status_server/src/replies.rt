@@ -1,17 +1,22 @@
-//! The number of replies of each kind.
+//! The number of replies of each kind, how long lookups took, and what commands did.
 
 ghost use Rattle.std.specs.Prelude.{IfOk};
+ghost use Rattle.status_server.specs.LookupTimes.{AreLookupTimes};
 ghost use Rattle.status_server.specs.Refusals.{AreRefusals};
 
+use crate::lookup_times::LookupCounters;
+use crate::outcomes::OutcomeCounters;
 use crate::refusals::{CODES, refusals_of};
 use crate::reply_kind::ReplyKind;
-use status_page::CodeCount;
+use path_db::Outcome;
+use status_page::{CodeCount, LookupTimes, OutcomeCounts};
 use std::alloc::{AllocError, Global};
 use std::array;
 use std::sync::atomic::{AtomicU64, Ordering};
 
-/// The number of replies of each kind, and of refusals with each code. Threads share the counts, so
-/// that no clause says what a count is.
+/// The number of replies of each kind, and of refusals with each code, how long lookups took, and
+/// what became of the segments and rows of commands. Threads share the counts, so that no clause
+/// says what a count is.
 #[derive(Drop)]
 pub struct Replies {
     registered: AtomicU64,
@@ -21,6 +26,8 @@ pub struct Replies {
     listed: AtomicU64,
     /// The refusals, by their codes.
     refused: [AtomicU64; CODES],
+    outcomes: OutcomeCounters,
+    lookups: LookupCounters,
 }
 
 impl Replies {
@@ -33,12 +40,38 @@ impl Replies {
             removed: AtomicU64::new(0),
             listed: AtomicU64::new(0),
             refused: array::from_fn(|_code| AtomicU64::new(0)),
+            outcomes: OutcomeCounters::new(),
+            lookups: LookupCounters::new(),
         }
     }
 
     /// Counts a reply of a kind.
     pub(crate) fn count(&self, kind: ReplyKind) {
         self.counter(kind).fetch_add(1, Ordering::SeqCst);
+    }
+
+    /// Counts what a command did.
+    pub fn count_outcome(&self, outcome: Outcome) {
+        self.outcomes.count(outcome);
+    }
+
+    /// Counts how long a lookup took, in nanoseconds.
+    pub(crate) fn count_lookup(&self, nanoseconds: u64) {
+        self.lookups.count(nanoseconds);
+    }
+
+    /// What became of the segments and rows of commands, by one read of each count. No clause says
+    /// which numbers these are.
+    pub fn outcomes(&self) -> OutcomeCounts {
+        self.outcomes.counts()
+    }
+
+    /// How long lookups took, by one read of each count. No clause says which numbers the counts
+    /// had.
+    pub fn lookup_times(&self) -> LookupTimes
+        ensures { AreLookupTimes result }
+    {
+        self.lookups.times()
     }
 
     /// The number of replies of a kind, by one read of its count. No clause says which number that
@@ -59,8 +92,8 @@ impl Replies {
         }
     }
 
-    /// The number of messages that were refused with each code, for codes with which a message was,
-    /// in rising order. No clause says which numbers the counts had.
+    /// The number of messages that were refused with each code, for the codes with which messages
+    /// can be refused or were, in rising order. No clause says which numbers the counts had.
     #[tactic(auto, using(crate::proofs::RefusalLemmas::are_refusals))]
     pub fn refusals(&self, alloc: Global) -> Result<Vec<CodeCount>, AllocError>
         ensures { IfOk result (λ refusals. AreRefusals CODES refusals.items) }

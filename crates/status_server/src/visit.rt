@@ -6,6 +6,7 @@ ghost use Rattle.status_server.specs.Requests.{IsPieceTaken};
 ghost use Rattle.status_server.specs.Turns.{IfAsks, IsReadOn, IsSentOn};
 ghost use Rattle.status_server.specs.declared.visit.Stage.TheVariants.{Reading, Sending};
 
+use crate::connection::PIECE;
 use libc::net::{POLLIN, POLLOUT};
 use libc::types::pollfd;
 use paced_stream::Deadline;
@@ -19,9 +20,6 @@ use std::time::{Clock, Duration};
 
 /// The most bytes of the head of a request, rounded up to a whole read.
 const MOST_HEAD: usize = 4_096;
-
-/// The most bytes of one read.
-const PIECE: usize = 1_024;
 
 /// The longest time until the first byte, in milliseconds. A peer that asks for the numbers sends
 /// its request at once.
@@ -48,7 +46,7 @@ pub(crate) enum Turn {
     Asks(Asked),
     /// The next step is made once the connection can be read or written.
     Waits,
-    /// The connection is to be closed.
+    /// The connection has to be closed.
     Over,
 }
 

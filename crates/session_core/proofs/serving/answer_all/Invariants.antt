@@ -1,3 +1,4 @@
+use Rattle.session_core.specs.declared.ahead.TheConstants.{MOST_AHEAD}
 use Rattle.std.proofs.Common.{◌≤◌, length}
 use Rattle.session_core.specs.Ahead.{AreHandedIn}
 use Rattle.session_core.proofs.Exchanges.{HasAnswered}
@@ -8,7 +9,7 @@ invariant-loop-reply g l = record {
   answered : HasAnswered l.form g.S.Service.answers (g.S.Service.state l.fn.session.service) l.fn.session.inbox (g.S.Service.state l.session.service) l.session.inbox
       (g.W.Sink.contents l.fn.writer) (g.W.Sink.contents l.writer) l.count l.sum;
   ahead : AreHandedIn g.S.Service.is_for (g.S.Service.state l.session.service) l.session.ahead.queue.items l.session.inbox;
-  few : length l.session.ahead.queue.items ≤ 32;
+  few : length l.session.ahead.queue.items ≤ MOST_AHEAD;
 }
 
 abbrev pub decreases-loop-reply : goal.decreases-loop-reply

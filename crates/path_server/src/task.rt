@@ -1,4 +1,4 @@
-//! The guests that the threads of a server attend to.
+//! The tasks that the threads of a server attend to.
 
 use crate::role::Role;
 use std::time::Duration;
@@ -10,14 +10,14 @@ pub(crate) struct Seat {
     pub(crate) number: usize,
 }
 
-/// A guest that a thread attends to. The server keeps what the thread takes: the connection of a
+/// A task that a thread attends to. The server keeps what the thread takes: the connection of a
 /// peer in the peer's seat, and the listener for requests of the numbers.
 #[derive(Clone, Copy)]
-pub(crate) enum Guest {
+pub(crate) enum Task {
     /// The session of the peer in this seat.
     Session(Seat),
-    /// The peers that ask for the numbers.
+    /// The answers to peers that ask for the numbers.
     Status,
-    /// The server itself, which purges after each of these periods.
+    /// The server's own purges, one after each such period.
     Purges(Duration),
 }
