@@ -13,7 +13,7 @@ use Rattle.seg_check.specs.Checking.{first_refusal}
 use Rattle.path_db.specs.declared.command.Command.{Command}
 use Rattle.path_db.specs.declared.command.Command.TheVariants as command
 use Rattle.path_db.specs.Command.{database_after}
-use Rattle.path_db.specs.Database.{RowView, rows_len}
+use Rattle.row_map.specs.Database.{RowView, rows_len}
 use Rattle.session_core.specs.declared.message.Message.TheVariants.{Register, Purge, Remove}
 use Rattle.session_core.specs.declared.service.Ack.{Ack}
 use Rattle.session_core.specs.Frames.{MessageView}

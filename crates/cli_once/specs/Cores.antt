@@ -24,10 +24,7 @@ IsNoIsdAs text TooLarge = IsTooLargeText text
 -- The program's fault for such a text.
 abbrev pub RefusesText : List ℕ → Fault → Type 0
 RefusesText text (fault.Text e) = IsNoIsdAs text e
-RefusesText text fault.Memory = ⊥
-RefusesText text fault.Hex = ⊥
-RefusesText text (fault.Frame e) = ⊥
-RefusesText text fault.Output = ⊥
+RefusesText text _ = ⊥
 
 -- The first text that is no ISD-AS, and why.
 pub record FirstRefusal (texts : List (List ℕ)) (e : IaError) : Type 0 where
@@ -56,14 +53,9 @@ pub record IsCoreList (texts : List (List ℕ)) : Type 0 where
 abbrev pub RefusesList : List ℕ → Fault → Type 0
 RefusesList list (fault.Text e) = FirstRefusal (texts_of list) e
 RefusesList list fault.Memory = IsCoreList (texts_of list)
-RefusesList list fault.Hex = ⊥
-RefusesList list (fault.Frame e) = ⊥
-RefusesList list fault.Output = ⊥
+RefusesList list _ = ⊥
 
 -- Why a list is refused by the checks that take no memory.
 abbrev pub RefusesTexts : List ℕ → Fault → Type 0
 RefusesTexts list (fault.Text e) = FirstRefusal (texts_of list) e
-RefusesTexts list fault.Memory = ⊥
-RefusesTexts list fault.Hex = ⊥
-RefusesTexts list (fault.Frame e) = ⊥
-RefusesTexts list fault.Output = ⊥
+RefusesTexts list _ = ⊥

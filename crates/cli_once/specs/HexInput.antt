@@ -17,9 +17,7 @@ without_blanks text = filter (λ byte. not (is_blank byte)) text
 abbrev pub RefusesDigits : List ℕ → Fault → Type 0
 RefusesDigits digits fault.Hex = IsErr (decode_of digits)
 RefusesDigits digits fault.Memory = IsOk (decode_of digits)
-RefusesDigits digits (fault.Text e) = ⊥
-RefusesDigits digits (fault.Frame e) = ⊥
-RefusesDigits digits fault.Output = ⊥
+RefusesDigits digits _ = ⊥
 
 -- Why a text is refused, with its blanks left out.
 abbrev pub RefusesHex : List ℕ → Fault → Type 0

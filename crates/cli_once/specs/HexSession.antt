@@ -15,11 +15,9 @@ use Rattle.cli_once.specs.Memory.{Served, Answers}
 -- Why reading stops before the end of the input.
 abbrev pub InputEndsEarly : ℕ → List (List ℕ) → FrameError → Type 0
 InputEndsEarly turns pieces error.NoMemory = Unit {0}
-InputEndsEarly turns pieces error.Length = ⊥
-InputEndsEarly turns pieces error.Kind = ⊥
 InputEndsEarly turns pieces error.Read = Unit {0}
-InputEndsEarly turns pieces error.Write = ⊥
 InputEndsEarly turns pieces error.Turns = length pieces ≡ turns
+InputEndsEarly turns pieces _ = ⊥
 
 -- The input was not read whole, and nothing was written.
 pub record IsUnread (turns : ℕ) (pieces : List (List ℕ)) (output output_left : Option (List ℕ)) (result : Result ℕ Fault) : Type 0 where

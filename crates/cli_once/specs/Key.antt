@@ -22,6 +22,4 @@ pub record IsKeyTooLong (text : List ℕ) : Type 0 where
 abbrev pub RefusesKey : List ℕ → Fault → Type 0
 RefusesKey text fault.Hex = IsErr (decode_of text) ⊎ IsKeyTooLong text
 RefusesKey text fault.Memory = IsKeyText text
-RefusesKey text (fault.Text e) = ⊥
-RefusesKey text (fault.Frame e) = ⊥
-RefusesKey text fault.Output = ⊥
+RefusesKey text _ = ⊥

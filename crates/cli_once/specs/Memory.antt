@@ -10,7 +10,7 @@ use Rattle.seg_check.specs.Checking.{first_refusal}
 use Rattle.group_core.specs.declared.submit_error.SubmitError.TheVariants.{Full, Exhausted}
 use Rattle.path_db.specs.declared.command.Command.{Command}
 use Rattle.path_db.specs.declared.command.Command.TheVariants as command
-use Rattle.path_db.specs.Database.{RowView, rows_len}
+use Rattle.row_map.specs.Database.{RowView, rows_len}
 use Rattle.path_db.specs.Command.{database_after, outcome_of}
 use Rattle.path_db.specs.Answer.{segments_of}
 use Rattle.seg_lookup.specs.declared.error.LookupError.{LookupError}
@@ -122,12 +122,8 @@ message_step served (message.List request) = list_step served request (type_of r
 
 -- The reply shows segments, or that there are none.
 abbrev pub ShowsLookup : ReplyView → Type 0
-ShowsLookup (Registered ack) = ⊥
 ShowsLookup (Found kind segments) = Unit {0}
-ShowsLookup (Purged ack) = ⊥
-ShowsLookup (Removed ack) = ⊥
-ShowsLookup (Listed more kind segments) = ⊥
-ShowsLookup (Refused code) = ⊥
+ShowsLookup _ = ⊥
 
 -- Memory may be refused for a message. A registration whose outline is refused, a removal or a list
 -- whose type is none, and a lookup that asks for no segments take no memory.

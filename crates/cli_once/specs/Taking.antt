@@ -8,7 +8,7 @@ use Rattle.once_store.specs.declared.error.TakeError.{TakeError}
 use Rattle.once_store.specs.declared.error.TakeError.TheVariants as take
 use Rattle.once_store.specs.Taking.{FitStore}
 use Rattle.reply_codes.specs.declared.refusal.Refusal.{Refusal}
-use Rattle.reply_codes.specs.declared.refusal.Refusal.TheVariants.{NoMemory, Message, Check, Lookup, Submit, NoReader, Stopped, NotAwaited, Future, NoCommands}
+use Rattle.reply_codes.specs.declared.refusal.Refusal.TheVariants.{NoMemory, Submit}
 use Rattle.cli_once.specs.Memory.{Served, ack_of, after_command}
 
 -- The refusal that says why a store did not take a command.
@@ -32,16 +32,4 @@ MayAcknowledge old c (Err NoMemory) new = (new ≡ old) ⊎ ServesCommand old c 
 MayAcknowledge old c (Err (Submit submit.Full)) new =
     (old.place ≢ 2 ^ 64 - 1) × (¬ FitStore (database_after old.rows c)) × (new ≡ old)
 MayAcknowledge old c (Err (Submit submit.Exhausted)) new = (old.place ≡ 2 ^ 64 - 1) × (new ≡ old)
-MayAcknowledge old c (Err (Message e)) new = ⊥
-MayAcknowledge old c (Err (Check e)) new = ⊥
-MayAcknowledge old c (Err (Lookup e)) new = ⊥
-MayAcknowledge old c (Err (Submit submit.Busy)) new = ⊥
-MayAcknowledge old c (Err (Submit submit.TooLarge)) new = ⊥
-MayAcknowledge old c (Err (Submit submit.Stopped)) new = ⊥
-MayAcknowledge old c (Err (Submit submit.NoMemory)) new = ⊥
-MayAcknowledge old c (Err (Submit submit.OldStore)) new = ⊥
-MayAcknowledge old c (Err NoReader) new = ⊥
-MayAcknowledge old c (Err Stopped) new = ⊥
-MayAcknowledge old c (Err NotAwaited) new = ⊥
-MayAcknowledge old c (Err Future) new = ⊥
-MayAcknowledge old c (Err NoCommands) new = ⊥
+MayAcknowledge old c _ new = ⊥

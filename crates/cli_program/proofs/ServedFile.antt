@@ -1,6 +1,6 @@
 -- What serving leaves of the file of a store: for `serve_site`.
 use Rattle.std.proofs.Common.{◌≡◌, ℕ, List, Bool, IsTrue, Option, Some, IfSome, sym, subst}
-use Rattle.path_db.specs.Database.{RowView}
+use Rattle.row_map.specs.Database.{RowView}
 use Rattle.sector_dev.specs.Disk.{Disk, IsHonest, reads_of}
 use Rattle.sector_dev.specs.FileDevice.{front, CoversImages}
 use Rattle.sector_dev.specs.Image.{EveryImage, IsFromImage}

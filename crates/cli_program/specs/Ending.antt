@@ -3,19 +3,21 @@ use Rattle.std.specs.Prelude.{ℕ, List, ◌++◌, codes, Result, Ok, Err, if◌
 use Rattle.cli_once.specs.Fault as session
 use Rattle.cli_once.specs.declared.error.Fault.TheVariants as session_fault
 use Rattle.cli_store.specs.Fault as store
+use Rattle.cli_ask.specs.Faults as asked
 use Rattle.path_server.specs.declared.error.RunError.{RunError}
 use Rattle.path_server.specs.declared.error.RunError.TheVariants as server
 use Rattle.cli_program.specs.declared.ending.Done.{Done}
 use Rattle.cli_program.specs.declared.ending.Done.TheVariants.{Carried, Refused}
 use Rattle.cli_program.specs.declared.ending.Ended.{Ended}
 use Rattle.cli_program.specs.declared.ending.Failed.{Failed}
-use Rattle.cli_program.specs.declared.ending.Ended.TheVariants.{Session, Store, Net}
+use Rattle.cli_program.specs.declared.ending.Ended.TheVariants.{Session, Store, Net, Ask}
 
 -- The words that say why the program ends.
 abbrev pub ended_text : Ended → List ℕ
 ended_text (Session fault) = session.session_fault_text fault
 ended_text (Store fault) = store.store_fault_text fault
 ended_text Net = codes "net"
+ended_text (Ask fault) = asked.ask_fault_text fault
 
 -- The last line of the program on standard error.
 abbrev pub ended_line : Ended → List ℕ

@@ -8,6 +8,8 @@ use Rattle.cli_once.specs.declared.error.Fault.TheVariants as session_fault
 use Rattle.store_open.specs.declared.error.OpenError.TheVariants as opening
 use Rattle.cli_store.specs.declared.error.Fault.{Fault}
 use Rattle.cli_store.specs.declared.error.Fault.TheVariants as store_fault
+use Rattle.cli_ask.specs.declared.error.AskFault.TheVariants as ask_fault
+use Rattle.cli_ask.specs.Faults.{ask_fault_of, word_number}
 use Rattle.cli_program.specs.Ending.{ended_of}
 use Rattle.cli_program.specs.declared.ending.Ended.{Ended}
 use Rattle.cli_program.specs.declared.ending.Ended.TheVariants as ended
@@ -26,6 +28,9 @@ ended_by (failure.Core text error) = ended.Session (session_fault.Text error)
 ended_by (failure.AnyCore text) = ended.Session (session_fault.Text text_error.BadText)
 ended_by failure.Key = ended.Session session_fault.Hex
 ended_by (failure.Address option text) = ended.Net
+ended_by (failure.Word word error) = ended.Ask (ask_fault.Word (word_number error))
+ended_by (failure.Peer text) = ended.Net
+ended_by (failure.Asked text error) = ended.Ask (ask_fault_of error)
 ended_by (failure.File path error) = or_memory (error_kind error) (ended.Store store_fault.File)
 ended_by (failure.Store path fault) = ended.Store fault
 ended_by (failure.Listen text error) = or_memory (error_kind error) ended.Net

@@ -1,6 +1,6 @@
 -- What serving leaves of the file of a store.
 use Rattle.std.specs.Prelude.{List, ℕ}
-use Rattle.path_db.specs.Database.{RowView}
+use Rattle.row_map.specs.Database.{RowView}
 use Rattle.sector_dev.specs.Disk.{Disk, IsHonest, reads_of}
 use Rattle.sector_dev.specs.FileDevice.{front}
 use Rattle.sector_dev.specs.Image.{IsImage, IsFromImage}

@@ -27,6 +27,8 @@ pub enum Ended {
     Store(cli_store::Fault),
     /// The address cannot be read or bound, or the listener broke.
     Net,
+    /// A server that was asked has not answered, or the request cannot be read.
+    Ask(cli_ask::AskFault),
 }
 
 impl fmt::Display for Ended {
@@ -39,6 +41,7 @@ impl fmt::Display for Ended {
             Ended::Session(fault) => write!(f, "error: {}", *fault),
             Ended::Store(fault) => write!(f, "error: {}", *fault),
             Ended::Net => write!(f, "error: net"),
+            Ended::Ask(fault) => write!(f, "error: {}", *fault),
         }
     }
 }

@@ -5,6 +5,7 @@ ghost use Rattle.std.specs.IoError.{error_kind};
 ghost use Rattle.cli_program.specs.Failures.{ended_by, is_lasting, is_lasting_fault, is_lasting_kind, or_memory};
 
 use crate::ending::Ended;
+use cli_ask::{AskError, AskFault, WordError};
 use cli_once::Fault;
 use cli_store::Fault as StoreFault;
 use cli_words::{CORES, KEY};
@@ -21,7 +22,7 @@ use store_open::OpenError;
 pub(crate) enum Failure<'a> {
     /// A text of the core ASes is none.
     Core(&'a str, IaError),
-    /// A text of the core ASes stands for more than one AS.
+    /// A text of the core ASes means more than one AS.
     AnyCore(&'a str),
     /// The key is none. Its text is not shown.
     Key,
@@ -33,6 +34,12 @@ pub(crate) enum Failure<'a> {
     Store(&'a str, StoreFault),
     /// The program does not listen at an address.
     Listen(&'a str, io::Error),
+    /// A word of a request is not what it has to be.
+    Word(&'a str, WordError),
+    /// The text of a server's address is no socket address.
+    Peer(&'a str),
+    /// A server at an address has not answered.
+    Asked(&'a str, AskError),
     /// The server ended before its sessions were served.
     Server(RunError),
     /// A session of `once` ended.
@@ -52,7 +59,9 @@ impl Failure<'_> {
             Failure::Core(_, error) => Ended::Session(Fault::Text(*error)),
             Failure::AnyCore(_) => Ended::Session(Fault::Text(IaError::BadText)),
             Failure::Key => Ended::Session(Fault::Hex),
-            Failure::Address(_, _) => Ended::Net,
+            Failure::Address(_, _) | Failure::Peer(_) => Ended::Net,
+            Failure::Word(_, error) => Ended::Ask(AskFault::Word(error.number())),
+            Failure::Asked(_, error) => Ended::Ask(error.fault()),
             Failure::Listen(_, error) => or_for_memory(error, Ended::Net),
             Failure::File(_, error) => or_for_memory(error, Ended::Store(StoreFault::File)),
             Failure::Store(_, fault) => Ended::Store(*fault),
@@ -116,7 +125,13 @@ impl Failure<'_> {
                 true,
             Failure::File(_, error) | Failure::Listen(_, error) => is_lasting_kind(error.kind()),
             Failure::Store(_, fault) => is_lasting_fault(*fault),
-            Failure::Server(_) | Failure::Session(_) | Failure::Memory | Failure::Output => false,
+            Failure::Word(_, _)
+            | Failure::Peer(_)
+            | Failure::Asked(_, _)
+            | Failure::Server(_)
+            | Failure::Session(_)
+            | Failure::Memory
+            | Failure::Output => false,
         }
     }
 }
@@ -136,6 +151,9 @@ impl Display for Failure<'_> {
                     "--{option}: '{text}' is no socket address, as 127.0.0.1:30252"
                 )
             }
+            Failure::Word(word, error) => write!(f, "'{word}' {error}"),
+            Failure::Peer(text) => write!(f, "'{text}' is no socket address, as 127.0.0.1:30252"),
+            Failure::Asked(text, error) => write!(f, "{text}: {error}"),
             Failure::File(path, error) => write_no_file(f, path, error),
             Failure::Store(path, fault) => write_store_failure(f, path, *fault),
             Failure::Listen(text, error) => write!(f, "cannot listen at {text}: {error}"),

@@ -6,6 +6,7 @@
 #![tactic(auto)]
 
 mod addresses;
+mod asking;
 mod ending;
 mod failure;
 mod input;
@@ -14,6 +15,8 @@ mod notices;
 mod options;
 mod output;
 mod priority;
+mod progress;
+mod reasons;
 mod running;
 mod server_options;
 mod serving;
@@ -22,6 +25,7 @@ mod signals;
 mod starting;
 mod stores;
 mod system;
+mod usage;
 mod waiting;
 
 pub use ending::{Done, Ended, Failed, status_of};

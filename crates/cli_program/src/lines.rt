@@ -11,7 +11,7 @@ const LONGEST: u64 = 1;
 
 /// The lines that wait, and whether more are to come.
 #[derive(Drop)]
-struct Desk {
+struct Shared {
     waiting: Waiting,
     /// A line that waited is being printed.
     is_printing: bool,
@@ -19,7 +19,7 @@ struct Desk {
     is_ended: bool,
 }
 
-impl Desk {
+impl Shared {
     /// Whether lines are still to be printed.
     fn is_busy(&self) -> bool {
         self.is_printing || !self.waiting.is_empty()
@@ -30,7 +30,7 @@ impl Desk {
 /// a few moves alone.
 #[derive(Drop)]
 pub(crate) struct Lines {
-    desk: Mutex<Desk>,
+    shared: Mutex<Shared>,
     /// Rung when a line comes, and when no more come.
     came: Condvar,
     /// Rung when a line is printed.
@@ -42,13 +42,13 @@ pub(crate) struct Lines {
 impl Lines {
     /// No lines yet. Each will begin with its priority where `is_marked` says so.
     pub(crate) fn new(alloc: Global, is_marked: bool) -> Result<Lines, AllocError> {
-        let desk = Desk {
+        let shared = Shared {
             waiting: Waiting::new(alloc)?,
             is_printing: false,
             is_ended: false,
         };
         Ok(Lines {
-            desk: Mutex::new(desk),
+            shared: Mutex::new(shared),
             came: Condvar::new(),
             printed: Condvar::new(),
             is_marked,
@@ -57,42 +57,45 @@ impl Lines {
 
     /// Hands a line over. Where no room is left it is dropped and counted.
     pub(crate) fn push<R: Wait>(&self, rt: &R, line: Line) {
-        self.desk.lock(rt).waiting.push(line);
+        self.shared.lock(rt).waiting.push(line);
         self.came.notify_all();
     }
 
     /// The number of lines that were dropped.
     pub(crate) fn dropped<R: Wait>(&self, rt: &R) -> u64 {
-        self.desk.lock(rt).waiting.all_dropped()
+        self.shared.lock(rt).waiting.all_dropped()
     }
 
     /// Waits for the next line to print. The result is `None` once all were taken and no more come.
     fn next<R: Wait>(&self, rt: &R) -> Option<Taken> {
-        let mut desk = self.came.wait_while(rt, self.desk.lock(rt), |desk| {
-            desk.waiting.is_empty() && !desk.is_ended
+        let mut shared = self.came.wait_while(rt, self.shared.lock(rt), |shared| {
+            shared.waiting.is_empty() && !shared.is_ended
         });
-        let taken = desk.waiting.take();
-        desk.is_printing = taken.is_some();
+        let taken = shared.waiting.take();
+        shared.is_printing = taken.is_some();
         taken
     }
 
     /// The line that was taken last is printed.
     fn note_printed<R: Wait>(&self, rt: &R) {
-        self.desk.lock(rt).is_printing = false;
+        self.shared.lock(rt).is_printing = false;
         self.printed.notify_all();
     }
 
     /// Waits until no line waits or is being printed, for at most `LONGEST` seconds.
     pub(crate) fn flush<R: Wait + Clock>(&self, rt: &R) {
         let longest = Duration::from_secs(LONGEST);
-        let _flushed = self
-            .printed
-            .wait_timeout_while(rt, self.desk.lock(rt), longest, |desk| desk.is_busy());
+        let _flushed = self.printed.wait_timeout_while(
+            rt,
+            self.shared.lock(rt),
+            longest,
+            |shared| shared.is_busy(),
+        );
     }
 
     /// No more lines come. Waits as `flush` does.
     pub(crate) fn end<R: Wait + Clock>(&self, rt: &R) {
-        self.desk.lock(rt).is_ended = true;
+        self.shared.lock(rt).is_ended = true;
         self.came.notify_all();
         self.flush(rt);
     }

@@ -7,8 +7,9 @@ use crate::lines::Lines;
 use crate::priority::Priority;
 use crate::signals::Signals;
 use crate::system::Host;
+use crate::usage::UsageFiles;
 use crate::waiting::Line;
-use path_server::{Report, Reports};
+use path_server::{Report, Reports, Usage};
 use sector_dev::LastFault;
 use std::alloc::{AllocError, Global};
 use std::io::Read;
@@ -22,6 +23,8 @@ struct Shared {
     signals: Signals,
     /// What failed last in the store's file.
     last_fault: Arc<LastFault>,
+    /// What says what the process uses, where the system has it.
+    usage: Option<UsageFiles>,
 }
 
 /// Takes the reports of a server, and has a thread of its own print them on standard error, a line
@@ -42,6 +45,7 @@ impl<R: Host> Notices<R> {
         is_quiet: bool,
         is_marked: bool,
         last_fault: &Arc<LastFault>,
+        usage: Option<UsageFiles>,
     ) -> Result<Notices<R>, AllocError> {
         let alloc: Global = rt.alloc();
         let shared = Arc::new(
@@ -50,6 +54,7 @@ impl<R: Host> Notices<R> {
                 lines: Lines::new(alloc, is_marked)?,
                 signals: Signals::new(),
                 last_fault: Arc::try_clone(last_fault)?,
+                usage,
             },
         )?;
         if !is_quiet {
@@ -176,5 +181,12 @@ impl<R: Wait> Reports for Notices<R> {
 
     fn dropped(&self) -> u64 {
         self.shared.lines.dropped(&self.rt)
+    }
+
+    fn usage(&self) -> Option<Usage> {
+        match &self.shared.usage {
+            Some(files) => files.usage(),
+            None => None,
+        }
     }
 }

@@ -42,7 +42,7 @@ pub(crate) fn core_ases_in<'a>(
     }
 }
 
-/// The first text of a list with a part that is 0, which stands for more than one AS.
+/// The first text of a list with a part that is 0, which means more than one AS.
 fn wildcard_in(list: &str) -> Option<&str> {
     for text in list.split(',') {
         if let Ok(core) = parse(text) {

@@ -2,10 +2,12 @@
 
 ghost use Rattle.std.specs.Prelude.{◌≤◌};
 
+use crate::asking::ask_server;
 use crate::ending::{Done, Ended, Failed, status_of};
 use crate::failure::Failure;
 use crate::output::Output;
 use crate::priority::Priority;
+use crate::reasons::more_of;
 use crate::serving::serve_file;
 use crate::session::answer;
 use crate::stores::{copy_file, format_file, show_file, status_of_file, upgrade_file};
@@ -88,16 +90,21 @@ fn dispatch<'a, R: System, I: Read + Drop + Send + 'static, O: Write>(
         Subcommand::Status => status_of_file(rt, options, output),
         Subcommand::Upgrade => upgrade_file(rt, options, output),
         Subcommand::Run => serve_file(rt, options, input, output),
+        Subcommand::Ask => ask_server(rt, options, &mut input, output),
     }
 }
 
 /// Prints a line that says why the words are not carried out. A line that cannot be printed is left
 /// out.
-fn explain<O>(rt: &impl Eprint, failure: &Failure<'_>, output: &Output<O>, is_marked: bool) {
+fn explain<R: System, O>(rt: &R, failure: &Failure<'_>, output: &Output<O>, is_marked: bool) {
     let mark = mark_where(is_marked);
-    let _ = match (failure, output.error()) {
-        (Failure::Output, Some(error)) => eprintln!(rt; "{mark}pathd: {}: {error}", *failure),
-        _ => eprintln!(rt; "{mark}pathd: {}", *failure),
+    if let (Failure::Output, Some(error)) = (failure, output.error()) {
+        let _ = eprintln!(rt; "{mark}pathd: {}: {error}", *failure);
+        return;
+    }
+    let _ = match more_of(rt, failure) {
+        Some(more) => eprintln!(rt; "{mark}pathd: {}{more}", *failure),
+        None => eprintln!(rt; "{mark}pathd: {}", *failure),
     };
 }
 
@@ -110,12 +117,20 @@ fn mark_where(is_marked: bool) -> &'static str {
     }
 }
 
+/// What `clap` says of a number that has something else than digits.
+const NO_DIGIT: &str = "invalid digit found in string";
+
 /// Prints what was wrong with the command line, or the help that it asked for.
-fn refuse(rt: &(impl Print + Eprint), error: &Error) -> Result<Done, Fault> {
+fn refuse<R: System>(rt: &R, error: &Error) -> Result<Done, Fault> {
     if error.kind() == ErrorKind::OutOfMemory {
         return Err(Fault::Memory);
     }
-    error.print(rt).map_err(|_| Fault::Output)?;
+    let text = format!(in rt.alloc(); "{}", *error).map_err(|_| Fault::Memory)?;
+    match text.split_once(NO_DIGIT) {
+        Some((front, end)) => eprint!(rt; "{front}not decimal digits{end}"),
+        None => error.print(rt),
+    }
+    .map_err(|_| Fault::Output)?;
     Ok(if error.exit_code() == 0 {
         Done::Carried
     } else {

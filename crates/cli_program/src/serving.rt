@@ -15,6 +15,7 @@ use crate::server_options::options_of;
 use crate::starting::{say_addresses, say_opened, say_overfull, say_without_cores};
 use crate::stores::{device_over, path_of};
 use crate::system::{Host, System};
+use crate::usage::UsageFiles;
 use clap::ArgMatches;
 use cli_words::{CORES, LOG_PRIORITY, QUIET, STOP_ON_END_OF_INPUT};
 use path_hub::Left;
@@ -63,7 +64,8 @@ fn serve_noted<'a, R: System, I: Read + Drop + Send + 'static, O: Write>(
     output: &mut O,
 ) -> Result<u64, Failure<'a>> {
     let (is_quiet, is_marked) = (words.get_flag(QUIET), words.get_flag(LOG_PRIORITY));
-    let Ok(notices) = Notices::new(rt, is_quiet, is_marked, &site.last_fault) else {
+    let usage = UsageFiles::open(rt);
+    let Ok(notices) = Notices::new(rt, is_quiet, is_marked, &site.last_fault, usage) else {
         return Err(Failure::Memory);
     };
     if words.get_str(CORES).is_none() {

@@ -1,26 +1,33 @@
 //! The commands over the file of a device.
 
 use crate::failure::Failure;
+use crate::progress::{MEBIBYTE, Progress};
 use clap::ArgMatches;
 use cli_store::{
     Consent, Fault, Wishes, ask, copy, decide, format, show, show_layout, sizes_for, status,
     upgrade,
 };
-use cli_words::{CHECKPOINT, DEVICE, FORCE, JOURNAL, LAYOUT, NEW, ROWS, TARGET};
-use device_files::{LockedFile, open, open_to_read};
+use cli_words::{CHECKPOINT, DEVICE, FORCE, JOURNAL, JSON, LAYOUT, NEW, RESERVE, ROWS, TARGET};
+use device_files::{LockedFile, Room, open, open_to_read};
+use row_lines::RowForm;
 use sector_dev::{FileDevice, SECTOR, SystemFile};
 use std::alloc::Global;
 use std::fs::File;
 use std::io;
 use std::io::{BufWriter, Read, Write};
 use std::rt::Files;
+use std::time::Clock;
 use store_open::{Geometry, OpenError, has_title, read_geometry};
+
+/// The least length of a file that is announced, in bytes: zeros for a shorter one are written
+/// within a second or so.
+const LONG: u64 = 256 * MEBIBYTE;
 
 /// Makes a file, whose former contents are dropped where it exists, and a store on it. On a block
 /// device only the store is made. Where a store is there, that is done only if the options say so,
 /// or whoever is asked agrees; `is_terminal` says that a person can be asked. The file is locked
 /// before it is looked at, and nothing of a store that is kept is written.
-pub(crate) fn format_file<'a, R: AllocGlobal + Files<File = File>, I: Read, O: Write>(
+pub(crate) fn format_file<'a, R: AllocGlobal + Files<File = File> + Eprint, I: Read, O: Write>(
     rt: &R,
     options: &ArgMatches<'a>,
     input: &mut I,
@@ -53,8 +60,9 @@ fn ask_for<'a, I: Read, O: Write>(
     said_of(path, ask(alloc, path, &mut device, wishes, input, output))
 }
 
-/// Makes a store of the sizes that the options say on a file, and whatever was there is lost.
-fn make_store<'a, R: AllocGlobal + Files<File = File>, O: Write>(
+/// Makes a store of the sizes that the options say on a file, and whatever was there is lost. The
+/// file gets all its room at once where the options say so, which is announced where it takes long.
+fn make_store<'a, R: AllocGlobal + Files<File = File> + Eprint, O: Write>(
     rt: &R,
     options: &ArgMatches<'a>,
     file: LockedFile,
@@ -69,7 +77,15 @@ fn make_store<'a, R: AllocGlobal + Files<File = File>, O: Write>(
         },
     );
     let len = geometry.sectors().saturating_mul(SECTOR as u64);
-    let mut device = device_over(path, file.into_zeros(rt, path, len))?;
+    let room = if options.get_flag(RESERVE) {
+        Room::Now
+    } else {
+        Room::Later
+    };
+    if room == Room::Now && len >= LONG {
+        let _ = eprintln!(rt; "pathd: {path}: writes {} MiB of zeros", len / MEBIBYTE);
+    }
+    let mut device = device_over(path, file.into_zeros(rt, path, len, room))?;
     said_of(path, format(rt.alloc(), &mut device, geometry, output))
 }
 
@@ -88,8 +104,9 @@ fn sizes_of(options: &ArgMatches<'_>, others: Geometry) -> Geometry {
 
 /// Makes a file, whose former contents are dropped where it exists and has no store, and on it a
 /// store with the rows and the place of another file's store, which is only read, beside other
-/// processes that read it. Sizes that are left out are those of the other store.
-pub(crate) fn copy_file<'a, R: AllocGlobal + Files<File = File>, O: Write>(
+/// processes that read it. Sizes that are left out are those of the other store. Standard error says
+/// each second how far it has come.
+pub(crate) fn copy_file<'a, R: AllocGlobal + Files<File = File> + Clock + Eprint, O: Write>(
     rt: &R,
     options: &ArgMatches<'a>,
     output: &mut O,
@@ -102,7 +119,9 @@ pub(crate) fn copy_file<'a, R: AllocGlobal + Files<File = File>, O: Write>(
         Err(_) => return said_of(path, Err(Fault::Open(OpenError::Device))),
     };
     let target = options.get_str(TARGET).unwrap_or("");
-    let mut to = empty_device(rt, target, geometry)?;
+    let to = empty_device(rt, target, geometry)?;
+    let mut from = Progress::over(rt, from, path, "read");
+    let mut to = Progress::over(rt, to, target, "wrote");
     match copy(rt.alloc(), &mut from, &mut to, geometry, output) {
         Err(Fault::Open(error)) => said_of(path, Err(Fault::Open(error))),
         copied => said_of(target, copied),
@@ -124,7 +143,7 @@ fn empty_device<'a, R: AllocGlobal + Files<File = File>>(
         Err(_) => return Err(Failure::Store(path, Fault::Open(OpenError::Device))),
     }
     let len = geometry.sectors().saturating_mul(SECTOR as u64);
-    device_over(path, file.into_zeros(rt, path, len))
+    device_over(path, file.into_zeros(rt, path, len, Room::Later))
 }
 
 /// Prints the rows of a file's store and its place, or the layout of the file, which is then opened
@@ -145,25 +164,44 @@ pub(crate) fn show_file<'a, R: AllocGlobal + Files<File = File>, O: Write>(
     let Ok(mut output) = BufWriter::new(rt.alloc(), output) else {
         return Err(Failure::Memory);
     };
-    let shown = show_device(rt.alloc(), device, is_layout, &mut output);
+    let shown = if is_layout {
+        show_regions(rt.alloc(), device, &mut output)
+    } else {
+        show_rows(rt.alloc(), device, form_in(options), &mut output)
+    };
     let flushed = output.flush();
     said_of(path, shown)?;
     flushed.map_err(|_| Failure::Output)
 }
 
-/// Prints the rows of a device's store and its place, or the layout of the device.
-fn show_device<O: Write>(
+/// Prints the layout of a device.
+fn show_regions<O: Write>(
     alloc: Global,
     mut device: FileDevice<SystemFile>,
-    is_layout: bool,
     output: &mut O,
 ) -> Result<(), Fault> {
-    if is_layout {
-        return show_layout(alloc, &mut device, output);
-    }
-    match show(alloc, device, output) {
+    show_layout(alloc, &mut device, output)
+}
+
+/// Prints the rows of a device's store, and as text its place.
+fn show_rows<O: Write>(
+    alloc: Global,
+    device: FileDevice<SystemFile>,
+    form: RowForm,
+    output: &mut O,
+) -> Result<(), Fault> {
+    match show(alloc, device, form, output) {
         Ok(_device) => Ok(()),
         Err((_device, fault)) => Err(fault),
+    }
+}
+
+/// The form in which the options want rows.
+pub(crate) fn form_in(options: &ArgMatches<'_>) -> RowForm {
+    if options.get_flag(JSON) {
+        RowForm::Json
+    } else {
+        RowForm::Text
     }
 }
 

@@ -1,4 +1,4 @@
--- What becomes of a store that is there where one is to be made.
+-- What becomes of a store that is there where one would be made.
 use Rattle.std.specs.Prelude.{◌≡◌, ◌⊎◌, ℕ, true, if◌then◌else◌, List, codes, Option}
 use Rattle.std.specs.Io.KnownBytes.{Consumes}
 use Rattle.sector_dev.specs.Disk.{Disk, IsHonest}

@@ -1,7 +1,7 @@
 -- What copying a store returns and prints, and what a stop leaves of the copy.
 use Rattle.std.specs.Prelude.{◌≡◌, ◌⊎◌, ℕ, List, [], length, Option, Err}
 use Rattle.std.specs.Io.KnownBytes.{Appends}
-use Rattle.path_db.specs.Database.{RowView}
+use Rattle.row_map.specs.Database.{RowView}
 use Rattle.sector_dev.specs.Disk.{Disk, IsHonest, reads_of}
 use Rattle.sector_dev.specs.Image.{EveryImage, IsFromImage}
 use Rattle.store_layout.specs.Layout.{Geometry}
@@ -13,7 +13,7 @@ use Rattle.whole_writes.specs.Written.{IsWrittenInPart}
 use Rattle.cli_store.specs.Text.{copied_line}
 use Rattle.cli_store.specs.Devices.{IsNotOpened}
 use Rattle.cli_store.specs.declared.error.Fault.{Fault}
-use Rattle.cli_store.specs.declared.error.Fault.TheVariants.{Format, Copy, Open, Checkpoint, File, Taken, Declined, Memory, Output}
+use Rattle.cli_store.specs.declared.error.Fault.TheVariants.{Copy, Open, Memory, Output}
 
 -- A device has a store of these sizes with the rows and the place that another device opens to, and
 -- what was printed of it.
@@ -38,15 +38,11 @@ pub record IsNotCopied (e : CopyError) (geometry : Geometry) (from old new : Dis
 -- refused before anything was done; then nothing is printed. Where a write of the text failed, the
 -- copy is made.
 abbrev pub FailsToCopy : Fault → Geometry → Disk → Disk → Disk → Option (List ℕ) → Option (List ℕ) → Type 0
-FailsToCopy (Format e) geometry from old new output output_left = ⊥
 FailsToCopy (Copy e) geometry from old new output output_left = IsNotCopied e geometry from old new × Appends output output_left []
 FailsToCopy (Open e) geometry from old new output output_left = IsNotOpened e from output output_left × (new ≡ old)
-FailsToCopy (Checkpoint e) geometry from old new output output_left = ⊥
-FailsToCopy File geometry from old new output output_left = ⊥
-FailsToCopy Taken geometry from old new output output_left = ⊥
-FailsToCopy Declined geometry from old new output output_left = ⊥
 FailsToCopy Memory geometry from old new output output_left = (new ≡ old) × Appends output output_left []
 FailsToCopy Output geometry from old new output output_left = IsCopied geometry from new (IsWrittenInPart output output_left)
+FailsToCopy _ geometry from old new output output_left = ⊥
 
 -- An image opens to rows at a place to which another one opens, too.
 pub record OpensToTheSame (one other : List ℕ) : Type 0 where

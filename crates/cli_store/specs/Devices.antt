@@ -8,11 +8,11 @@ use Rattle.store_layout.specs.Limits.{latest}
 use Rattle.store_open.specs.PathStores.{store_format}
 use Rattle.store_open.specs.Open.{RefusesOpening, WantsMemoryToOpen}
 use Rattle.store_open.specs.declared.error.OpenError.{OpenError}
-use Rattle.store_open.specs.declared.error.OpenError.TheVariants.{NotAStore, Device, Pair, Journal, NoMemory}
+use Rattle.store_open.specs.declared.error.OpenError.TheVariants.{Device}
 use Rattle.store_open.specs.declared.store_error.StoreError.{StoreError}
 use Rattle.store_open.specs.declared.store_error.StoreError.TheVariants as checkpoint
 use Rattle.cli_store.specs.declared.error.Fault.{Fault}
-use Rattle.cli_store.specs.declared.error.Fault.TheVariants.{Format, Copy, Open, Checkpoint, File, Taken, Declined, Memory, Output}
+use Rattle.cli_store.specs.declared.error.Fault.TheVariants.{Open, Checkpoint}
 
 -- The device is returned in every case.
 abbrev pub device_after : {D : Type 0} → Result D (D × Fault) → D
@@ -26,32 +26,19 @@ pub record LeavesDevice (old new : Disk) : Type 0 where
 
 -- The number of the device's failed calls after an opening that failed.
 abbrev pub faults_after_opening : OpenError → ℕ → ℕ
-faults_after_opening NotAStore faults = faults
 faults_after_opening Device faults = one_more faults
-faults_after_opening (Pair e) faults = faults
-faults_after_opening (Journal e) faults = faults
-faults_after_opening NoMemory faults = faults
+faults_after_opening _ faults = faults
 
 -- The number of the device's failed calls after a checkpoint that failed.
 abbrev pub faults_after_checkpoint : StoreError → ℕ → ℕ
 faults_after_checkpoint checkpoint.Fault faults = one_more faults
-faults_after_checkpoint checkpoint.Sealed faults = faults
-faults_after_checkpoint checkpoint.NoMemory faults = faults
-faults_after_checkpoint checkpoint.Exhausted faults = faults
-faults_after_checkpoint checkpoint.Unfit faults = faults
-faults_after_checkpoint checkpoint.Broken faults = faults
+faults_after_checkpoint _ faults = faults
 
 -- The number of the device's failed calls after a command that ended with this fault.
 abbrev pub faults_after_fault : Fault → ℕ → ℕ
-faults_after_fault (Format e) faults = faults
-faults_after_fault (Copy e) faults = faults
 faults_after_fault (Open e) faults = faults_after_opening e faults
 faults_after_fault (Checkpoint e) faults = faults_after_checkpoint e faults
-faults_after_fault File faults = faults
-faults_after_fault Taken faults = faults
-faults_after_fault Declined faults = faults
-faults_after_fault Memory faults = faults
-faults_after_fault Output faults = faults
+faults_after_fault _ faults = faults
 
 -- The number of the device's failed calls after a command that returns the device.
 abbrev pub faults_left : {D : Type 0} → Result D (D × Fault) → ℕ → ℕ

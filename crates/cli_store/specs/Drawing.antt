@@ -6,7 +6,7 @@ use Rattle.store_layout.specs.Layout.{Geometry}
 use Rattle.store_open.specs.declared.error.OpenError.TheVariants.{Device}
 use Rattle.whole_writes.specs.Written.{IsWrittenInPart}
 use Rattle.cli_store.specs.declared.error.Fault.{Fault}
-use Rattle.cli_store.specs.declared.error.Fault.TheVariants.{Format, Copy, Open, Checkpoint, File, Taken, Declined, Memory, Output}
+use Rattle.cli_store.specs.declared.error.Fault.TheVariants.{Open, Memory, Output}
 
 -- The first line: sector 0, and the sizes in it.
 abbrev pub title_line : Geometry → List ℕ
@@ -43,12 +43,7 @@ pub record IsDrawnInPart (sizes : Option Geometry) (output output_left : Option 
 -- What drawing a store of these sizes returns and prints.
 abbrev pub DrawsSo : Result (Unit {0}) Fault → Option Geometry → Option (List ℕ) → Option (List ℕ) → Type 0
 DrawsSo (Ok done) sizes output output_left = IsDrawn sizes output output_left
-DrawsSo (Err (Format e)) sizes output output_left = ⊥
-DrawsSo (Err (Copy e)) sizes output output_left = ⊥
 DrawsSo (Err (Open e)) sizes output output_left = (e ≡ Device) × Appends output output_left []
-DrawsSo (Err (Checkpoint e)) sizes output output_left = ⊥
-DrawsSo (Err File) sizes output output_left = ⊥
-DrawsSo (Err Taken) sizes output output_left = ⊥
-DrawsSo (Err Declined) sizes output output_left = ⊥
 DrawsSo (Err Memory) sizes output output_left = IsSome sizes × Appends output output_left []
 DrawsSo (Err Output) sizes output output_left = IsDrawnInPart sizes output output_left
+DrawsSo _ sizes output output_left = ⊥

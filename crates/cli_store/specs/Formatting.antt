@@ -7,7 +7,7 @@ use Rattle.store_open.specs.NewStore.{Formats}
 use Rattle.cli_store.specs.Text.{formatted_line}
 use Rattle.whole_writes.specs.Written.{IsWrittenInPart}
 use Rattle.cli_store.specs.declared.error.Fault.{Fault}
-use Rattle.cli_store.specs.declared.error.Fault.TheVariants.{Format, Copy, Open, Checkpoint, File, Taken, Declined, Memory, Output}
+use Rattle.cli_store.specs.declared.error.Fault.TheVariants.{Format, Memory, Output}
 
 -- The store is made and its size is printed. Where no store is made, for a reason or because memory
 -- was refused before anything was done, nothing is printed. Where a write of the text failed, the
@@ -16,12 +16,7 @@ abbrev pub FormatsAndPrints : Geometry → Result (Unit {0}) Fault → Disk → 
 FormatsAndPrints geometry (Ok done) old new output output_left =
     Formats geometry (Ok done) old new × Appends output output_left (formatted_line (image_sectors geometry))
 FormatsAndPrints geometry (Err (Format e)) old new output output_left = Formats geometry (Err e) old new × Appends output output_left []
-FormatsAndPrints geometry (Err (Copy e)) old new output output_left = ⊥
-FormatsAndPrints geometry (Err (Open e)) old new output output_left = ⊥
-FormatsAndPrints geometry (Err (Checkpoint e)) old new output output_left = ⊥
-FormatsAndPrints geometry (Err File) old new output output_left = ⊥
-FormatsAndPrints geometry (Err Taken) old new output output_left = ⊥
-FormatsAndPrints geometry (Err Declined) old new output output_left = ⊥
 FormatsAndPrints geometry (Err Memory) old new output output_left = (new ≡ old) × Appends output output_left []
 FormatsAndPrints geometry (Err Output) old new output output_left =
     Formats geometry (Ok tt) old new × IsWrittenInPart output output_left (formatted_line (image_sectors geometry))
+FormatsAndPrints geometry _ old new output output_left = ⊥

@@ -4,7 +4,7 @@ use Rattle.std.specs.Fmt.{decimal}
 use Rattle.std.specs.Io.KnownBytes.{Appends}
 use Rattle.byte_lists.specs.declared.format.TheConstants.{SECTOR}
 use Rattle.sector_dev.specs.Disk.{Disk, IsHonest, reads_of}
-use Rattle.path_db.specs.Database.{RowView}
+use Rattle.row_map.specs.Database.{RowView}
 use Rattle.path_db.specs.declared.command.Command.{Command}
 use Rattle.store_layout.specs.declared.format.TheConstants.{BEFORE_ROWS}
 use Rattle.store_layout.specs.Opening.{Opening, IsOpening, opening_value}
@@ -14,9 +14,9 @@ use Rattle.store_open.specs.PathStores.{store_format}
 use Rattle.store_open.specs.Store.{counted_len}
 use Rattle.whole_writes.specs.Written.{IsWrittenInPart}
 use Rattle.cli_store.specs.Devices.{IsNotOpened, OpeningLacksMemory}
-use Rattle.cli_store.specs.Text.{before}
+use Rattle.row_lines.specs.Text.{before}
 use Rattle.cli_store.specs.declared.error.Fault.{Fault}
-use Rattle.cli_store.specs.declared.error.Fault.TheVariants.{Format, Copy, Open, Checkpoint, File, Taken, Declined, Memory, Output}
+use Rattle.cli_store.specs.declared.error.Fault.TheVariants.{Open, Memory, Output}
 
 -- The numbers of a store.
 pub record Status : Type 0 where
@@ -99,12 +99,7 @@ pub record IsReportedInPart (disk : Disk) (output output_left : Option (List ℕ
 -- What printing the status of a store on a device returns and prints.
 abbrev pub ReportsSo : Result (Unit {0}) Fault → Disk → Option (List ℕ) → Option (List ℕ) → Type 0
 ReportsSo (Ok done) disk output output_left = IsReported disk output output_left
-ReportsSo (Err (Format e)) disk output output_left = ⊥
-ReportsSo (Err (Copy e)) disk output output_left = ⊥
 ReportsSo (Err (Open e)) disk output output_left = IsNotOpened e disk output output_left
-ReportsSo (Err (Checkpoint e)) disk output output_left = ⊥
-ReportsSo (Err File) disk output output_left = ⊥
-ReportsSo (Err Taken) disk output output_left = ⊥
-ReportsSo (Err Declined) disk output output_left = ⊥
 ReportsSo (Err Memory) disk output output_left = OpeningLacksMemory disk output output_left
 ReportsSo (Err Output) disk output output_left = IsReportedInPart disk output output_left
+ReportsSo _ disk output output_left = ⊥

@@ -1,68 +1,28 @@
 -- The text in which a store is shown: a line for each row, and one with the place.
-use Rattle.std.specs.Prelude.{ℕ, ◌-◌, ◌/◌, ◌%◌, ◌^◌, List, [], ◌∷◌, ◌++◌, length, codes, Option, Some, None}
-use Rattle.std.specs.List.{flat_map, slice_get}
+use Rattle.std.specs.Prelude.{ℕ, List, [], ◌∷◌, ◌++◌, codes}
+use Rattle.std.specs.List.{flat_map}
 use Rattle.std.specs.Fmt.{decimal}
-use Rattle.hex.specs.Hex.{encode_lower}
-use Rattle.isd_as.specs.Text.{as_text}
-use Rattle.seg_core.specs.declared.seg_type.SegType.{SegType}
-use Rattle.seg_core.specs.declared.seg_type.SegType.TheVariants.{Up, Down, Core}
-use Rattle.seg_core.specs.SegmentView.{EntryView}
-use Rattle.seg_core.specs.Digest.{segment_digest}
-use Rattle.seg_check.specs.Expiry.{expiry_of}
-use Rattle.path_db.specs.Database.{RowView}
-
--- The word of a type.
-abbrev pub type_word : SegType → List ℕ
-type_word Up = codes "up"
-type_word Down = codes "down"
-type_word Core = codes "core"
-
--- The canonical text of an ISD-AS of 64 bits: the upper 16 bits in decimal, a dash, and the AS.
-abbrev pub number_text : ℕ → List ℕ
-number_text number = decimal (number / 2 ^ 48) ++ (codes "-" ++ as_text (number % 2 ^ 48))
-
--- The text of an entry's ISD-AS. Where there is no entry, the text is empty.
-abbrev pub end_text : Option EntryView → List ℕ
-end_text None = []
-end_text (Some e) = number_text e.ia
-
--- The first entry.
-abbrev pub first_entry : List EntryView → Option EntryView
-first_entry entries = slice_get entries 0
-
--- The last entry.
-abbrev pub last_entry : List EntryView → Option EntryView
-last_entry entries = slice_get entries (length entries - 1)
-
--- A word, a space, and what follows.
-abbrev pub before : List ℕ → List ℕ → List ℕ
-before word rest = word ++ (codes " " ++ rest)
-
--- The front of a row's line: the type, the id in hexadecimal digits, the timestamp in seconds since
--- 1970, and when the segment expires, in half seconds.
-abbrev pub row_head : RowView → List ℕ
-row_head row =
-    before (type_word row.0) (before (encode_lower (segment_digest row.1)) (before (decimal row.1.timestamp) (decimal (expiry_of row.1))))
-
--- The end of a row's line: the first and the last ISD-AS, and the number of entries.
-abbrev pub row_ends : RowView → List ℕ
-row_ends row = before (end_text (first_entry row.1.entries)) (before (end_text (last_entry row.1.entries)) (decimal (length row.1.entries)))
-
--- The line of a row.
-unfoldable pub row_line : RowView → List ℕ
-row_line row = before (row_head row) (row_ends row) ++ 0x0a ∷ []
+use Rattle.row_map.specs.Database.{RowView}
+use Rattle.row_lines.specs.declared.form.RowForm.{RowForm}
+use Rattle.row_lines.specs.declared.form.RowForm.TheVariants.{Text, Json}
+use Rattle.row_lines.specs.Form.{line_as}
 
 -- The lines of all rows, in the order of their keys.
-abbrev pub rows_text : List RowView → List ℕ
-rows_text rows = flat_map row_line rows
+abbrev pub rows_text : RowForm → List RowView → List ℕ
+rows_text form rows = flat_map (line_as form) rows
 
 -- The line of the place, after its name.
 abbrev pub place_line : ℕ → List ℕ
 place_line place = codes "place " ++ (decimal place ++ 0x0a ∷ [])
 
+-- What follows the rows: as text the line of the place, and as JSON nothing.
+abbrev pub store_end : RowForm → ℕ → List ℕ
+store_end Text place = place_line place
+store_end Json place = []
+
 -- The text of a store.
-abbrev pub store_text : List RowView → ℕ → List ℕ
-store_text rows place = rows_text rows ++ place_line place
+abbrev pub store_text : RowForm → List RowView → ℕ → List ℕ
+store_text form rows place = rows_text form rows ++ store_end form place
 
 -- The line that says how many sectors a new store takes.
 abbrev pub formatted_line : ℕ → List ℕ

@@ -12,7 +12,7 @@ use Rattle.cli_store.specs.Text.{version_line}
 use Rattle.whole_writes.specs.Written.{IsWrittenInPart}
 use Rattle.cli_store.specs.Devices.{IsNotOpened, OpeningLacksMemory}
 use Rattle.cli_store.specs.declared.error.Fault.{Fault}
-use Rattle.cli_store.specs.declared.error.Fault.TheVariants.{Format, Copy, Open, Checkpoint, File, Taken, Declined, Memory, Output}
+use Rattle.cli_store.specs.declared.error.Fault.TheVariants.{Open, Checkpoint, Memory, Output}
 
 -- A store of version 1 had a checkpoint made, or was refused one. A store of another version is
 -- unchanged.
@@ -55,12 +55,8 @@ pub record IsNotUpgraded (e : StoreError) (old new : Disk) (output output_left :
 
 -- Why a store is not in that version, or why its version is not printed.
 abbrev pub FailsToUpgrade : Fault → Disk → Disk → Option (List ℕ) → Option (List ℕ) → Type 0
-FailsToUpgrade (Format e) old new output output_left = ⊥
-FailsToUpgrade (Copy e) old new output output_left = ⊥
 FailsToUpgrade (Open e) old new output output_left = IsNotOpened e old output output_left
 FailsToUpgrade (Checkpoint e) old new output output_left = IsNotUpgraded e old new output output_left
-FailsToUpgrade File old new output output_left = ⊥
-FailsToUpgrade Taken old new output output_left = ⊥
-FailsToUpgrade Declined old new output output_left = ⊥
 FailsToUpgrade Memory old new output output_left = OpeningLacksMemory old output output_left ⊎ IsNotUpgraded checkpoint.NoMemory old new output output_left
 FailsToUpgrade Output old new output output_left = (IsHonest old → IsUpgraded old new) × IsWrittenInPart output output_left version_line
+FailsToUpgrade _ old new output output_left = ⊥

@@ -2,19 +2,13 @@
 use Rattle.std.specs.Prelude.{ℕ, List, Option}
 use Rattle.whole_writes.specs.Written.{IsWrittenInPart}
 use Rattle.cli_store.specs.declared.error.Fault.{Fault}
-use Rattle.cli_store.specs.declared.error.Fault.TheVariants.{Format, Copy, Open, Checkpoint, File, Taken, Declined, Memory, Output}
+use Rattle.cli_store.specs.declared.error.Fault.TheVariants.{Memory, Output}
 
 -- A write failed, or memory was refused.
 abbrev pub IsOfWriting : Fault → Type 0
-IsOfWriting (Format e) = ⊥
-IsOfWriting (Copy e) = ⊥
-IsOfWriting (Open e) = ⊥
-IsOfWriting (Checkpoint e) = ⊥
-IsOfWriting File = ⊥
-IsOfWriting Taken = ⊥
-IsOfWriting Declined = ⊥
 IsOfWriting Memory = Unit {0}
 IsOfWriting Output = Unit {0}
+IsOfWriting _ = ⊥
 
 -- A front of the bytes was written, and then a write failed, or memory for the next bytes was
 -- refused.

@@ -19,9 +19,9 @@ const ANSWER: usize = 512;
 /// What the options of a command that makes a store say, and whether a person can be asked.
 #[derive(Clone, Copy, Debug, PartialEq, Eq)]
 pub struct Wishes {
-    /// A store is to be made only where none is.
+    /// A store may be made only where none is.
     pub is_new: bool,
-    /// A store that is there is to be lost, and nobody is asked.
+    /// A store that is there may be lost, and nobody is asked.
     pub is_forced: bool,
     /// A person reads what is printed, and answers.
     pub is_terminal: bool,
@@ -38,7 +38,7 @@ pub enum Consent {
     Asked,
 }
 
-/// What becomes of a store that is there: it is lost by force, else kept where a store is to be made
+/// What becomes of a store that is there: it is lost by force, else kept where a store may be made
 /// only where none is, else a person decides. Where no person can be asked, it is lost.
 pub fn decide(wishes: Wishes) -> Consent
     ensures { result ≡ consent_of wishes }
@@ -55,7 +55,7 @@ pub fn decide(wishes: Wishes) -> Consent
 }
 
 /// Whether a store may be made on a device, which is only read. Where sector 0 has the name of a
-/// store, `decide` says what becomes of it. A person who is asked is told what is there under the
+/// store, `decide` says what becomes of it. A person who is asked reads what is there under the
 /// name `path`, and agrees by a line with the word `yes` alone. Errors:
 ///
 /// - `Taken`: a store is there, and the options keep it.

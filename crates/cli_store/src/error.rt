@@ -22,7 +22,7 @@ pub enum Fault {
     Checkpoint(StoreError),
     /// The file of the device cannot be made or opened.
     File,
-    /// A store is there, and one is to be made only where none is.
+    /// A store is there, and one may be made only where none is.
     Taken,
     /// A store is there, and whoever was asked did not agree to lose it.
     Declined,

@@ -1,9 +1,10 @@
 //! The commands of the program over a device with a store: what each does and prints.
 //!
 //! To the layer above, `format` makes a store, and `ask` says before whether one that is there may
-//! be lost. `copy` makes a store with the rows and the place of another. `show` prints the rows and the place that a device opens to, `upgrade` has the store in
-//! the version that is written, and `show_layout` and `status` change nothing: the one draws what is
-//! on a device, and the other prints the numbers of what the device opens with.
+//! be lost. `copy` makes a store with the rows and the place of another. `show` prints the rows
+//! that a device opens to, and as text their place. `upgrade` has the store in the version that is
+//! written. `show_layout` and `status` change nothing: the one draws what is on a device, and the
+//! other prints the numbers of what the device opens with.
 #![tactic(auto)]
 
 mod asking;

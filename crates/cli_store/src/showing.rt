@@ -9,16 +9,22 @@ ghost use Rattle.cli_store.specs.Showing.{ShowsStore, FailsToShow};
 
 use crate::error::Fault;
 use crate::writing::write_store;
+use row_lines::RowForm;
 use sector_dev::Device;
 use std::alloc::Global;
 use std::io::Write;
 use store_open::open;
 
-/// Opens a device, and prints its rows in the order of their keys, a line each, and its place. The
-/// device is returned.
-pub fn show<D: Device, W: Write>(alloc: Global, device: D, writer: &mut W) -> Result<D, (D, Fault)>
-    ensures ok { IfOk result (λ _. ShowsStore (D.disk device) (W.contents writer.old) (W.contents writer.new)) }
-    ensures err { IfErr result (λ back. FailsToShow back.1 (D.disk device) (W.contents writer.old) (W.contents writer.new)) }
+/// Opens a device, and prints its rows in the order of their keys, a line each, and as text its
+/// place, too. The device is returned.
+pub fn show<D: Device, W: Write>(
+    alloc: Global,
+    device: D,
+    form: RowForm,
+    writer: &mut W,
+) -> Result<D, (D, Fault)>
+    ensures ok { IfOk result (λ _. ShowsStore form (D.disk device) (W.contents writer.old) (W.contents writer.new)) }
+    ensures err { IfErr result (λ back. FailsToShow form back.1 (D.disk device) (W.contents writer.old) (W.contents writer.new)) }
 
     // At every moment, what a stop leaves is an image of the start, or opens with what one of the
     // start opens with.
@@ -29,7 +35,7 @@ pub fn show<D: Device, W: Write>(alloc: Global, device: D, writer: &mut W) -> Re
 {
     match open(alloc, device) {
         Ok(store) => {
-            let written = write_store(alloc, store.db(), store.place(), writer);
+            let written = write_store(alloc, form, store.db(), store.place(), writer);
             let device = store.into_device();
             match written {
                 Ok(()) => Ok(device),

@@ -2,42 +2,66 @@
 
 ghost use Rattle.std.specs.Prelude.{◌≡◌, OnOk, IfErr};
 ghost use Rattle.std.specs.Io.KnownBytes.{Appends};
-ghost use Rattle.cli_store.specs.Text.{rows_text, place_line, store_text};
+ghost use Rattle.cli_store.specs.Text.{rows_text, place_line, store_end, store_text};
 ghost use Rattle.cli_store.specs.Writing.{TextWriteFails};
 
 use crate::error::Fault;
-use crate::text::{place_line, row_line};
-use path_db::{PathDb, Rows};
+use crate::text::place_line;
+use path_db::PathDb;
+use row_lines::{RowForm, line_as};
+use row_map::Rows;
 use std::alloc::Global;
 use std::io::Write;
 use whole_writes::WriteFailed;
 
-/// Writes the lines of all rows, in the order of their keys, and that of a place. Where memory for
-/// a line is refused, the lines before it are written.
+/// Writes the lines of all rows, in the order of their keys, and as text that of a place. Where
+/// memory for a line is refused, the lines before it are written.
 pub(crate) fn write_store<W: Write>(
     alloc: Global,
+    form: RowForm,
     db: &PathDb,
     place: u64,
     writer: &mut W,
 ) -> Result<(), Fault>
-    ensures ok { OnOk result (Appends (W.contents writer.old) (W.contents writer.new) (store_text db.now place)) }
-    ensures err { IfErr result (TextWriteFails (W.contents writer.old) (W.contents writer.new) (store_text db.now place)) }
+    ensures ok { OnOk result (Appends (W.contents writer.old) (W.contents writer.new) (store_text form db.now place)) }
+    ensures err { IfErr result (TextWriteFails (W.contents writer.old) (W.contents writer.new) (store_text form db.now place)) }
 {
-    write_rows(alloc, db.rows(), writer)?;
-    write_place(alloc, place, writer)
+    write_rows(alloc, form, db.rows(), writer)?;
+    write_end(alloc, form, place, writer)
 }
 
-fn write_rows<W: Write>(alloc: Global, rows: Rows<'_>, writer: &mut W) -> Result<(), Fault>
-    ensures ok { OnOk result (Appends (W.contents writer.old) (W.contents writer.new) (rows_text rows.entry)) }
-    ensures err { IfErr result (TextWriteFails (W.contents writer.old) (W.contents writer.new) (rows_text rows.entry)) }
+fn write_rows<W: Write>(
+    alloc: Global,
+    form: RowForm,
+    rows: Rows<'_>,
+    writer: &mut W,
+) -> Result<(), Fault>
+    ensures ok { OnOk result (Appends (W.contents writer.old) (W.contents writer.new) (rows_text form rows.entry)) }
+    ensures err { IfErr result (TextWriteFails (W.contents writer.old) (W.contents writer.new) (rows_text form rows.entry)) }
 {
     for row in rows {
-        let Ok(line) = row_line(alloc, row) else {
+        let Ok(line) = line_as(alloc, form, row.kind, &row.segment) else {
             return Err(Fault::Memory);
         };
         write_all(writer, line.as_bytes())?;
     }
     Ok(())
+}
+
+/// Writes what follows the rows.
+fn write_end<W: Write>(
+    alloc: Global,
+    form: RowForm,
+    place: u64,
+    writer: &mut W,
+) -> Result<(), Fault>
+    ensures ok { OnOk result (Appends (W.contents writer.old) (W.contents writer.new) (store_end form place)) }
+    ensures err { IfErr result (TextWriteFails (W.contents writer.old) (W.contents writer.new) (store_end form place)) }
+{
+    match form {
+        RowForm::Text => write_place(alloc, place, writer),
+        RowForm::Json => Ok(()),
+    }
 }
 
 fn write_place<W: Write>(alloc: Global, place: u64, writer: &mut W) -> Result<(), Fault>

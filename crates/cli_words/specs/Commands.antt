@@ -2,7 +2,7 @@
 use Rattle.std.specs.Prelude.{codes}
 use Rattle.clap.specs.Words.{Text}
 use Rattle.cli_words.specs.declared.command_line.Subcommand.{Subcommand}
-use Rattle.cli_words.specs.declared.command_line.Subcommand.TheVariants.{Once, Format, Copy, Show, Status, Upgrade, Run}
+use Rattle.cli_words.specs.declared.command_line.Subcommand.TheVariants.{Once, Format, Copy, Show, Status, Upgrade, Run, Ask}
 
 -- the name of a command
 abbrev pub name_of : Subcommand → Text
@@ -13,3 +13,4 @@ name_of Show = codes "show"
 name_of Status = codes "status"
 name_of Upgrade = codes "upgrade"
 name_of Run = codes "run"
+name_of Ask = codes "ask"

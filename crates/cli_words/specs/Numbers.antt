@@ -22,3 +22,4 @@ pub record HasPlainNumbers (rows : List Row) : Type 0 where
   pub lookup_seats : IsPlainNumber rows (codes "lookup-seats")
   pub purge : IsPlainNumber rows (codes "purge")
   pub grace : IsPlainNumber rows (codes "grace")
+  pub timeout : IsPlainNumber rows (codes "timeout")

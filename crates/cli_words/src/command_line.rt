@@ -5,7 +5,7 @@ ghost use Rattle.clap.specs.Words.{found_of, rows_of, subcommand_name_of, subcom
 ghost use Rattle.cli_words.specs.declared.command_line.Subcommand.{Subcommand};
 ghost use Rattle.cli_words.specs.Commands.{name_of};
 
-use crate::{COPY, FORMAT, ONCE, RUN, SHOW, STATUS, UPGRADE};
+use crate::{ASK, COPY, FORMAT, ONCE, RUN, SHOW, STATUS, UPGRADE};
 use clap::ArgMatches;
 
 /// A command of the program.
@@ -25,6 +25,8 @@ pub enum Subcommand {
     Upgrade,
     /// Serves sessions over TCP: `RUN`.
     Run,
+    /// Asks a server: `ASK`.
+    Ask,
 }
 
 impl Subcommand {
@@ -41,6 +43,7 @@ impl Subcommand {
             STATUS => Subcommand::Status,
             UPGRADE => Subcommand::Upgrade,
             RUN => Subcommand::Run,
+            ASK => Subcommand::Ask,
             _ => return None,
         })
     }

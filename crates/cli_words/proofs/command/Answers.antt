@@ -9,4 +9,5 @@ returns c =
     let show = one_more_name _ _ _ _ _ c.in_ok-command-5.ensures copy c.show_command.ensures in
     let status = one_more_name _ _ _ _ _ c.in_ok-command-6.ensures show c.status_command.ensures in
     let upgrade = one_more_name _ _ _ _ _ c.in_ok-command-7.ensures status c.upgrade_command.ensures in
-    one_more_name_of c.with_subcommand-7.result _ _ _ _ c.with_subcommand-7.ensures upgrade c.run_command.ensures
+    let run = one_more_name _ _ _ _ _ c.in_ok-command-8.ensures upgrade c.run_command.ensures in
+    one_more_name_of c.with_subcommand-8.result _ _ _ _ c.with_subcommand-8.ensures run c.ask_command.ensures

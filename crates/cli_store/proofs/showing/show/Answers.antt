@@ -12,6 +12,6 @@ returns-in-Ok-written-clause-ok g c = record {
 
 pub returns-in-Err-written-clause-err : goal.returns-in-Err-written-clause-err
 returns-in-Err-written-clause-err g c =
-    shown_in_part c.in-Err-written.fault _ _ _ c.db.result.now c.place.result
+    shown_in_part c.args.form c.in-Err-written.fault _ _ _ c.db.result.now c.place.result
     (λ honest. rw (c.db.ensures.rows, c.place.ensures) (opened_stands_for _ c.in-Ok.store (c.in-Ok.ensures.opened honest)))
     c.in-Err-written.ensures.err

@@ -1,7 +1,8 @@
 use Rattle.std.proofs.Common.{rules, ◌≡◌, ◌∷◌, ◌∙◌}
 use Rattle.std.proofs.lemmas.Result.{err_from_is_err_and}
-use Rattle.path_db.specs.Row.{row_view}
-use Rattle.cli_store.specs.Text.{row_line, rows_text}
+use Rattle.row_map.specs.Row.{row_view}
+use Rattle.row_lines.specs.Form.{line_as}
+use Rattle.cli_store.specs.Text.{rows_text}
 use Rattle.cli_store.proofs.Fronts.{HasWritten-next, fails_behind}
 use Rattle.cli_store.proofs.writing.write_rows.Goals as goal
 
@@ -11,7 +12,7 @@ loop-row-preserved g c =
     let left = c.next.new.self in
     let front : c.loop-row.row-iterator ≡ row ∷ left = search (rules, c.in-Some) in
     let line = c.as_bytes.ensures.value ∙ c.in-Ok.ensures in
-    HasWritten-next _ _ _ _ (row_line row) (rows_text left) (rw front at c.loop-row.invariant) (rw line at c.in_ok-write_all.ensures.ok)
+    HasWritten-next _ _ _ _ (line_as c.args.form row) (rows_text c.args.form left) (rw front at c.loop-row.invariant) (rw line at c.in_ok-write_all.ensures.ok)
 
 pub returns-in_err-write_all-clause-err : goal.returns-in_err-write_all-clause-err
 returns-in_err-write_all-clause-err g c =
@@ -20,4 +21,4 @@ returns-in_err-write_all-clause-err g c =
     let front : c.loop-row.row-iterator ≡ row ∷ left = search (rules, c.in-Some) in
     let line = c.as_bytes.ensures.value ∙ c.in-Ok.ensures in
     let p = err_from_is_err_and c.from_residual.result c.from_residual.ensures.1 in
-    rw (p.1, p.2) (fails_behind _ _ _ _ (row_line row) (rows_text left) _ (rw front at c.loop-row.invariant) (rw line at c.in_err-write_all.ensures.err))
+    rw (p.1, p.2) (fails_behind _ _ _ _ (line_as c.args.form row) (rows_text c.args.form left) _ (rw front at c.loop-row.invariant) (rw line at c.in_err-write_all.ensures.err))

@@ -1,0 +1,92 @@
+//! Listing a server's segments, page by page.
+
+use crate::asking::exchange;
+use crate::error::AskError;
+use crate::lines::print_segments;
+use crate::link::Link;
+use isd_as::IsdAs;
+use row_lines::RowForm;
+use seg_check::seg_id;
+use seg_core::SegType;
+use session_core::{ListRequest, Listing, Message, Reply};
+use std::alloc::Global;
+use std::io::Write;
+
+/// Prints all segments of a type, or of all types by their numbers, whose ends these patterns
+/// cover, in the order of their keys.
+pub(crate) fn list<L: Link, W: Write>(
+    alloc: Global,
+    link: &mut L,
+    kind: Option<SegType>,
+    (start, end): (IsdAs, IsdAs),
+    form: RowForm,
+    writer: &mut W,
+) -> Result<(), AskError> {
+    if let Some(kind) = kind {
+        return list_type(alloc, link, kind, (start, end), form, writer);
+    }
+    list_type(alloc, link, SegType::Up, (start, end), form, writer)?;
+    list_type(alloc, link, SegType::Down, (start, end), form, writer)?;
+    list_type(alloc, link, SegType::Core, (start, end), form, writer)
+}
+
+/// Prints all segments of a type. Each page begins after the last id of the page before it.
+fn list_type<L: Link, W: Write>(
+    alloc: Global,
+    link: &mut L,
+    kind: SegType,
+    (start, end): (IsdAs, IsdAs),
+    form: RowForm,
+    writer: &mut W,
+) -> Result<(), AskError> {
+    let mut after = None;
+    for _ in 0..u64::MAX {
+        let request = ListRequest {
+            kind: kind.number() as u8,
+            start: start.to_u64(),
+            end: end.to_u64(),
+            after,
+        };
+        let page = page_of(alloc, link, kind, request)?;
+        print_segments(alloc, form, kind, page.segments.as_slice(), writer)?;
+        if !page.more {
+            return Ok(());
+        }
+        after = Some(next_after(&page, after)?);
+    }
+    Err(AskError::Faulty)
+}
+
+/// A page of segments of a type.
+fn page_of<L: Link>(
+    alloc: Global,
+    link: &mut L,
+    kind: SegType,
+    request: ListRequest,
+) -> Result<Listing, AskError> {
+    match exchange(alloc, link, &Message::List(request))? {
+        Reply::Listed(page) => of_type(kind, page),
+        _ => Err(AskError::Unasked),
+    }
+}
+
+/// A page, whose segments have to be of this type.
+fn of_type(kind: SegType, page: Listing) -> Result<Listing, AskError> {
+    if page.kind != kind && !page.segments.is_empty() {
+        return Err(AskError::Unasked);
+    }
+    Ok(page)
+}
+
+/// The id after which the next page begins: that of the last segment of this one, which has to come
+/// after the id of the page before. So a server can't make a list without an end.
+fn next_after(page: &Listing, after: Option<[u8; 32]>) -> Result<[u8; 32], AskError> {
+    let Some(last) = page.segments.last() else {
+        return Err(AskError::Faulty);
+    };
+    let id = seg_id(last);
+    match after {
+        Some(before) if id <= before => Err(AskError::Faulty),
+        _ => Ok(id),
+    }
+}

@@ -1,0 +1,199 @@
+//! Registering the segments of lines.
+
+use crate::answers::{PIECE, next_reply};
+use crate::error::AskError;
+use crate::lines::print_ack;
+use crate::link::Link;
+use crate::request::{frame_of, registration_of};
+use byte_lists::drop_front;
+use row_lines::{LineError, RowForm, read_line};
+use session_core::{MOST_AHEAD, Message, Reply};
+use std::alloc::{AllocError, Global};
+use std::io::{ErrorKind, Read, Write};
+
+/// The most bytes of a line: the digits of the longest segment, and what is around them.
+const MOST_LINE: usize = 65_536;
+
+/// Hears which lines were refused.
+pub trait Refusals {
+    /// The line of this number, from 1 on, was refused by this code.
+    fn refused(&mut self, line: u64, code: u8);
+}
+
+/// Registers the segments of an input, a line each, as `list` and `show` print them by `--json`.
+/// Up to `MOST_AHEAD` registrations are sent ahead, each of one line, and the line of each
+/// acknowledgement is printed in the order of the lines. After a line that is refused, or that has
+/// no segment, no further one is sent; the replies that are under way are read and printed. The
+/// error is that of the first such line.
+pub fn register<L: Link, I: Read, W: Write, N: Refusals>(
+    alloc: Global,
+    link: &mut L,
+    input: &mut I,
+    form: RowForm,
+    writer: &mut W,
+    refusals: &mut N,
+) -> Result<(), AskError> {
+    let mut lines = Lines::new(alloc);
+    let mut run = Run {
+        sent: 0,
+        answered: 0,
+        fault: None,
+        is_over: false,
+    };
+    for _ in 0..u64::MAX {
+        send_ahead(alloc, link, input, &mut lines, &mut run)?;
+        if run.answered == run.sent {
+            break;
+        }
+        let reply = next_reply(alloc, link)?;
+        let line = run.answered.saturating_add(1);
+        run.answered = line;
+        match reply {
+            Reply::Registered(ack) => print_ack(alloc, form, &ack, writer)?,
+            Reply::Refused(code) => {
+                refusals.refused(line, code.0);
+                run.stop(AskError::RefusedLine(line, code.0));
+            }
+            _ => return Err(AskError::Unasked),
+        }
+    }
+    match run.fault {
+        Some(fault) => Err(fault),
+        None => Ok(()),
+    }
+}
+
+/// How far a run is: how many lines were sent, and how many replies were read.
+#[derive(Drop)]
+struct Run {
+    sent: u64,
+    answered: u64,
+    /// Why no further line is sent.
+    fault: Option<AskError>,
+    /// No further line is sent.
+    is_over: bool,
+}
+
+impl Run {
+    /// Notes why no further line is sent, unless a reason is known.
+    fn stop(&mut self, fault: AskError) {
+        self.is_over = true;
+        if self.fault.is_none() {
+            self.fault = Some(fault);
+        }
+    }
+
+    /// Whether another line may be sent.
+    fn has_room(&self) -> bool {
+        !self.is_over && self.sent.saturating_sub(self.answered) < MOST_AHEAD as u64
+    }
+}
+
+/// Sends lines while there is room for them.
+fn send_ahead<L: Link, I: Read>(
+    alloc: Global,
+    link: &mut L,
+    input: &mut I,
+    lines: &mut Lines,
+    run: &mut Run,
+) -> Result<(), AskError> {
+    link.begin()?;
+    for _ in 0..MOST_AHEAD {
+        if !run.has_room() {
+            break;
+        }
+        match next_frame(alloc, input, lines, run.sent.saturating_add(1)) {
+            Ok(Some(frame)) => {
+                link.send(frame.as_slice())?;
+                run.sent = run.sent.saturating_add(1);
+            }
+            Ok(None) => run.is_over = true,
+            Err(AskError::NoMemory) => return Err(AskError::NoMemory),
+            Err(fault) => run.stop(fault),
+        }
+    }
+    Ok(())
+}
+
+/// The frame of the registration of the next line, which has this number.
+fn next_frame<I: Read>(
+    alloc: Global,
+    input: &mut I,
+    lines: &mut Lines,
+    number: u64,
+) -> Result<Option<Vec<u8>>, AskError> {
+    let Some(line) = lines.next(input, number)? else {
+        return Ok(None);
+    };
+    match read_line(alloc, line.as_slice()) {
+        Ok((kind, segment)) => {
+            let body = registration_of(alloc, kind, &segment)?;
+            let frame = frame_of(alloc, &Message::Register(body.as_slice()))?;
+            Ok(Some(frame))
+        }
+        Err(LineError::NoMemory) => Err(AskError::NoMemory),
+        Err(error) => Err(AskError::Line(number, error)),
+    }
+}
+
+/// The lines of an input that comes in pieces.
+#[derive(Drop)]
+struct Lines {
+    /// What was read after the lines that were given.
+    bytes: Vec<u8>,
+    is_ended: bool,
+}
+
+impl Lines {
+    /// No lines yet.
+    fn new(alloc: Global) -> Lines {
+        Lines {
+            bytes: Vec::new(alloc),
+            is_ended: false,
+        }
+    }
+
+    /// The next line, without its end. Bytes after the last end of a line are a line, too. A line
+    /// above `MOST_LINE` bytes has no segment.
+    fn next<I: Read>(&mut self, input: &mut I, number: u64) -> Result<Option<Vec<u8>>, AskError> {
+        for _ in 0..u64::MAX {
+            if let Some(len) = self.bytes.iter().position(|byte| *byte == b'\n') {
+                return Ok(Some(self.take_line(len)?));
+            }
+            let len = self.bytes.len();
+            if len > MOST_LINE {
+                return Err(AskError::Line(number, LineError::Json));
+            }
+            if self.is_ended {
+                return match len {
+                    0 => Ok(None),
+                    len => Ok(Some(self.take_line(len)?)),
+                };
+            }
+            self.read_on(input)?;
+        }
+        Err(AskError::Line(number, LineError::Json))
+    }
+
+    /// Takes this number of bytes as a line, and drops its end.
+    fn take_line(&mut self, len: usize) -> Result<Vec<u8>, AllocError> {
+        let alloc = *self.bytes.allocator();
+        let (line, rest) = self.bytes.split_at(len.min(self.bytes.len()));
+        let used = line.len() + usize::from(!rest.is_empty());
+        let line = Vec::from_slice(alloc, line)?;
+        drop_front(&mut self.bytes, used);
+        Ok(line)
+    }
+
+    /// Reads once.
+    fn read_on<I: Read>(&mut self, input: &mut I) -> Result<(), AskError> {
+        let mut piece = [0; PIECE];
+        match input.read(&mut piece) {
+            Ok(0) => self.is_ended = true,
+            Ok(count) => self.bytes.extend_from_slice(&piece[..count])?,
+            Err(error) if error.kind() == ErrorKind::Interrupted => {}
+            Err(error) => return Err(AskError::Input(error)),
+        }
+        Ok(())
+    }
+}
