@@ -2,6 +2,7 @@
 
 use crate::writers::{with_memory, with_room};
 use cli_store::{Fault, format, show, status};
+use row_lines::RowForm;
 use sector_dev::{Device, MemDevice, SECTOR};
 use std::alloc::Global;
 use std::process::Abort;
@@ -59,7 +60,7 @@ fn full_writers_have_a_front(rt: HostRuntime) -> Result<(), Fail> {
     let alloc = rt.alloc();
     for room in 0..8 {
         let mut output = with_room(alloc, room);
-        match show(alloc, formatted(alloc)?, &mut output) {
+        match show(alloc, formatted(alloc)?, RowForm::Text, &mut output) {
             Ok(_) => assert!(rt; false, "{room}"),
             Err((_, fault)) => assert_eq!(rt; fault, Fault::Output, "{room}"),
         }
@@ -74,9 +75,12 @@ fn devices_that_fail_are_reported(rt: HostRuntime) -> Result<(), Fail> {
     for number in 0..4 {
         let mut output = with_room(alloc, 100);
         let failing = FaultDevice::new(formatted(alloc)?, number);
-        let (device, fault) = failed(show(alloc, failing, &mut output))?;
+        let (device, fault) = failed(show(alloc, failing, RowForm::Text, &mut output))?;
         assert_eq!(rt; fault, Fault::Open(OpenError::Device), "{number}");
-        assert!(rt; show(alloc, device, &mut output).is_ok(), "{number}");
+        assert!(rt;
+            show(alloc, device, RowForm::Text, &mut output).is_ok(),
+            "{number}"
+        );
         assert_eq!(rt; output.text()?, "place 0\n");
     }
     Ok(())

@@ -2,6 +2,7 @@
 //! status: those that no whole command line of `test_program` comes to, since memory or a device
 //! has to fail for them.
 
+use cli_ask::AskFault;
 use cli_once::Fault;
 use cli_program::{Ended, Failed, status_of};
 use cli_store::Fault as StoreFault;
@@ -44,6 +45,8 @@ fn lines_of_ends(rt: HostRuntime) {
     assert_line(&rt, rt.alloc(), turns, "error: frame 5");
     let net = Ended::from(RunError::Net);
     assert_line(&rt, rt.alloc(), net, "error: net");
+    let refused = Ended::Ask(AskFault::Refused(0x5a));
+    assert_line(&rt, rt.alloc(), refused, "error: refused 0x5a");
 }
 
 // A server that is started again fails in the same way.

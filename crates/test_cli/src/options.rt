@@ -3,10 +3,10 @@
 
 use clap::error::ErrorKind;
 use cli_words::{
-    CHECKPOINT, CORES, CommandLine, DEVICE, FORCE, FORMAT, FUTURE, GRACE, HEX, IDLE, JOURNAL, KEY,
-    LAYOUT, LISTEN, LOG_PRIORITY, LOOKUP_SEATS, LOOKUPS, NEW, NOW, ONCE, PEER_SESSIONS, PURGE,
-    QUIET, RUN, SESSIONS, SHOW, SPARE, STATUS, STATUS_LISTEN, STOP_ON_END_OF_INPUT, Subcommand,
-    UPGRADE, read,
+    ASK, CHECKPOINT, CORES, CommandLine, DEVICE, FORCE, FORMAT, FUTURE, GRACE, HEX, IDLE, JOURNAL,
+    JSON, KEY, LAYOUT, LISTEN, LOG_PRIORITY, LOOKUP_SEATS, LOOKUPS, NEW, NOW, ONCE, PEER_SESSIONS,
+    PURGE, QUIET, REQUEST, RESERVE, RUN, SERVER, SESSIONS, SHOW, SPARE, STATUS, STATUS_LISTEN,
+    STOP_ON_END_OF_INPUT, Subcommand, TIMEOUT, UPGRADE, WORDS, read,
 };
 use std::alloc::Global;
 use std::process::Abort;
@@ -42,8 +42,10 @@ const ALL_OF_ONCE: &str = "once --cores 1-1,2-2 --now 5 --key 00ff --hex";
 const ALL_OF_RUN: &str =
     "run --quiet --grace 4294967295 --stop-on-end-of-input --peer-sessions 18446744073709551615 --idle 4294967295 --future 4294967295 --spare 56 --purge 4294967295 --lookup-seats 56 --lookups [::1]:2 --log-priority --sessions 18446744073709551615 --key 00 --cores 1-1 --status [::1]:1 --listen [::1]:0 d";
 
+const ALL_OF_ASK: &str = "ask --timeout 4294967295 a list up --json 1-0 0-0";
+
 #[rattlefmt::skip]
-const VALUES: [Value; 41] = [
+const VALUES: [Value; 48] = [
     Value { line: ALL_OF_ONCE, command: ONCE, option: CORES, value: Some("1-1,2-2") },
     Value { line: ALL_OF_ONCE, command: ONCE, option: NOW, value: Some("5") },
     Value { line: ALL_OF_ONCE, command: ONCE, option: KEY, value: Some("00ff") },
@@ -85,6 +87,13 @@ const VALUES: [Value; 41] = [
     Value { line: "run d --listen a", command: RUN, option: GRACE, value: None },
     Value { line: "run d --listen a", command: RUN, option: FUTURE, value: None },
     Value { line: "run d --listen a", command: RUN, option: SPARE, value: None },
+    Value { line: ALL_OF_ASK, command: ASK, option: SERVER, value: Some("a") },
+    Value { line: ALL_OF_ASK, command: ASK, option: REQUEST, value: Some("list") },
+    Value { line: ALL_OF_ASK, command: ASK, option: WORDS, value: Some("up") },
+    Value { line: ALL_OF_ASK, command: ASK, option: TIMEOUT, value: Some("4294967295") },
+    Value { line: "ask a list", command: ASK, option: WORDS, value: None },
+    Value { line: "ask a list", command: ASK, option: TIMEOUT, value: None },
+    Value { line: "ask --json a register -", command: ASK, option: WORDS, value: Some("-") },
 ];
 
 /// Sees the value of an option.
@@ -120,15 +129,20 @@ struct Flag {
 }
 
 #[rattlefmt::skip]
-const FLAGS: [Flag; 14] = [
+const FLAGS: [Flag; 19] = [
     Flag { line: "once", command: ONCE, flag: HEX, is_given: false },
     Flag { line: ALL_OF_ONCE, command: ONCE, flag: HEX, is_given: true },
     Flag { line: "format d --checkpoint 2 --journal 516 --new", command: FORMAT, flag: NEW, is_given: true },
     Flag { line: "format d --checkpoint 2 --journal 516 --new", command: FORMAT, flag: FORCE, is_given: false },
     Flag { line: "format d --force --checkpoint 2 --journal 516", command: FORMAT, flag: FORCE, is_given: true },
     Flag { line: "format d --force --checkpoint 2 --journal 516", command: FORMAT, flag: NEW, is_given: false },
+    Flag { line: "format d --force --rows 1", command: FORMAT, flag: RESERVE, is_given: false },
+    Flag { line: "format d --reserve --rows 1", command: FORMAT, flag: RESERVE, is_given: true },
     Flag { line: "show d", command: SHOW, flag: LAYOUT, is_given: false },
     Flag { line: "show d --layout", command: SHOW, flag: LAYOUT, is_given: true },
+    Flag { line: "show d --json", command: SHOW, flag: JSON, is_given: true },
+    Flag { line: "ask a list", command: ASK, flag: JSON, is_given: false },
+    Flag { line: ALL_OF_ASK, command: ASK, flag: JSON, is_given: true },
     Flag { line: "run d --listen a", command: RUN, flag: QUIET, is_given: false },
     Flag { line: ALL_OF_RUN, command: RUN, flag: QUIET, is_given: true },
     Flag { line: "run d --listen a", command: RUN, flag: LOG_PRIORITY, is_given: false },

@@ -3,18 +3,24 @@
 use group_core::Numbers;
 use group_phases::{Check, Flush};
 use status_page::{
-    CallTime, CodeCount, Counts, EndCounts, MemoryWaits, RefusedCounts, page, response,
+    CallTime, CodeCount, Counts, EndCounts, LOOKUP_BUCKETS, LookupTimes, MemoryWaits,
+    OutcomeCounts, RefusedCounts, Usage, page, response,
 };
 use std::test::Fail;
-use store_loops::{CommitTimes, DeviceCall};
+use store_loops::{Bucket, CommitTimes, DeviceCall};
 
 /// A state that has committed five commands and has two rows, while a group is being written and a
 /// journal is sealed.
 pub(crate) const NUMBERS: Numbers = Numbers {
     place: 5,
     rows: 2,
+    up: 1,
+    core: 0,
+    down: 1,
     bytes: 186,
     most_bytes: 992,
+    journal_sectors: 64,
+    journal_used: 6,
     pending: 3,
     epoch: 7,
     version: 2,
@@ -26,6 +32,41 @@ pub(crate) const NUMBERS: Numbers = Numbers {
 
 /// The times of some commits, in microseconds.
 const TIMES: [u64; 4] = [700, 4_000, 5_000, 61_060_300];
+
+/// The times of the buckets of lookups, in microseconds, and their counts.
+const LOOKUPS: [(u64, u64); LOOKUP_BUCKETS] = [
+    (2, 0),
+    (5, 1),
+    (10, 800),
+    (20, 1_100),
+    (50, 1_230),
+    (100, 1_231),
+    (200, 1_232),
+    (500, 1_232),
+    (1_000, 1_232),
+    (10_000, 1_233),
+    (100_000, 1_233),
+    (1_000_000, 1_233),
+];
+
+/// How long lookups took, one of them longer than all buckets.
+fn lookups() -> LookupTimes {
+    let mut buckets = [Bucket {
+        microseconds: 0,
+        count: 0,
+    }; LOOKUP_BUCKETS];
+    for (bucket, (microseconds, count)) in buckets.iter_mut().zip(&LOOKUPS) {
+        *bucket = Bucket {
+            microseconds: *microseconds,
+            count: *count,
+        };
+    }
+    LookupTimes {
+        buckets,
+        count: 1_234,
+        microseconds: 1_517_003,
+    }
+}
 
 /// What the server has done, while a gate is being synced.
 pub(crate) fn counts() -> Counts {
@@ -47,6 +88,7 @@ pub(crate) fn counts() -> Counts {
             checkpointer: true,
         },
         commits,
+        lookups: lookups(),
         sessions: 6,
         started: 20,
         refused: RefusedCounts {
@@ -67,9 +109,21 @@ pub(crate) fn counts() -> Counts {
         listed: 56,
         purged: 3,
         removed: 0,
+        outcomes: OutcomeCounts {
+            inserted: 5,
+            updated: 4_294_967_296,
+            kept: 7,
+            removed: 3,
+        },
         dropped: 12,
         seconds: 86_400,
         begun: 1_796_000_000,
+        usage: Some(Usage {
+            memory: 5_480_448,
+            processor: 61_070_000,
+            open_files: 19,
+            most_files: 1_024,
+        }),
     }
 }
 
@@ -89,6 +143,11 @@ const PAGE: &str = "\
 # HELP pathd_rows Segments in the store.
 # TYPE pathd_rows gauge
 pathd_rows 2
+# HELP pathd_rows_by_type Segments in the store, by type.
+# TYPE pathd_rows_by_type gauge
+pathd_rows_by_type{type=\"up\"} 1
+pathd_rows_by_type{type=\"core\"} 0
+pathd_rows_by_type{type=\"down\"} 1
 # HELP pathd_rows_bytes Bytes of the records of these segments.
 # TYPE pathd_rows_bytes gauge
 pathd_rows_bytes 186
@@ -113,6 +172,12 @@ pathd_format_version 2
 # HELP pathd_journal_sealed 1 where a full journal awaits its checkpoint.
 # TYPE pathd_journal_sealed gauge
 pathd_journal_sealed 1
+# HELP pathd_journal_sectors Sectors of one of the two journals.
+# TYPE pathd_journal_sectors gauge
+pathd_journal_sectors 64
+# HELP pathd_journal_used_sectors Sectors that groups have taken in the journal to which the next group goes.
+# TYPE pathd_journal_used_sectors gauge
+pathd_journal_used_sectors 6
 # HELP pathd_flusher_phase 1 for the step that the flusher is in.
 # TYPE pathd_flusher_phase gauge
 pathd_flusher_phase{phase=\"resting\"} 0
@@ -209,6 +274,29 @@ pathd_replies_total{kind=\"listed\"} 56
 pathd_replies_total{kind=\"registered\"} 2
 pathd_replies_total{kind=\"purged\"} 3
 pathd_replies_total{kind=\"removed\"} 0
+# HELP pathd_outcomes_total Segments and rows of acknowledged commands, by what became of them.
+# TYPE pathd_outcomes_total counter
+pathd_outcomes_total{outcome=\"inserted\"} 5
+pathd_outcomes_total{outcome=\"updated\"} 4294967296
+pathd_outcomes_total{outcome=\"kept\"} 7
+pathd_outcomes_total{outcome=\"removed\"} 3
+# HELP pathd_lookup_seconds Time from a whole message of a lookup to the segments of its reply.
+# TYPE pathd_lookup_seconds histogram
+pathd_lookup_seconds_bucket{le=\"0.000002\"} 0
+pathd_lookup_seconds_bucket{le=\"0.000005\"} 1
+pathd_lookup_seconds_bucket{le=\"0.000010\"} 800
+pathd_lookup_seconds_bucket{le=\"0.000020\"} 1100
+pathd_lookup_seconds_bucket{le=\"0.000050\"} 1230
+pathd_lookup_seconds_bucket{le=\"0.000100\"} 1231
+pathd_lookup_seconds_bucket{le=\"0.000200\"} 1232
+pathd_lookup_seconds_bucket{le=\"0.000500\"} 1232
+pathd_lookup_seconds_bucket{le=\"0.001000\"} 1232
+pathd_lookup_seconds_bucket{le=\"0.010000\"} 1233
+pathd_lookup_seconds_bucket{le=\"0.100000\"} 1233
+pathd_lookup_seconds_bucket{le=\"1.000000\"} 1233
+pathd_lookup_seconds_bucket{le=\"+Inf\"} 1234
+pathd_lookup_seconds_sum 1.517003
+pathd_lookup_seconds_count 1234
 # HELP pathd_notices_dropped_total Notices that were dropped, since the log took none.
 # TYPE pathd_notices_dropped_total counter
 pathd_notices_dropped_total 12
@@ -218,6 +306,18 @@ pathd_uptime_seconds 86400
 # HELP process_start_time_seconds When the server began, in seconds since 1970.
 # TYPE process_start_time_seconds gauge
 process_start_time_seconds 1796000000
+# HELP process_resident_memory_bytes Bytes of memory that the process has in use.
+# TYPE process_resident_memory_bytes gauge
+process_resident_memory_bytes 5480448
+# HELP process_cpu_seconds_total Processor time of the process, in user and system mode.
+# TYPE process_cpu_seconds_total counter
+process_cpu_seconds_total 61.070000
+# HELP process_open_fds File descriptors that the process has open.
+# TYPE process_open_fds gauge
+process_open_fds 19
+# HELP process_max_fds File descriptors that the process may have open.
+# TYPE process_max_fds gauge
+process_max_fds 1024
 # HELP pathd_build_info 1 for the version of the program, and the format that its checkpoints have.
 # TYPE pathd_build_info gauge
 pathd_build_info{version=\"0.9.0\",format=\"2\"} 1

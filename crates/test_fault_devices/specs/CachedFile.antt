@@ -7,7 +7,7 @@ use Rattle.test_fault_devices.specs.declared.cached_file.CachedFile.{CachedFile}
 -- An honest file of these bytes, in which a stop may leave any bytes that were written since the
 -- last sync.
 abbrev pub cached_state : CachedFile → FileState
-cached_state file = record { is_honest = true; bytes = file.bytes.items; dirty = file.trail.dirty; past = file.trail.past; failures = 0 }
+cached_state file = record { is_honest = true; bytes = file.bytes.items; dirty = file.trail.value.dirty; past = file.trail.value.past; failures = 0 }
 
 -- The length and the number of names that its call returns: it counts as having one name.
 abbrev pub cached_status : CachedFile → FileStatus

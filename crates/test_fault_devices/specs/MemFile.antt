@@ -6,7 +6,7 @@ use Rattle.test_fault_devices.specs.declared.mem_file.MemFile.{MemFile}
 
 -- An honest file of these bytes, whose writes are never lost.
 abbrev pub memory_state : MemFile → FileState
-memory_state file = record { is_honest = true; bytes = file.bytes.items; dirty = []; past = file.trail.past; failures = 0 }
+memory_state file = record { is_honest = true; bytes = file.bytes.items; dirty = []; past = file.trail.value.past; failures = 0 }
 
 -- The length and the number of names that its call returns: a file in memory counts as having one
 -- name.

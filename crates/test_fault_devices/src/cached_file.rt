@@ -3,7 +3,7 @@ ghost use Rattle.std.specs.Prelude.{◌≡◌, ◌+◌, ◌≤◌, true, [], IfO
 ghost use Rattle.byte_lists.specs.Content.{AreBytes, overwrite};
 ghost use Rattle.sector_dev.specs.Image.{IsImage};
 
-use sector_dev::{FileCalls, FileStatus, Trail};
+use sector_dev::{FileCalls, FileStatus, Trail, fresh_trail, trail_synced, trail_wrote};
 use std::alloc::{AllocError, Global};
 use std::io;
 
@@ -16,7 +16,7 @@ pub struct CachedFile {
     at_most: usize,
     trail: Trail,
     ghost are_bytes: { AreBytes bytes.items },
-    ghost kept_image: { IsImage (record { reads = bytes.items; dirty = trail.dirty }) kept.items },
+    ghost kept_image: { IsImage (record { reads = bytes.items; dirty = trail.value.dirty }) kept.items },
 }
 
 impl CachedFile {
@@ -36,7 +36,7 @@ impl CachedFile {
             bytes,
             kept,
             at_most,
-            trail: Trail::new(),
+            trail: fresh_trail(),
         })
     }
 
@@ -104,7 +104,7 @@ impl FileCalls for CachedFile {
         if n == 0 {
             return Ok(0);
         }
-        self.trail = self.trail.wrote(&self.bytes, offset, n);
+        self.trail = trail_wrote(&self.trail, &self.bytes, offset, n);
         put_bytes(&mut self.bytes, offset as usize, &bytes[..n]);
         Ok(n)
     }
@@ -115,7 +115,7 @@ impl FileCalls for CachedFile {
         ensures kept { kept_bytes self.new ≡ (cached_state self.old).bytes }
     {
         self.kept.copy_from_slice(&self.bytes);
-        self.trail = self.trail.synced(&self.bytes);
+        self.trail = trail_synced(&self.trail, &self.bytes);
         Ok(())
     }
 }

@@ -2,7 +2,7 @@
 ghost use Rattle.std.specs.Prelude.{◌≡◌, true, []};
 ghost use Rattle.byte_lists.specs.Content.{AreBytes};
 
-use sector_dev::{FileCalls, FileStatus, Trail};
+use sector_dev::{FileCalls, FileStatus, Trail, fresh_trail, trail_synced};
 use std::io;
 
 /// An honest file in memory, of which one transfer moves at most a given number of bytes. Its calls
@@ -12,7 +12,7 @@ pub struct MemFile {
     bytes: Vec<u8>,
     at_most: usize,
     trail: Trail,
-    ghost clean: { trail.dirty ≡ [] },
+    ghost clean: { trail.value.dirty ≡ [] },
     ghost are_bytes: { AreBytes bytes.items },
 }
 
@@ -27,7 +27,7 @@ impl MemFile {
         MemFile {
             bytes,
             at_most,
-            trail: Trail::new(),
+            trail: fresh_trail(),
         }
     }
 
@@ -87,7 +87,7 @@ impl FileCalls for MemFile {
         }
         let start = offset as usize;
         // No write is lost, so that nothing is dirty after it.
-        self.trail = self.trail.synced(&self.bytes);
+        self.trail = trail_synced(&self.trail, &self.bytes);
         self.bytes[start..start + n].copy_from_slice(&bytes[..n]);
         Ok(n)
     }

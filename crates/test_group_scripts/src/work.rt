@@ -3,8 +3,8 @@
 use crate::stores::{Contents, assert_contents, contents_at};
 use group_core::{
     BeginError, Closing, Durable, DurableFollowed, FollowError, Followed, Following, Laid, Live,
-    Opened, PlainShow, Plan, PublishError, PublishFollowedError, Redeemed, Stable, StageError,
-    Staged, State, StepError, SubmitError, Switched, Ticket, Written,
+    Opened, PlainShow, Plan, PublishError, Redeemed, Stable, StageError, Staged, State, StepError,
+    SubmitError, Switched, Ticket, Written,
 };
 use path_db::{Command, Outcome};
 use sector_dev::Device;
@@ -449,10 +449,10 @@ fn flush_step<D: Device>(
         },
         Group::DurableFollowed(value) => match state.publish_followed(value) {
             Ok(value) => Ok(Group::Stable(value)),
-            Err(PublishFollowedError::NoMemory(value)) => {
+            Err(PublishError::NoMemory(value)) => {
                 return (Group::DurableFollowed(value), Told::NoMemory);
             }
-            Err(PublishFollowedError::Stranger(_value)) => rt.fail("a stranger"),
+            Err(PublishError::Stranger(_value)) => rt.fail("a stranger"),
         },
     };
     match next {

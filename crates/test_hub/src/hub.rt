@@ -1,9 +1,8 @@
-//! Tests of `path_hub` with guests in threads, a module for each subject. They see what no clause
+//! Tests of `path_hub` with tasks in threads, a module for each subject. They see what no clause
 //! says: that calls succeed and threads end, what another thread sees of a call, and what is there
 //! where memory or the device is refused.
 
 mod ahead;
-mod crews;
 mod given_up;
 mod held;
 mod host;
@@ -15,3 +14,4 @@ mod refused;
 mod serves;
 mod stops;
 mod strangers;
+mod workloads;

@@ -1,4 +1,4 @@
-//! Tests of `path_hub`: its actors' loops, guests in threads, and the queue in front of its lock.
+//! Tests of `path_hub`: its actors' loops, tasks in threads, and the queue in front of its lock.
 #![tactic(auto)]
 
 #[cfg(test)]

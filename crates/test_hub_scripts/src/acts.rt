@@ -41,8 +41,13 @@ impl Watch for Unwatched {
 }
 
 /// Submits a purge of what expires at moment 0, which is accepted.
-pub fn submit<S: Steps>(rt: &impl TestHost, steps: &S, watch: &mut impl Watch) -> Ticket {
-    match steps.submit(Command::Purge(0)) {
+pub fn submit<S: Steps>(
+    rt: &impl TestHost,
+    steps: &S,
+    sender: &mut S::Sender,
+    watch: &mut impl Watch,
+) -> Ticket {
+    match steps.submit(sender, Command::Purge(0)) {
         Ok(ticket) => {
             watch.see(Answer::Accepted(ticket.place()));
             ticket
@@ -130,34 +135,55 @@ pub fn refuse_stage<S: Steps>(rt: &impl TestHost, steps: &S, watch: &mut impl Wa
 }
 
 /// Commits a purge.
-pub fn commit<S: Steps>(rt: &impl TestHost, steps: &S, watch: &mut impl Watch) {
-    let ticket = submit(rt, steps, watch);
+pub fn commit<S: Steps>(
+    rt: &impl TestHost,
+    steps: &S,
+    sender: &mut S::Sender,
+    watch: &mut impl Watch,
+) {
+    let ticket = submit(rt, steps, sender, watch);
     flush(rt, steps, watch);
     spend(rt, steps, watch, ticket);
 }
 
 /// Commits this number of purges, a group for each.
-pub fn commit_all<S: Steps>(rt: &impl TestHost, steps: &S, watch: &mut impl Watch, count: u64) {
+pub fn commit_all<S: Steps>(
+    rt: &impl TestHost,
+    steps: &S,
+    sender: &mut S::Sender,
+    watch: &mut impl Watch,
+    count: u64,
+) {
     for _ in 0..count {
-        commit(rt, steps, watch);
+        commit(rt, steps, sender, watch);
     }
 }
 
 /// Seals a journal that has no room for the next purge, whose ticket is given.
-pub fn seal<S: Steps>(rt: &impl TestHost, steps: &S, watch: &mut impl Watch) -> Ticket {
-    let ticket = submit(rt, steps, watch);
+pub fn seal<S: Steps>(
+    rt: &impl TestHost,
+    steps: &S,
+    sender: &mut S::Sender,
+    watch: &mut impl Watch,
+) -> Ticket {
+    let ticket = submit(rt, steps, sender, watch);
     flush(rt, steps, watch);
     keep(rt, steps, watch, ticket)
 }
 
 /// Fills both journals of a new store with purges, a group for each: the first one, which is sealed
 /// then, and the second one.
-pub fn fill<S: Steps>(rt: &impl TestHost, steps: &S, watch: &mut impl Watch) {
-    commit_all(rt, steps, watch, GROUPS);
-    let ticket = seal(rt, steps, watch);
+pub fn fill<S: Steps>(
+    rt: &impl TestHost,
+    steps: &S,
+    sender: &mut S::Sender,
+    watch: &mut impl Watch,
+) {
+    commit_all(rt, steps, sender, watch, GROUPS);
+    let ticket = seal(rt, steps, sender, watch);
     flush(rt, steps, watch);
     spend(rt, steps, watch, ticket);
-    commit_all(rt, steps, watch, GROUPS - 1);
+    commit_all(rt, steps, sender, watch, GROUPS - 1);
 }
 
 /// Takes a checkpoint of one chunk through the checkpointer's steps, after a piece of it is

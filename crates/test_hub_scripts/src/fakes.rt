@@ -2,10 +2,10 @@
 
 use crate::stores::opened;
 use group_core::{
-    AtClosing, AtFollowed, AtFollowing, AtLaid, AtLive, AtOpened, AtPlan, AtStable, AtStaged,
-    AtSwitched, AtWritten, BeginError, Closing, Commit, Durable, DurableFollowed, FollowError,
-    Followed, Following, Laid, Live, Opened, PlainShow, Plan, Prepared, PublishError,
-    PublishFollowedError, Redeemed, Stable, StageError, Staged, State, StepError, SubmitError,
+    AtClosing, AtDurable, AtDurableFollowed, AtFollowed, AtFollowing, AtLaid, AtLive, AtOpened,
+    AtPlan, AtStable, AtStaged, AtSwitched, AtWritten, BeginError, Closing, Commit, Durable,
+    DurableFollowed, FollowError, Followed, Following, Laid, Live, Opened, PlainShow, Plan,
+    Prepared, PublishError, Redeemed, Stable, StageError, Staged, State, StepError, SubmitError,
     Switched, Ticket, Written,
 };
 use path_db::Command;
@@ -154,12 +154,14 @@ impl<R: Wait + TestHost> Fake<R> {
 impl<R: Wait + TestHost> Steps for Fake<R> {
     type Note = ();
 
+    type Sender = ();
+
     ghost tells = { λ _ _. Unit {0} };
 
     ghost has_stopped = { λ _. Unit {0} };
 
     #[tactic(auto, using(store_loops::proofs::Through::taken))]
-    fn submit(&self, command: Command) -> Result<Ticket, (Command, SubmitError)> {
+    fn submit(&self, _sender: &mut (), command: Command) -> Result<Ticket, (Command, SubmitError)> {
         let mut state = self.turn();
         let submitted = state.submit(command);
         MutexGuard::unlock(state);
@@ -227,7 +229,7 @@ impl<R: Wait + TestHost> Steps for Fake<R> {
     }
 
     #[tactic(auto, using(store_loops::proofs::Through::handed_in))]
-    fn publish(&self, value: Durable) -> Result<(), PublishError> {
+    fn publish(&self, value: Durable) -> Result<(), PublishError<AtDurable>> {
         let mut state = self.turn();
         let published = state.publish(value);
         MutexGuard::unlock(state);
@@ -259,7 +261,10 @@ impl<R: Wait + TestHost> Steps for Fake<R> {
     }
 
     #[tactic(auto, using(store_loops::proofs::Through::passed_on))]
-    fn publish_followed(&self, value: DurableFollowed) -> Result<Stable, PublishFollowedError> {
+    fn publish_followed(
+        &self,
+        value: DurableFollowed,
+    ) -> Result<Stable, PublishError<AtDurableFollowed>> {
         let mut state = self.turn();
         let published = state.publish_followed(value);
         MutexGuard::unlock(state);

@@ -3,6 +3,7 @@
 
 mod after;
 mod commands;
+mod counts;
 mod drops;
 mod memory;
 mod one_key;
@@ -10,4 +11,6 @@ mod puts;
 mod reads;
 mod records;
 mod refused;
+mod visits;
+mod ways;
 mod worked;

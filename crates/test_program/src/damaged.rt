@@ -1,7 +1,7 @@
 //! The commands over damaged stores, and those of version 1.
 
 use crate::images::{
-    CLOSED, EPOCH_0, EPOCH_1, EPOCH_2, FIRST_AREA, FIRST_GATE, FIRST_JOURNAL, LARGE_AT_1,
+    CLOSED, EPOCH_0, EPOCH_1, EPOCH_2, FIRST_AREA, FIRST_GATE, FIRST_JOURNAL, LARGE_AT_1, LARGER,
     LAST_EPOCH, OPEN, PURGE, PURGE_AND_A_BYTE, PURGE_AT_1, REGISTRATION, SEAL, SECOND_AREA,
     SECOND_GATE, SECTORS, TITLE, VERSION_1, VERSION_3, ZEROS,
 };
@@ -32,6 +32,15 @@ const PARTS: &[Part] = &[
         before: Before::Changes(&[(TITLE, ZEROS)]),
         peers: NO_PEERS,
         lines: &[("pathd show damaged", &[]), ("pathd status damaged", &[])],
+    },
+    Part {
+        what: "the title of a larger store",
+        before: Before::Changes(&[(TITLE, LARGER)]),
+        peers: NO_PEERS,
+        lines: &[
+            ("pathd show damaged", &[]),
+            ("pathd run damaged --listen 127.0.0.1:0 --quiet", &[]),
+        ],
     },
     Part {
         what: "a sector more",

@@ -31,6 +31,9 @@ const PEER: &str = "that of 127.0.0.1:";
 /// The word in the place of a peer's port.
 const PORT: &str = "PORT";
 
+/// How a line begins to name a process, which not every system can.
+const PROCESS: &str = " (process ";
+
 /// The word in the place of an address, which is another one in each run.
 pub(crate) const ADDRESS: &str = "ADDR";
 
@@ -117,7 +120,8 @@ impl<R: AllocGlobal + Wait + Clock + Drop> Given<R> {
     }
 
     /// Keeps a text that goes to standard error, and its end: with `ADDRESS` in the place of the
-    /// address, `PORT` in that of a peer's port, and `TIME` in that of a time.
+    /// address, `PORT` in that of a peer's port, `TIME` in that of a time, and without a process that
+    /// it names.
     fn say(&self, text: &str, end: &str) -> io::Result<()> {
         if self.is_stuck {
             for _ in self.host.forever() {
@@ -128,6 +132,7 @@ impl<R: AllocGlobal + Wait + Clock + Drop> Given<R> {
         let text = text.replace(alloc, self.bound.text.as_str(), ADDRESS)?;
         let text = portless(alloc, text.as_str())?;
         let text = timeless(alloc, text.as_str())?;
+        let text = without_process(alloc, text.as_str())?;
         let mut said = self.said.lock(&self.host);
         (*said).push_str(MARK)?;
         (*said).push_str(text.as_str())?;
@@ -153,6 +158,17 @@ fn timeless(alloc: Global, text: &str) -> Result<String, AllocError> {
         Some((before, after)) => {
             let before = before.trim_end_matches(|c: char| c.is_ascii_digit());
             format!(in alloc; "{before}{TIME}{MILLISECONDS}{after}")
+        }
+        None => String::from_str(alloc, text),
+    }
+}
+
+/// A text without the process that it names in brackets, if it names one.
+fn without_process(alloc: Global, text: &str) -> Result<String, AllocError> {
+    match text.split_once(PROCESS) {
+        Some((before, after)) => {
+            let after = after.trim_start_matches(|c: char| c != ')');
+            format!(in alloc; "{before}{}", after.trim_start_matches(')'))
         }
         None => String::from_str(alloc, text),
     }

@@ -43,6 +43,9 @@ pub(crate) const EPOCH_0: &[u8] = b"PCKP\x00\x00\x00\x02\x00\x00\x00\x00\x00\x00
 pub(crate) const EPOCH_2: &[u8] = b"PCKP\x00\x00\x00\x02\x00\x00\x00\x00\x00\x00\x00\x02\
 \x00\x00\x00\x00\x00\x00\x00\x00\x00\x00\x00\x00\x00\x00\x00\x00";
 
+/// The title of a store whose journals have a sector more: it has 1,041 sectors.
+pub(crate) const LARGER: &[u8] = b"SCPATHDB\x00\x00\x00\x01\x00\x00\x00\x02\x00\x00\x02\x05";
+
 /// A sector of zeros.
 pub(crate) const ZEROS: &[u8] = &[0; 512];
 

@@ -94,7 +94,7 @@ const PARTS: &[Part] = &[
                 &[],
             ),
             (
-                "pathd format another --checkpoint 2 --journal 516 --new",
+                "pathd format another --checkpoint 2 --journal 516 --new --reserve",
                 &[],
             ),
             (

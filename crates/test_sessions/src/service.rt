@@ -5,10 +5,10 @@
 
 pub(crate) mod clocks;
 pub(crate) mod frames;
-pub(crate) mod guests;
 mod memory;
 mod moments;
 mod readings;
 mod refusals;
 mod sessions;
 pub(crate) mod stores;
+pub(crate) mod tasks;

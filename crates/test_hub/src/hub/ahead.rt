@@ -1,10 +1,10 @@
 //! Commands that are handed in before the answer to the first is waited for.
 
-use crate::hub::crews::{Errand, Guests, crewed};
 use crate::hub::host::Host;
+use crate::hub::workloads::{Errand, Tasks, with_tasks};
 use group_core::SubmitError;
 use path_db::Command;
-use path_hub::{Hub, HubClaim, HubError, HubJob, HubName, with_hub};
+use path_hub::{Hub, HubClaim, HubError, HubJob, HubName, Senders, with_hub};
 use sector_dev::Device;
 use std::alloc::Global;
 use std::process::Abort;
@@ -30,21 +30,29 @@ impl HandsIn {
     fn claims<D: Device, N: HubName, R: Wait + Clock>(
         &self,
         hub: &Hub<D, N, R>,
+        senders: &Senders<N>,
     ) -> Option<Vec<HubClaim<N>>> {
         let mut claims = Vec::with_capacity(self.alloc, AHEAD as usize).ok()?;
         for _ in 0..AHEAD {
-            let _dropped = hub.hand_in(Command::Purge(0)).ok()?;
+            let _dropped = hub.hand_in(&mut senders.begin(), Command::Purge(0)).ok()?;
         }
         for _ in 0..AHEAD {
-            claims.push(hub.hand_in(Command::Purge(0)).ok()?).ok()?;
+            claims
+                .push(hub.hand_in(&mut senders.begin(), Command::Purge(0)).ok()?)
+                .ok()?;
         }
         Some(claims)
     }
 }
 
 impl Errand for HandsIn {
-    fn run<D: Device, N: HubName, R: Wait + Clock + Abort>(&self, hub: &Hub<D, N, R>, _guest: u64) {
-        let Some(claims) = self.claims(hub) else {
+    fn run<D: Device, N: HubName, R: Wait + Clock + Abort>(
+        &self,
+        hub: &Hub<D, N, R>,
+        senders: &Senders<N>,
+        _task: u64,
+    ) {
+        let Some(claims) = self.claims(hub, senders) else {
             return;
         };
         for claim in claims {
@@ -67,9 +75,9 @@ fn commands_handed_in_ahead(rt: HostRuntime) -> Result<(), Fail> {
         alloc,
         settled: AtomicU64::new(0),
     };
-    let guests = Guests::new(1, hands_in);
-    let device = crewed(&rt, alloc, new_store(&host, alloc), &guests);
-    assert_eq!(rt; guests.errand.settled.load(Ordering::SeqCst), AHEAD);
+    let tasks = Tasks::new(1, hands_in);
+    let device = with_tasks(&rt, alloc, new_store(&host, alloc), &tasks);
+    assert_eq!(rt; tasks.errand.settled.load(Ordering::SeqCst), AHEAD);
     let _device = assert_opens_to(&host, alloc, device, Contents::empty_at(80));
     Ok(())
 }
@@ -80,8 +88,11 @@ fn commands_handed_in_ahead(rt: HostRuntime) -> Result<(), Fail> {
 struct Stops;
 
 /// Hands a purge in, which is not refused.
-fn handed_in<D: Device, N: HubName, R: Wait + Clock + Abort>(hub: &Hub<D, N, R>) -> HubClaim<N> {
-    match hub.hand_in(Command::Purge(0)) {
+fn handed_in<D: Device, N: HubName, R: Wait + Clock + Abort>(
+    hub: &Hub<D, N, R>,
+    senders: &Senders<N>,
+) -> HubClaim<N> {
+    match hub.hand_in(&mut senders.begin(), Command::Purge(0)) {
         Ok(claim) => claim,
         Err(e) => panic!(hub.handle(); "{e:?}"),
     }
@@ -90,13 +101,17 @@ fn handed_in<D: Device, N: HubName, R: Wait + Clock + Abort>(hub: &Hub<D, N, R>)
 impl<D: Device, R: Wait + Clock + Abort> HubJob<D, R> for Stops {
     type Out = (Option<u64>, [Option<HubError>; 2]);
 
-    fn run<N: HubName>(self, hub: &Hub<D, N, R>) -> (Option<u64>, [Option<HubError>; 2]) {
+    fn run<N: HubName>(
+        self,
+        hub: &Hub<D, N, R>,
+        senders: &Senders<N>,
+    ) -> (Option<u64>, [Option<HubError>; 2]) {
         let rt = hub.handle();
-        let first = handed_in(hub);
+        let first = handed_in(hub, senders);
         flush(&Host(rt), hub, &mut Unwatched);
-        let second = handed_in(hub);
+        let second = handed_in(hub, senders);
         hub.stop();
-        let third = hub.hand_in(Command::Purge(0)).err();
+        let third = hub.hand_in(&mut senders.begin(), Command::Purge(0)).err();
         let place = hub.settle(first).ok().map(|receipt| receipt.place());
         (place, [hub.settle(second).err(), third])
     }

@@ -1,10 +1,10 @@
 //! A hub whose state was stopped at a stranger.
 
-use crate::hub::crews::{Errand, Guests, crewed};
 use crate::hub::host::Host;
+use crate::hub::workloads::{Errand, Tasks, with_tasks};
 use group_core::SubmitError;
 use path_db::Command;
-use path_hub::{Hub, HubError, HubName, Steps};
+use path_hub::{Hub, HubError, HubName, Senders, Steps};
 use sector_dev::Device;
 use std::alloc::Global;
 use std::process::Abort;
@@ -23,11 +23,16 @@ struct GivesUp {
 }
 
 impl Errand for GivesUp {
-    fn run<D: Device, N: HubName, R: Wait + Clock + Abort>(&self, hub: &Hub<D, N, R>, _guest: u64) {
+    fn run<D: Device, N: HubName, R: Wait + Clock + Abort>(
+        &self,
+        hub: &Hub<D, N, R>,
+        senders: &Senders<N>,
+        _task: u64,
+    ) {
         let rt = hub.handle();
         let host = Host(rt);
         let fake = Fake::new(host, self.alloc, formatted(&host, self.alloc, LEAST));
-        let ticket = submit(&host, &fake, &mut Unwatched);
+        let ticket = submit(&host, &fake, &mut (), &mut Unwatched);
         match fake.stage() {
             Ok(staged) => hub.give_up(staged),
             Err(refused) => panic!(rt; "{refused:?}"),
@@ -35,18 +40,18 @@ impl Errand for GivesUp {
         fake.halt();
         spend(&host, &fake, &mut Unwatched, ticket);
         fake.end();
-        let refused = hub.register(Command::Purge(0)).err();
+        let refused = hub.register(&mut senders.begin(), Command::Purge(0)).err();
         assert_eq!(rt; refused, Some(HubError::Submit(SubmitError::Stopped)));
     }
 }
 
 #[test]
-fn crews_hear_of_a_stranger(rt: HostRuntime) -> Result<(), Fail> {
+fn workloads_hear_of_a_stranger(rt: HostRuntime) -> Result<(), Fail> {
     let host = Host(&rt);
     let alloc = rt.alloc();
-    let guests = Guests::new(1, GivesUp { alloc });
-    let device = crewed(&rt, alloc, new_store(&host, alloc), &guests);
-    assert_eq!(rt; guests.strangers(), 1);
+    let tasks = Tasks::new(1, GivesUp { alloc });
+    let device = with_tasks(&rt, alloc, new_store(&host, alloc), &tasks);
+    assert_eq!(rt; tasks.strangers(), 1);
     let _device = assert_opens_to(&host, alloc, device, Contents::empty_at(0));
     Ok(())
 }

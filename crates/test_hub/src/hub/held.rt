@@ -1,8 +1,8 @@
 //! A lookup is answered while a sync of the flusher is held, under the lock.
 
-use crate::hub::crews::{Errand, Guests, crewed};
 use crate::hub::host::Host;
-use path_hub::{Hub, HubName, Steps};
+use crate::hub::workloads::{Errand, Tasks, with_tasks};
+use path_hub::{Hub, HubName, Senders, Steps};
 use sector_dev::Device;
 use std::alloc::Global;
 use std::process::Abort;
@@ -30,15 +30,18 @@ impl Looks<'_> {
     fn shown<D: Device, N: HubName, R: Wait + Clock + Abort>(
         &self,
         hub: &Hub<D, N, R>,
+        senders: &Senders<N>,
     ) -> Option<Shown> {
         let rt = hub.handle();
         let mut reader = hub.reader().ok()?;
-        let mut first = hub.register(register(self.alloc, 0x10, 1)?).ok()?;
+        let mut first = hub
+            .register(&mut senders.begin(), register(self.alloc, 0x10, 1)?)
+            .ok()?;
         reader.learn(&mut first);
         let before = reader.lookup(&query(), 0).ok()?.len();
         let second = register(self.alloc, 0x10, 2)?;
         self.door.arm(rt);
-        let Ok(ticket) = hub.submit(second) else {
+        let Ok(ticket) = hub.submit(&mut senders.begin(), second) else {
             return None;
         };
         let is_held = self.door.is_held_soon(rt);
@@ -56,8 +59,13 @@ impl Looks<'_> {
 }
 
 impl Errand for Looks<'_> {
-    fn run<D: Device, N: HubName, R: Wait + Clock + Abort>(&self, hub: &Hub<D, N, R>, _guest: u64) {
-        let shown = self.shown(hub);
+    fn run<D: Device, N: HubName, R: Wait + Clock + Abort>(
+        &self,
+        hub: &Hub<D, N, R>,
+        senders: &Senders<N>,
+        _task: u64,
+    ) {
+        let shown = self.shown(hub, senders);
         *self.shown.lock(hub.handle()) = shown;
     }
 }
@@ -78,9 +86,9 @@ fn held_sync_lookup(rt: HostRuntime) -> Result<(), Fail> {
         door: &door,
         shown: Mutex::new(None),
     };
-    let guests = Guests::new(1, looks);
-    let device = crewed(&rt, alloc, store, &guests);
-    assert_eq!(rt; *guests.errand.shown.lock(&rt), Some([1, 1, 2]));
+    let tasks = Tasks::new(1, looks);
+    let device = with_tasks(&rt, alloc, store, &tasks);
+    assert_eq!(rt; *tasks.errand.shown.lock(&rt), Some([1, 1, 2]));
     assert_eq!(rt; door.latch(&rt), Latch::Open);
     let (device, _gate) = device.into_parts();
     let wanted = Contents {

@@ -1,9 +1,9 @@
 //! A receipt that a reader has learnt is shown by the reader's next lookup.
 
-use crate::hub::crews::{Errand, Guests, crewed};
 use crate::hub::host::Host;
+use crate::hub::workloads::{Errand, Tasks, with_tasks};
 use hub_readers::HubReader;
-use path_hub::{Hub, HubName};
+use path_hub::{Hub, HubName, Senders};
 use sector_dev::Device;
 use std::alloc::Global;
 use std::process::Abort;
@@ -25,12 +25,19 @@ struct Learns {
 }
 
 impl Errand for Learns {
-    fn run<D: Device, N: HubName, R: Wait + Clock + Abort>(&self, hub: &Hub<D, N, R>, _guest: u64) {
+    fn run<D: Device, N: HubName, R: Wait + Clock + Abort>(
+        &self,
+        hub: &Hub<D, N, R>,
+        senders: &Senders<N>,
+        _task: u64,
+    ) {
         let Ok(mut reader) = hub.reader() else {
             return;
         };
         for egress in 1..=SEGMENTS {
-            if shown_after(self.alloc, hub, &mut reader, egress) != Some(usize::from(egress)) {
+            if shown_after(self.alloc, hub, senders, &mut reader, egress)
+                != Some(usize::from(egress))
+            {
                 return;
             }
             self.shown.fetch_add(1, Ordering::SeqCst);
@@ -44,10 +51,13 @@ impl Errand for Learns {
 fn shown_after<D: Device, N: HubName, R: Wait + Clock>(
     alloc: Global,
     hub: &Hub<D, N, R>,
+    senders: &Senders<N>,
     reader: &mut HubReader<N>,
     egress: u8,
 ) -> Option<usize> {
-    let mut receipt = hub.register(register(alloc, 0x10, egress)?).ok()?;
+    let mut receipt = hub
+        .register(&mut senders.begin(), register(alloc, 0x10, egress)?)
+        .ok()?;
     reader.learn(&mut receipt);
     Some(reader.lookup(&query(), 0).ok()?.len())
 }
@@ -60,10 +70,10 @@ fn learnt_receipt_is_shown(rt: HostRuntime) -> Result<(), Fail> {
         alloc: rt.alloc(),
         shown: AtomicU64::new(0),
     };
-    let guests = Guests::new(1, learns);
-    let device = crewed(&rt, rt.alloc(), store, &guests);
+    let tasks = Tasks::new(1, learns);
+    let device = with_tasks(&rt, rt.alloc(), store, &tasks);
     assert_eq!(rt;
-        guests.errand.shown.load(Ordering::SeqCst),
+        tasks.errand.shown.load(Ordering::SeqCst),
         u64::from(SEGMENTS)
     );
     let wanted = Contents {

@@ -4,7 +4,7 @@ ghost use Rattle.std.specs.Prelude.{◌≡◌};
 
 use crate::hub::host::Host;
 use path_db::Command;
-use path_hub::{Hub, HubClaim, HubJob, HubName, UnnamedClaim, with_hub};
+use path_hub::{Hub, HubClaim, HubJob, HubName, Senders, UnnamedClaim, with_hub};
 use sector_dev::Device;
 use std::process::Abort;
 use std::sync::Wait;
@@ -20,9 +20,10 @@ struct Registers;
 /// Hands a purge in, which is not refused.
 fn handed_in<D: Device, N: HubName, R: Wait + Clock + Abort>(
     hub: &Hub<D, N, R>,
+    senders: &Senders<N>,
     until: u64,
 ) -> HubClaim<N> {
-    match hub.hand_in(Command::Purge(until)) {
+    match hub.hand_in(&mut senders.begin(), Command::Purge(until)) {
         Ok(claim) => claim,
         Err(e) => panic!(hub.handle(); "{e:?}"),
     }
@@ -33,7 +34,7 @@ fn settled<D: Device, N: HubName, R: Wait + Clock + Abort>(
     hub: &Hub<D, N, R>,
     claim: HubClaim<N>,
 ) -> UnnamedClaim
-    ensures table { result.table ≡ N.table }
+    ensures table { result.table ≡ N.table.passes }
     ensures command { result.claim.command ≡ claim }
 {
     match hub.settle(claim) {
@@ -47,11 +48,15 @@ impl<D: Device, R: Wait + Clock + Abort> HubJob<D, R> for Registers {
 
     type Out = (UnnamedClaim, UnnamedClaim);
 
-    ghost does = { λ _ claims table. (claims.0.table ≡ table) × (claims.1.table ≡ table) };
+    ghost does = { λ _ claims table. (claims.0.table ≡ table.passes) × (claims.1.table ≡ table.passes) };
 
-    fn run<N: HubName + Send + Sync>(self, hub: &Hub<D, N, R>) -> (UnnamedClaim, UnnamedClaim) {
-        let first = handed_in(hub, 1);
-        let second = handed_in(hub, 2);
+    fn run<N: HubName + Send + Sync>(
+        self,
+        hub: &Hub<D, N, R>,
+        senders: &Senders<N>,
+    ) -> (UnnamedClaim, UnnamedClaim) {
+        let first = handed_in(hub, senders, 1);
+        let second = handed_in(hub, senders, 2);
         flush(&Host(hub.handle()), hub, &mut Unwatched);
         (settled(hub, first), settled(hub, second))
     }

@@ -1,9 +1,9 @@
 //! Six hundred purges, one after the other.
 
-use crate::hub::crews::{Errand, Guests, crewed};
 use crate::hub::host::Host;
+use crate::hub::workloads::{Errand, Tasks, with_tasks};
 use path_db::Command;
-use path_hub::{Hub, HubName};
+use path_hub::{Hub, HubName, Senders};
 use sector_dev::Device;
 use std::process::Abort;
 use std::sync::Wait;
@@ -28,9 +28,14 @@ struct Purges {
 }
 
 impl Errand for Purges {
-    fn run<D: Device, N: HubName, R: Wait + Clock + Abort>(&self, hub: &Hub<D, N, R>, _guest: u64) {
+    fn run<D: Device, N: HubName, R: Wait + Clock + Abort>(
+        &self,
+        hub: &Hub<D, N, R>,
+        senders: &Senders<N>,
+        _task: u64,
+    ) {
         for place in 0..PURGES {
-            match hub.register(Command::Purge(0)) {
+            match hub.register(&mut senders.begin(), Command::Purge(0)) {
                 Ok(receipt) if receipt.place() == place => {}
                 _ => return,
             }
@@ -55,10 +60,10 @@ fn six_hundred_purges(rt: HostRuntime) -> Result<(), Fail> {
         placed: AtomicU64::new(0),
         is_counted: AtomicBool::new(false),
     };
-    let guests = Guests::new(1, purges);
-    let device = crewed(&rt, rt.alloc(), store, &guests);
-    assert_eq!(rt; guests.errand.placed.load(Ordering::SeqCst), PURGES);
-    assert!(rt; guests.errand.is_counted.load(Ordering::SeqCst));
+    let tasks = Tasks::new(1, purges);
+    let device = with_tasks(&rt, rt.alloc(), store, &tasks);
+    assert_eq!(rt; tasks.errand.placed.load(Ordering::SeqCst), PURGES);
+    assert!(rt; tasks.errand.is_counted.load(Ordering::SeqCst));
     let store = opened(&host, rt.alloc(), device);
     assert_contents(&host, contents_of(&store), Contents::empty_at(PURGES));
     // The first half's checkpoint has epoch 1, and each further one has the next.

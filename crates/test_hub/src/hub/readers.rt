@@ -2,7 +2,7 @@
 
 use crate::hub::host::Host;
 use hub_readers::HubReader;
-use path_hub::{Hub, HubError, HubJob, HubName, with_hub};
+use path_hub::{Hub, HubError, HubJob, HubName, Senders, with_hub};
 use sector_dev::Device;
 use std::alloc::Global;
 use std::sync::Wait;
@@ -20,7 +20,7 @@ struct TakesAll {
 impl<D: Device, R: Wait + Clock> HubJob<D, R> for TakesAll {
     type Out = Option<(usize, bool)>;
 
-    fn run<N: HubName>(self, hub: &Hub<D, N, R>) -> Option<(usize, bool)> {
+    fn run<N: HubName>(self, hub: &Hub<D, N, R>, _senders: &Senders<N>) -> Option<(usize, bool)> {
         let mut out: Vec<HubReader<N>> = Vec::new(self.alloc);
         for _ in 0..65 {
             match hub.reader() {

@@ -1,12 +1,12 @@
 //! Want of memory. The tests are run with each of their allocations refused in turn: a call that is
 //! refused changes nothing, and succeeds when it is made again.
 
-use crate::hub::crews::{Errand, Guests};
 use crate::hub::host::Host;
+use crate::hub::workloads::{Errand, Tasks};
 use group_core::{Durable, PublishError, StageError, Staged, StepError, SubmitError, Ticket};
 use hub_readers::{HubNote, HubReader, ReaderError};
 use path_db::Command;
-use path_hub::{Hub, HubError, HubJob, HubName, Steps, with_crew, with_hub};
+use path_hub::{Hub, HubError, HubJob, HubName, Senders, Steps, with_hub, with_workload};
 use sector_dev::{Device, MemDevice};
 use std::alloc::Global;
 use std::process::Abort;
@@ -47,9 +47,14 @@ fn command_of(rt: &impl Abort, alloc: Global, egress: u8) -> Command {
 }
 
 /// Submits a command, and once more where memory is refused.
-fn submit_again<S: Steps>(rt: &impl Abort, steps: &S, command: Command) -> Ticket {
-    let answer = match steps.submit(command) {
-        Err((back, SubmitError::NoMemory)) => steps.submit(back),
+fn submit_again<S: Steps>(
+    rt: &impl Abort,
+    steps: &S,
+    sender: &mut S::Sender,
+    command: Command,
+) -> Ticket {
+    let answer = match steps.submit(sender, command) {
+        Err((back, SubmitError::NoMemory)) => steps.submit(sender, back),
         answer => answer,
     };
     match answer {
@@ -159,14 +164,14 @@ struct Adds {
 impl<D: Device, R: Wait + Clock + Abort> HubJob<D, R> for Adds {
     type Out = (u64, u64);
 
-    fn run<N: HubName>(self, hub: &Hub<D, N, R>) -> (u64, u64) {
+    fn run<N: HubName>(self, hub: &Hub<D, N, R>, senders: &Senders<N>) -> (u64, u64) {
         let rt = hub.handle();
         let Ok(mut reader) = hub.reader() else {
             panic!(rt; "no reader");
         };
         assert_shown(rt, &mut reader, 1);
-        let second = submit_again(rt, hub, command_of(rt, self.alloc, 2));
-        let third = submit_again(rt, hub, command_of(rt, self.alloc, 3));
+        let second = submit_again(rt, hub, &mut senders.begin(), command_of(rt, self.alloc, 2));
+        let third = submit_again(rt, hub, &mut senders.begin(), command_of(rt, self.alloc, 3));
         let durable = durable_of(rt, hub);
         assert_shown(rt, &mut reader, 1);
         let second = publish_again(hub, &mut reader, durable, second);
@@ -216,7 +221,7 @@ fn refused_calls_may_be_made_again(rt: HostRuntime) -> Result<(), Fail> {
     Ok(())
 }
 
-/// Registers a segment, each guest another one, and looks it up. Counts the guests who did.
+/// Registers a segment, each task another one, and looks it up. Counts the tasks that did.
 #[derive(Drop)]
 struct Joins {
     alloc: Global,
@@ -224,13 +229,23 @@ struct Joins {
 }
 
 impl Errand for Joins {
-    fn run<D: Device, N: HubName, R: Wait + Clock + Abort>(&self, hub: &Hub<D, N, R>, guest: u64) {
+    fn run<D: Device, N: HubName, R: Wait + Clock + Abort>(
+        &self,
+        hub: &Hub<D, N, R>,
+        senders: &Senders<N>,
+        task: u64,
+    ) {
         let rt = hub.handle();
         let Ok(mut reader) = hub.reader() else {
             return;
         };
-        let egress = if guest == 0 { 2 } else { 3 };
-        let ticket = submit_again(rt, hub, command_of(rt, self.alloc, egress));
+        let egress = if task == 0 { 2 } else { 3 };
+        let ticket = submit_again(
+            rt,
+            hub,
+            &mut senders.begin(),
+            command_of(rt, self.alloc, egress),
+        );
         learn(rt, hub, &mut reader, ticket);
         let count = shown_again(rt, &mut reader);
         assert!(rt; 2 <= count && count <= 3, "{count}");
@@ -239,21 +254,21 @@ impl Errand for Joins {
     }
 }
 
-/// A hub with two guests, and once more where memory is refused for it: the device, and how many
-/// guests there were.
+/// A hub with two tasks, and once more where memory is refused for it: the device, and how many
+/// tasks there were.
 fn joined<R: Wait + Clock + Threads + Abort + Copy + Drop + Send + Sync>(
     rt: R,
     alloc: Global,
-    guests: &Guests<Joins>,
+    tasks: &Tasks<Joins>,
 ) -> (MemDevice, u64) {
     let host = Host(rt);
-    let (device, _left, first) = with_crew(rt, alloc, first_store(&host, alloc), 1, guests);
+    let (device, _left, first) = with_workload(rt, alloc, first_store(&host, alloc), 1, tasks);
     let e = match first {
         Ok(attended) => return (device, attended),
         Err(e) => e,
     };
     let store = assert_kept(&host, alloc, opened(&host, alloc, device), e);
-    let (device, _left, again) = with_crew(rt, alloc, store, 1, guests);
+    let (device, _left, again) = with_workload(rt, alloc, store, 1, tasks);
     match again {
         Ok(attended) => (device, attended),
         Err(e) => panic!(&rt; "{e:?}"),
@@ -261,18 +276,18 @@ fn joined<R: Wait + Clock + Threads + Abort + Copy + Drop + Send + Sync>(
 }
 
 #[test]
-fn refused_crews_may_come_again(rt: HostRuntime) -> Result<(), Fail> {
+fn refused_workloads_may_come_again(rt: HostRuntime) -> Result<(), Fail> {
     let host = Host(&rt);
     let alloc = rt.alloc();
     let joins = Joins {
         alloc,
         done: AtomicU64::new(0),
     };
-    let guests = Guests::new(2, joins);
-    let (device, attended) = joined(&rt, alloc, &guests);
-    // Where no thread was given for a guest, the other one was there.
-    assert_eq!(rt; attended.wrapping_add(guests.missed()), 2);
-    assert_eq!(rt; guests.errand.done.load(Ordering::SeqCst), attended);
+    let tasks = Tasks::new(2, joins);
+    let (device, attended) = joined(&rt, alloc, &tasks);
+    // Where no thread was given for a task, the other one was there.
+    assert_eq!(rt; attended.wrapping_add(tasks.missed()), 2);
+    assert_eq!(rt; tasks.errand.done.load(Ordering::SeqCst), attended);
     let wanted = if attended == 2 {
         Contents {
             rows: 3,

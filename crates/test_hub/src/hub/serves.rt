@@ -1,9 +1,9 @@
-//! Guests who register and look up beside each other.
+//! Tasks that register and look up at the same time.
 
-use crate::hub::crews::{Errand, Guests, crewed};
 use crate::hub::host::Host;
+use crate::hub::workloads::{Errand, Tasks, with_tasks};
 use hub_readers::HubReader;
-use path_hub::{Hub, HubName};
+use path_hub::{Hub, HubName, Senders};
 use sector_dev::Device;
 use std::alloc::Global;
 use std::process::Abort;
@@ -15,16 +15,16 @@ use test_hub_scripts::stores::{
     Contents, WIDE, assert_opens_to, formatted, opened, query_from, register,
 };
 
-/// How many guests there are.
+/// How many tasks there are.
 const GUESTS: u64 = 16;
 
 /// How many segments each of them registers.
 const SEGMENTS: u8 = 8;
 
-/// The least that the first AS of a guest's segments has beyond 1-ff00:0:100.
+/// The least that the first AS of a task's segments has beyond 1-ff00:0:100.
 const ORIGIN: u64 = 0x20;
 
-/// Registers segments of an AS that is the guest's own, and looks them up after each. Counts the
+/// Registers segments of an AS that is the task's own, and looks them up after each. Counts the
 /// lookups that showed as many as were registered by then, up to one that did not.
 #[derive(Drop)]
 struct Serves {
@@ -37,26 +37,34 @@ impl Serves {
     fn shown_after<D: Device, N: HubName, R: Wait + Clock>(
         &self,
         hub: &Hub<D, N, R>,
+        senders: &Senders<N>,
         reader: &mut HubReader<N>,
         origin: u8,
         egress: u8,
     ) -> Option<usize> {
-        let mut receipt = hub.register(register(self.alloc, origin, egress)?).ok()?;
+        let mut sender = senders.begin();
+        let command = register(self.alloc, origin, egress)?;
+        let mut receipt = hub.register(&mut sender, command).ok()?;
         reader.learn(&mut receipt);
         Some(reader.lookup(&query_from(origin), 0).ok()?.len())
     }
 }
 
 impl Errand for Serves {
-    fn run<D: Device, N: HubName, R: Wait + Clock + Abort>(&self, hub: &Hub<D, N, R>, guest: u64) {
-        let Ok(origin) = u8::try_from(ORIGIN.saturating_add(guest)) else {
+    fn run<D: Device, N: HubName, R: Wait + Clock + Abort>(
+        &self,
+        hub: &Hub<D, N, R>,
+        senders: &Senders<N>,
+        task: u64,
+    ) {
+        let Ok(origin) = u8::try_from(ORIGIN.saturating_add(task)) else {
             return;
         };
         let Ok(mut reader) = hub.reader() else {
             return;
         };
         for egress in 1..=SEGMENTS {
-            let shown = self.shown_after(hub, &mut reader, origin, egress);
+            let shown = self.shown_after(hub, senders, &mut reader, origin, egress);
             if shown != Some(usize::from(egress)) {
                 return;
             }
@@ -67,7 +75,7 @@ impl Errand for Serves {
 }
 
 #[test]
-fn crew_serves_all(rt: HostRuntime) -> Result<(), Fail> {
+fn workload_serves_all(rt: HostRuntime) -> Result<(), Fail> {
     let host = Host(&rt);
     let alloc = rt.alloc();
     let store = opened(&host, alloc, formatted(&host, alloc, WIDE));
@@ -75,9 +83,9 @@ fn crew_serves_all(rt: HostRuntime) -> Result<(), Fail> {
         alloc,
         shown: AtomicU64::new(0),
     };
-    let guests = Guests::new(GUESTS, serves);
-    let device = crewed(&rt, alloc, store, &guests);
-    assert_eq!(rt; guests.errand.shown.load(Ordering::SeqCst), 128);
+    let tasks = Tasks::new(GUESTS, serves);
+    let device = with_tasks(&rt, alloc, store, &tasks);
+    assert_eq!(rt; tasks.errand.shown.load(Ordering::SeqCst), 128);
     let wanted = Contents {
         rows: 128,
         bytes: 128 * 93,

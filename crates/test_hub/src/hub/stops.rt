@@ -1,11 +1,11 @@
 //! What is answered once the state has stopped.
 
-use crate::hub::crews::{Errand, Guests, crewed};
 use crate::hub::host::Host;
+use crate::hub::workloads::{Errand, Tasks, with_tasks};
 use group_core::SubmitError;
 use hub_readers::HubReader;
 use path_db::Command;
-use path_hub::{Hub, HubError, HubName};
+use path_hub::{Hub, HubError, HubName, Senders};
 use sector_dev::{Device, MemDevice};
 use std::alloc::Global;
 use std::process::Abort;
@@ -30,20 +30,25 @@ fn full_store<R: Wait + Abort + Copy + Drop>(rt: R, alloc: Global) -> Store<MemD
     // The epoch of the first half's checkpoint.
     change(&mut device, 1, 8, &[0xff; 8]);
     let fake = Fake::new(host, alloc, device);
-    fill(&host, &fake, &mut Unwatched);
+    fill(&host, &fake, &mut (), &mut Unwatched);
     opened(&host, alloc, fake.into_device())
 }
 
-/// The guest registers a command twice.
+/// The task registers a command twice.
 #[derive(Drop)]
 struct Waits {
     answers: Mutex<[Option<HubError>; 2]>,
 }
 
 impl Errand for Waits {
-    fn run<D: Device, N: HubName, R: Wait + Clock + Abort>(&self, hub: &Hub<D, N, R>, _guest: u64) {
-        let first = hub.register(Command::Purge(0)).err();
-        let second = hub.register(Command::Purge(0)).err();
+    fn run<D: Device, N: HubName, R: Wait + Clock + Abort>(
+        &self,
+        hub: &Hub<D, N, R>,
+        senders: &Senders<N>,
+        _task: u64,
+    ) {
+        let first = hub.register(&mut senders.begin(), Command::Purge(0)).err();
+        let second = hub.register(&mut senders.begin(), Command::Purge(0)).err();
         *self.answers.lock(hub.handle()) = [first, second];
     }
 }
@@ -66,9 +71,9 @@ fn register_in_a_state_that_stops(rt: HostRuntime) -> Result<(), Fail> {
     let waits = Waits {
         answers: Mutex::new([None, None]),
     };
-    let guests = Guests::new(1, waits);
-    let device = crewed(&rt, alloc, full_store(&rt, alloc), &guests);
-    let [first, second] = *guests.errand.answers.lock(&rt);
+    let tasks = Tasks::new(1, waits);
+    let device = with_tasks(&rt, alloc, full_store(&rt, alloc), &tasks);
+    let [first, second] = *tasks.errand.answers.lock(&rt);
     assert!(rt; is_stopped(first), "{first:?}");
     assert_eq!(rt; second, Some(HubError::Submit(SubmitError::Stopped)));
     let _device = assert_opens_to(&host, alloc, device, Contents::empty_at(514));
@@ -101,7 +106,7 @@ fn failing_store(rt: &Host<impl Abort>, alloc: Global) -> Store<FaultDevice> {
     opened(rt, alloc, FaultDevice::new(device, number))
 }
 
-/// What a guest sees of a device that fails in the second group: how many segments are shown before
+/// What a task sees of a device that fails in the second group: how many segments are shown before
 /// that, and after that to two readers; and what the second and the third command are answered.
 type Seen = ([usize; 3], [Option<HubError>; 2]);
 
@@ -118,16 +123,26 @@ fn shown<N: HubName>(reader: &mut HubReader<N>) -> Option<usize> {
 }
 
 impl Meets {
-    fn seen<D: Device, N: HubName, R: Wait + Clock>(&self, hub: &Hub<D, N, R>) -> Option<Seen> {
+    fn seen<D: Device, N: HubName, R: Wait + Clock>(
+        &self,
+        hub: &Hub<D, N, R>,
+        senders: &Senders<N>,
+    ) -> Option<Seen> {
         let mut reader = hub.reader().ok()?;
         let mut other = hub.reader().ok()?;
-        let mut receipt = hub.register(register(self.alloc, 0x10, 1)?).ok()?;
+        let mut receipt = hub
+            .register(&mut senders.begin(), register(self.alloc, 0x10, 1)?)
+            .ok()?;
         reader.learn(&mut receipt);
         let before = shown(&mut reader)?;
-        let second = hub.register(register(self.alloc, 0x10, 2)?).err();
+        let second = hub
+            .register(&mut senders.begin(), register(self.alloc, 0x10, 2)?)
+            .err();
         let after = shown(&mut reader)?;
         let elsewhere = shown(&mut other)?;
-        let third = hub.register(register(self.alloc, 0x10, 3)?).err();
+        let third = hub
+            .register(&mut senders.begin(), register(self.alloc, 0x10, 3)?)
+            .err();
         hub.give_back(reader);
         hub.give_back(other);
         Some(([before, after, elsewhere], [second, third]))
@@ -135,8 +150,13 @@ impl Meets {
 }
 
 impl Errand for Meets {
-    fn run<D: Device, N: HubName, R: Wait + Clock + Abort>(&self, hub: &Hub<D, N, R>, _guest: u64) {
-        let seen = self.seen(hub);
+    fn run<D: Device, N: HubName, R: Wait + Clock + Abort>(
+        &self,
+        hub: &Hub<D, N, R>,
+        senders: &Senders<N>,
+        _task: u64,
+    ) {
+        let seen = self.seen(hub, senders);
         *self.seen.lock(hub.handle()) = seen;
     }
 }
@@ -149,13 +169,13 @@ fn failed_gate_sync_stops(rt: HostRuntime) -> Result<(), Fail> {
         alloc,
         seen: Mutex::new(None),
     };
-    let guests = Guests::new(1, meets);
-    let device = crewed(&rt, alloc, failing_store(&host, alloc), &guests);
+    let tasks = Tasks::new(1, meets);
+    let device = with_tasks(&rt, alloc, failing_store(&host, alloc), &tasks);
     let answers = [
         Some(HubError::Stopped(1)),
         Some(HubError::Submit(SubmitError::Stopped)),
     ];
-    assert_eq!(rt; *guests.errand.seen.lock(&rt), Some(([1, 1, 1], answers)));
+    assert_eq!(rt; *tasks.errand.seen.lock(&rt), Some(([1, 1, 1], answers)));
     // The gate was written, though its sync failed: that command was kept.
     let wanted = Contents {
         rows: 2,
@@ -178,9 +198,15 @@ struct Purges {
 }
 
 /// Purges until the state has stopped, which it does within these calls of the device.
-fn purge_until_stopped<D: Device, N: HubName, R: Wait + Clock>(hub: &Hub<D, N, R>) -> Option<()> {
+fn purge_until_stopped<D: Device, N: HubName, R: Wait + Clock>(
+    hub: &Hub<D, N, R>,
+    senders: &Senders<N>,
+) -> Option<()> {
     for _ in 0..ACTORS_CALLS {
-        if hub.register(Command::Purge(0)).is_err() {
+        if hub
+            .register(&mut senders.begin(), Command::Purge(0))
+            .is_err()
+        {
             return Some(());
         }
     }
@@ -188,11 +214,14 @@ fn purge_until_stopped<D: Device, N: HubName, R: Wait + Clock>(hub: &Hub<D, N, R
 }
 
 impl Purges {
-    fn shown<D: Device, N: HubName, R: Wait + Clock>(hub: &Hub<D, N, R>) -> Option<[usize; 4]> {
+    fn shown<D: Device, N: HubName, R: Wait + Clock>(
+        hub: &Hub<D, N, R>,
+        senders: &Senders<N>,
+    ) -> Option<[usize; 4]> {
         let mut reader = hub.reader().ok()?;
         let mut other = hub.reader().ok()?;
         let first = shown(&mut reader)?;
-        purge_until_stopped(hub)?;
+        purge_until_stopped(hub, senders)?;
         let again = shown(&mut reader)?;
         let elsewhere = shown(&mut other)?;
         let last = shown(&mut reader)?;
@@ -203,8 +232,13 @@ impl Purges {
 }
 
 impl Errand for Purges {
-    fn run<D: Device, N: HubName, R: Wait + Clock + Abort>(&self, hub: &Hub<D, N, R>, _guest: u64) {
-        let shown = Purges::shown(hub);
+    fn run<D: Device, N: HubName, R: Wait + Clock + Abort>(
+        &self,
+        hub: &Hub<D, N, R>,
+        senders: &Senders<N>,
+        _task: u64,
+    ) {
+        let shown = Purges::shown(hub, senders);
         *self.shown.lock(hub.handle()) = shown;
     }
 }
@@ -221,9 +255,9 @@ fn assert_readers_go_on<R: Wait + Clock + Threads + Abort + Copy + Drop + Send +
     let purges = Purges {
         shown: Mutex::new(None),
     };
-    let guests = Guests::new(1, purges);
-    let device = crewed(rt, alloc, opened(&host, alloc, failing), &guests);
-    assert_eq!(&rt; *guests.errand.shown.lock(&rt), Some([1; 4]), "{number}");
+    let tasks = Tasks::new(1, purges);
+    let device = with_tasks(rt, alloc, opened(&host, alloc, failing), &tasks);
+    assert_eq!(&rt; *tasks.errand.shown.lock(&rt), Some([1; 4]), "{number}");
     let store = opened(&host, alloc, device.into_mem());
     assert_eq!(&rt; contents_of(&store).rows, 1, "{number}");
     let _device = store.into_device();

@@ -3,7 +3,7 @@
 use crate::hub::host::Host;
 use group_core::{Redeemed, SubmitError, Ticket};
 use path_db::Command;
-use path_hub::{Hub, HubError, HubJob, HubName, Steps, with_hub};
+use path_hub::{Hub, HubError, HubJob, HubName, Senders, Steps, with_hub};
 use sector_dev::Device;
 use std::alloc::Global;
 use std::process::Abort;
@@ -22,11 +22,11 @@ struct Redeems {
 impl<D: Device, R: Wait + Clock + Abort> HubJob<D, R> for Redeems {
     type Out = Ticket;
 
-    fn run<N: HubName>(self, hub: &Hub<D, N, R>) -> Ticket {
+    fn run<N: HubName>(self, hub: &Hub<D, N, R>, senders: &Senders<N>) -> Ticket {
         let Redeems { ticket } = self;
         let rt = hub.handle();
         let host = Host(rt);
-        let own = submit(&host, hub, &mut Unwatched);
+        let own = submit(&host, hub, &mut senders.begin(), &mut Unwatched);
         assert_eq!(rt; own.place(), ticket.place());
         let back = match hub.redeem(ticket) {
             Redeemed::Stranger(back) => back,
@@ -48,10 +48,10 @@ struct Visits {
 impl<D: Device, R: Wait + Clock + Abort + Copy> HubJob<D, R> for Visits {
     type Out = ();
 
-    fn run<N: HubName>(self, hub: &Hub<D, N, R>) {
+    fn run<N: HubName>(self, hub: &Hub<D, N, R>, senders: &Senders<N>) {
         let rt = hub.handle();
         let host = Host(rt);
-        let ticket = submit(&host, hub, &mut Unwatched);
+        let ticket = submit(&host, hub, &mut senders.begin(), &mut Unwatched);
         let store = new_store(&host, self.alloc);
         let ticket = match with_hub(*rt, self.alloc, store, 2, Redeems { ticket }) {
             Ok((ticket, _device, _left)) => ticket,
@@ -85,26 +85,32 @@ struct Fills {
 /// Sees that a command is not accepted, whether it is waited for or not.
 fn assert_refused<D: Device, N: HubName, R: Wait + Clock + Abort>(
     hub: &Hub<D, N, R>,
+    senders: &Senders<N>,
     wanted: SubmitError,
 ) {
     let rt = hub.handle();
-    match hub.submit(Command::Purge(0)) {
+    match hub.submit(&mut senders.begin(), Command::Purge(0)) {
         Ok(_ticket) => panic!(rt; "accepted"),
         Err((_command, refusal)) => assert_eq!(rt; refusal, wanted),
     }
     assert_eq!(rt;
-        hub.register(Command::Purge(0)).err(),
+        hub.register(&mut senders.begin(), Command::Purge(0)).err(),
         Some(HubError::Submit(wanted))
     );
 }
 
 /// As many tickets as may be given before any is redeemed.
-fn tickets_of<S: Steps>(rt: &Host<impl Abort>, alloc: Global, steps: &S) -> Vec<Ticket> {
+fn tickets_of<S: Steps>(
+    rt: &Host<impl Abort>,
+    alloc: Global,
+    steps: &S,
+    sender: &mut S::Sender,
+) -> Vec<Ticket> {
     let Ok(mut tickets) = Vec::with_capacity(alloc, MOST_PENDING as usize) else {
         panic!(rt.0; "out of memory");
     };
     for _ in 0..MOST_PENDING {
-        if let Err(_ticket) = tickets.push(submit(rt, steps, &mut Unwatched)) {
+        if let Err(_ticket) = tickets.push(submit(rt, steps, sender, &mut Unwatched)) {
             panic!(rt.0; "out of memory");
         }
     }
@@ -114,12 +120,12 @@ fn tickets_of<S: Steps>(rt: &Host<impl Abort>, alloc: Global, steps: &S) -> Vec<
 impl<D: Device, R: Wait + Clock + Abort> HubJob<D, R> for Fills {
     type Out = ();
 
-    fn run<N: HubName>(self, hub: &Hub<D, N, R>) {
+    fn run<N: HubName>(self, hub: &Hub<D, N, R>, senders: &Senders<N>) {
         let rt = hub.handle();
-        let mut tickets = tickets_of(&Host(rt), self.alloc, hub);
-        assert_refused(hub, SubmitError::Busy);
+        let mut tickets = tickets_of(&Host(rt), self.alloc, hub, &mut senders.begin());
+        assert_refused(hub, senders, SubmitError::Busy);
         hub.stop();
-        assert_refused(hub, SubmitError::Stopped);
+        assert_refused(hub, senders, SubmitError::Stopped);
         for _ in 0..MOST_PENDING {
             let Some(ticket) = tickets.pop() else {
                 break;

@@ -33,7 +33,7 @@ pub fn submit_all<R: Wait + TestHost>(
         panic!(rt; "out of memory");
     };
     for _ in 0..COMMANDS {
-        match fake.submit(Command::Purge(0)) {
+        match fake.submit(&mut (), Command::Purge(0)) {
             Ok(ticket) => {
                 if let Err(_ticket) = tickets.push(ticket) {
                     panic!(rt; "out of memory");
@@ -151,8 +151,8 @@ fn loops_end(rt: HostRuntime) -> Result<(), Fail> {
 fn full_device<R: Wait + Abort + Copy + Drop>(rt: R, alloc: Global) -> MemDevice {
     let host = Host(rt);
     let fake = Fake::new(host, alloc, formatted(&host, alloc, LEAST));
-    commit_all(&host, &fake, &mut Unwatched, GROUPS);
-    let ticket = seal(&host, &fake, &mut Unwatched);
+    commit_all(&host, &fake, &mut (), &mut Unwatched, GROUPS);
+    let ticket = seal(&host, &fake, &mut (), &mut Unwatched);
     fake.halt();
     spend(&host, &fake, &mut Unwatched, ticket);
     fake.into_device()
@@ -232,7 +232,7 @@ fn folded_at<R: Wait + Abort + Copy + Drop>(
 ) -> (MemDevice, Found) {
     let host = Host(rt);
     let fake = Fake::new(host, alloc, device);
-    let ticket = submit(&host, &fake, &mut Unwatched);
+    let ticket = submit(&host, &fake, &mut (), &mut Unwatched);
     if is_committed {
         flush(&host, &fake, &mut Unwatched);
     }

@@ -162,7 +162,7 @@ fn assert_alone<R: Wait + Abort + Copy + Drop>(rt: R, alloc: Global, run: Flushe
     let host = Host(rt);
     let fake = Fake::new(host, alloc, formatted(&host, alloc, LEAST));
     let kept = Kept::new(rt, alloc);
-    let ticket = submit(&host, &fake, &mut Unwatched);
+    let ticket = submit(&host, &fake, &mut (), &mut Unwatched);
     fake.stop_before(run.stop);
     flusher_loop(&rt, &Scarce::new(&fake, run.refusals()), &kept);
     spend(&host, &fake, &mut Unwatched, ticket);
@@ -223,12 +223,12 @@ fn checkpointer_stops_at_the_last_epoch(rt: HostRuntime) -> Result<(), Fail> {
     change(&mut device, 1, 8, &[0xff; 8]);
     let fake = Fake::new(host, alloc, device);
     let kept = Kept::new(&rt, alloc);
-    let ticket = submit(&host, &fake, &mut Unwatched);
+    let ticket = submit(&host, &fake, &mut (), &mut Unwatched);
     checkpointer_loop(&&rt, &fake, &kept);
     assert_kept(kept, &[Notice::NoEpoch]);
     // One call prepares a checkpoint, and the next one stops the state.
     assert_eq!(rt; fake.calls(), 3);
-    match fake.submit(Command::Purge(0)) {
+    match fake.submit(&mut (), Command::Purge(0)) {
         Err((_command, why)) => assert_eq!(rt; why, SubmitError::Stopped),
         Ok(more) => spend(&host, &fake, &mut Unwatched, more),
     }

@@ -1,7 +1,7 @@
 //! Which calls are counted as changes, and which rests a change ends.
 
 use crate::loops::host::Host;
-use path_hub::{Awaited, Hub, HubJob, HubName, Steps, with_hub};
+use path_hub::{Awaited, Hub, HubJob, HubName, Senders, Steps, with_hub};
 use sector_dev::Device;
 use std::alloc::Global;
 use std::process::Abort;
@@ -71,18 +71,18 @@ fn assert_grown(rt: &Host<impl Abort>, kind: &str, grown: &[u64], wanted: &[u64]
 
 /// A purge is submitted, staged, written, synced, its gate opened and synced, published, and
 /// redeemed.
-fn assert_group<S: Steps>(rt: &Host<impl Abort>, alloc: Global, steps: &S) {
+fn assert_group<S: Steps>(rt: &Host<impl Abort>, alloc: Global, steps: &S, sender: &mut S::Sender) {
     let mut counts = Counts::new(alloc, steps);
-    commit(rt, steps, &mut counts);
+    commit(rt, steps, sender, &mut counts);
     let Grown { work, seal } = counts.end();
     assert_grown(rt, "work", &work, &[1, 1, 1, 1, 1, 1, 1, 1]);
     assert_grown(rt, "seal", &seal, &[0, 0, 0, 0, 0, 0, 0, 0]);
 }
 
 /// The same calls, where a seal is published: the purge waits, and is committed then.
-fn assert_seal<S: Steps>(rt: &Host<impl Abort>, alloc: Global, steps: &S) {
+fn assert_seal<S: Steps>(rt: &Host<impl Abort>, alloc: Global, steps: &S, sender: &mut S::Sender) {
     let mut counts = Counts::new(alloc, steps);
-    let ticket = seal(rt, steps, &mut counts);
+    let ticket = seal(rt, steps, sender, &mut counts);
     let Grown { work, seal } = counts.end();
     assert_grown(rt, "work", &work, &[1, 1, 1, 1, 1, 1, 1, 1]);
     assert_grown(rt, "seal", &seal, &[0, 0, 0, 0, 0, 0, 1, 1]);
@@ -124,11 +124,11 @@ struct Makes {
 impl<D: Device, R: Wait + Clock + Abort> HubJob<D, R> for Makes {
     type Out = ();
 
-    fn run<N: HubName>(self, hub: &Hub<D, N, R>) {
+    fn run<N: HubName>(self, hub: &Hub<D, N, R>, senders: &Senders<N>) {
         let host = Host(hub.handle());
-        commit_all(&host, hub, &mut Unwatched, GROUPS - 1);
-        assert_group(&host, self.alloc, hub);
-        assert_seal(&host, self.alloc, hub);
+        commit_all(&host, hub, &mut senders.begin(), &mut Unwatched, GROUPS - 1);
+        assert_group(&host, self.alloc, hub, &mut senders.begin());
+        assert_seal(&host, self.alloc, hub, &mut senders.begin());
         assert_fold(&host, self.alloc, hub);
         assert_halt(&host, self.alloc, hub);
     }
@@ -183,13 +183,13 @@ struct Rests;
 impl<D: Device, R: Wait + Clock + Abort> HubJob<D, R> for Rests {
     type Out = ();
 
-    fn run<N: HubName>(self, hub: &Hub<D, N, R>) {
+    fn run<N: HubName>(self, hub: &Hub<D, N, R>, senders: &Senders<N>) {
         let Rests = self;
         let rt = hub.handle();
         let host = Host(rt);
-        commit_all(&host, hub, &mut Unwatched, GROUPS - 1);
+        commit_all(&host, hub, &mut senders.begin(), &mut Unwatched, GROUPS - 1);
         let work = hub.changes(Awaited::Work);
-        let ticket = submit(&host, hub, &mut Unwatched);
+        let ticket = submit(&host, hub, &mut senders.begin(), &mut Unwatched);
         assert_prompt(rt, hub, Awaited::Work, work);
         flush(&host, hub, &mut Unwatched);
         spend(&host, hub, &mut Unwatched, ticket);
@@ -197,7 +197,7 @@ impl<D: Device, R: Wait + Clock + Abort> HubJob<D, R> for Rests {
             assert_slow(rt, hub, awaited);
         }
         let sealed = hub.changes(Awaited::Seal);
-        let ticket = seal(&host, hub, &mut Unwatched);
+        let ticket = seal(&host, hub, &mut senders.begin(), &mut Unwatched);
         assert_prompt(rt, hub, Awaited::Seal, sealed);
         flush(&host, hub, &mut Unwatched);
         spend(&host, hub, &mut Unwatched, ticket);

@@ -1,10 +1,11 @@
 //! A state that refuses some of its calls.
 
 use group_core::{
-    AtClosing, AtFollowed, AtFollowing, AtLaid, AtLive, AtOpened, AtPlan, AtStable, AtStaged,
-    AtSwitched, AtWritten, BeginError, Closing, Commit, Durable, DurableFollowed, FollowError,
-    Followed, Following, Laid, Live, Opened, Plan, Prepared, PublishError, PublishFollowedError,
-    Redeemed, Stable, StageError, Staged, StepError, SubmitError, Switched, Ticket, Written,
+    AtClosing, AtDurable, AtDurableFollowed, AtFollowed, AtFollowing, AtLaid, AtLive, AtOpened,
+    AtPlan, AtStable, AtStaged, AtSwitched, AtWritten, BeginError, Closing, Commit, Durable,
+    DurableFollowed, FollowError, Followed, Following, Laid, Live, Opened, Plan, Prepared,
+    PublishError, Redeemed, Stable, StageError, Staged, StepError, SubmitError, Switched, Ticket,
+    Written,
 };
 use path_db::Command;
 use path_hub::{Awaited, Steps};
@@ -76,12 +77,18 @@ fn is_refused(more: &AtomicU64) -> bool {
 impl<S: Steps> Steps for Scarce<'_, S> {
     type Note = S::Note;
 
+    type Sender = S::Sender;
+
     ghost tells = { S.tells };
 
     ghost has_stopped = { λ _. Unit {0} };
 
-    fn submit(&self, command: Command) -> Result<Ticket, (Command, SubmitError)> {
-        self.steps.submit(command)
+    fn submit(
+        &self,
+        sender: &mut S::Sender,
+        command: Command,
+    ) -> Result<Ticket, (Command, SubmitError)> {
+        self.steps.submit(sender, command)
     }
 
     fn redeem(&self, ticket: Ticket) -> Redeemed<S::Note> {
@@ -119,7 +126,7 @@ impl<S: Steps> Steps for Scarce<'_, S> {
         self.steps.sync_gate(value)
     }
 
-    fn publish(&self, value: Durable) -> Result<(), PublishError> {
+    fn publish(&self, value: Durable) -> Result<(), PublishError<AtDurable>> {
         if is_refused(&self.publishings) {
             return Err(PublishError::NoMemory(value));
         }
@@ -138,9 +145,12 @@ impl<S: Steps> Steps for Scarce<'_, S> {
         self.steps.sync_followed(value)
     }
 
-    fn publish_followed(&self, value: DurableFollowed) -> Result<Stable, PublishFollowedError> {
+    fn publish_followed(
+        &self,
+        value: DurableFollowed,
+    ) -> Result<Stable, PublishError<AtDurableFollowed>> {
         if is_refused(&self.publishings) {
-            return Err(PublishFollowedError::NoMemory(value));
+            return Err(PublishError::NoMemory(value));
         }
         self.steps.publish_followed(value)
     }

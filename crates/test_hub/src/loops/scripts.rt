@@ -5,7 +5,7 @@ use crate::loops::host::Host;
 use group_core::StageError;
 use group_recovery::{Event, Reply, Run, run};
 use path_db::Command;
-use path_hub::{Hub, HubJob, HubName, Steps, with_hub};
+use path_hub::{Hub, HubJob, HubName, Senders, Steps, with_hub};
 use sector_dev::{Device, MemDevice};
 use std::alloc::Global;
 use std::process::Abort;
@@ -64,9 +64,9 @@ impl Watch for Notes<'_> {
 }
 
 /// Makes the script's calls.
-fn play<S: Steps>(rt: &Host<impl Abort>, steps: &S, notes: &mut Notes) {
-    fill(rt, steps, notes);
-    let ticket = submit(rt, steps, notes);
+fn play<S: Steps>(rt: &Host<impl Abort>, steps: &S, sender: &mut S::Sender, notes: &mut Notes) {
+    fill(rt, steps, sender, notes);
+    let ticket = submit(rt, steps, sender, notes);
     refuse_stage(rt, steps, notes);
     refuse_stage(rt, steps, notes);
     fold(rt, steps, notes);
@@ -85,12 +85,12 @@ struct Plays<'a> {
 impl<D: Device, R: Wait + Clock + Abort> HubJob<D, R> for Plays<'_> {
     type Out = Vec<Seen>;
 
-    fn run<N: HubName>(self, hub: &Hub<D, N, R>) -> Vec<Seen> {
+    fn run<N: HubName>(self, hub: &Hub<D, N, R>, senders: &Senders<N>) -> Vec<Seen> {
         let mut notes = Notes {
             seen: room(hub.handle(), self.alloc),
             syncs: self.syncs,
         };
-        play(&Host(hub.handle()), hub, &mut notes);
+        play(&Host(hub.handle()), hub, &mut senders.begin(), &mut notes);
         let Notes { seen, syncs: _ } = notes;
         seen
     }

@@ -33,7 +33,7 @@ fn flusher_gives_up_strangers(rt: HostRuntime) -> Result<(), Fail> {
     for (number, given_up) in FLUSHER_CALLS {
         let device = formatted(&host, alloc, LEAST);
         let fake = Fake::with_other(host, alloc, device, formatted(&host, alloc, LEAST));
-        let ticket = submit(&host, &fake, &mut Unwatched);
+        let ticket = submit(&host, &fake, &mut (), &mut Unwatched);
         fake.exchange_before(number);
         flusher_loop(&&rt, &fake, &Silent);
         assert_given_up(&&rt, &fake, given_up);

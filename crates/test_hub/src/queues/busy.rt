@@ -3,7 +3,7 @@
 use crate::queues::host::Host;
 use crate::queues::said::{Handed, Said, hand_in_purges, room, settle};
 use group_core::SubmitError;
-use path_hub::{Hub, HubJob, HubName, with_hub};
+use path_hub::{Hub, HubJob, HubName, Senders, with_hub};
 use sector_dev::Device;
 use std::alloc::Global;
 use std::process::Abort;
@@ -57,15 +57,15 @@ fn assert_said<D: Device, N: HubName, R: Wait + Clock + Abort>(
 impl<D: Device, R: Wait + Clock + Abort> HubJob<D, R> for Fills {
     type Out = ();
 
-    fn run<N: HubName>(self, hub: &Hub<D, N, R>) {
+    fn run<N: HubName>(self, hub: &Hub<D, N, R>, senders: &Senders<N>) {
         let rt = hub.handle();
         let [first, later] = COUNTS;
         let mut all = room(rt, self.alloc, first + later);
-        hand_in_purges(hub, &mut all, first);
+        hand_in_purges(hub, senders, &mut all, first);
         for _ in 0..GROUPS {
             flush(&Host(rt), hub, &mut Unwatched);
         }
-        hand_in_purges(hub, &mut all, later);
+        hand_in_purges(hub, senders, &mut all, later);
         flush(&Host(rt), hub, &mut Unwatched);
         assert_said(hub, all);
     }

@@ -1,9 +1,9 @@
-//! Sixty-four guests who hand commands in ahead while the checkpointer works.
+//! Sixty-four tasks that hand commands in ahead while the checkpointer works.
 
-use crate::queues::crews::{Errand, Guests, crewed};
 use crate::queues::host::Host;
 use crate::queues::said::{Handed, Said, hand_in, room, settle};
-use path_hub::{Hub, HubName};
+use crate::queues::workloads::{Errand, Tasks, with_tasks};
+use path_hub::{Hub, HubName, Senders};
 use sector_dev::Device;
 use std::alloc::Global;
 use std::process::Abort;
@@ -14,13 +14,13 @@ use std::time::Clock;
 use test_hub_scripts::folds::{Act, Ledger, act_of, command_of, counts_of};
 use test_hub_scripts::stores::{Contents, assert_opens_to, new_store};
 
-/// How many guests there are.
+/// How many tasks there are.
 const GUESTS: u64 = 64;
 
-/// How many commands a guest hands in before the first is answered.
+/// How many commands a task hands in before the first is answered.
 const AHEAD: u64 = 32;
 
-/// How often a guest does so.
+/// How often a task does so.
 const ROUNDS: u64 = 4;
 
 /// How many commands there are.
@@ -30,7 +30,7 @@ const ALL: u64 = GUESTS * AHEAD * ROUNDS;
 /// groups of 32, and a group takes two sectors at least.
 const SEALS: u64 = 1;
 
-/// Each guest hands commands in ahead, and enters what they are answered.
+/// Each task hands commands in ahead, and enters what they are answered.
 #[derive(Drop)]
 struct Sends {
     alloc: Global,
@@ -44,10 +44,11 @@ impl Sends {
     fn hand_in<D: Device, N: HubName, R: Wait + Clock + Abort>(
         &self,
         hub: &Hub<D, N, R>,
+        senders: &Senders<N>,
         act: Act,
     ) -> Handed<N> {
         match command_of(self.alloc, act) {
-            Some(command) => hand_in(hub, command),
+            Some(command) => hand_in(hub, senders, command),
             None => panic!(hub.handle(); "out of memory"),
         }
     }
@@ -56,19 +57,20 @@ impl Sends {
     fn hand_in_all<D: Device, N: HubName, R: Wait + Clock + Abort>(
         &self,
         hub: &Hub<D, N, R>,
-        guest: u64,
+        senders: &Senders<N>,
+        task: u64,
         from: u64,
     ) -> Vec<Handed<N>> {
         let rt = hub.handle();
         let mut all = room(rt, self.alloc, AHEAD);
         for number in 0..AHEAD {
-            let act = act_of(guest, from.saturating_add(number) as usize);
-            assert!(rt; all.push(self.hand_in(hub, act)).is_ok());
+            let act = act_of(task, from.saturating_add(number) as usize);
+            assert!(rt; all.push(self.hand_in(hub, senders, act)).is_ok());
         }
         all
     }
 
-    /// Enters what a guest's command is answered.
+    /// Enters what a task's command is answered.
     fn enter<D: Device, N: HubName, R: Wait + Clock + Abort>(
         &self,
         hub: &Hub<D, N, R>,
@@ -88,21 +90,27 @@ impl Sends {
     fn send<D: Device, N: HubName, R: Wait + Clock + Abort>(
         &self,
         hub: &Hub<D, N, R>,
-        guest: u64,
+        senders: &Senders<N>,
+        task: u64,
         from: u64,
     ) {
         let mut index = from;
-        for handed in self.hand_in_all(hub, guest, from) {
-            self.enter(hub, (guest, act_of(guest, index as usize)), handed);
+        for handed in self.hand_in_all(hub, senders, task, from) {
+            self.enter(hub, (task, act_of(task, index as usize)), handed);
             index = index.saturating_add(1);
         }
     }
 }
 
 impl Errand for Sends {
-    fn run<D: Device, N: HubName, R: Wait + Clock + Abort>(&self, hub: &Hub<D, N, R>, guest: u64) {
+    fn run<D: Device, N: HubName, R: Wait + Clock + Abort>(
+        &self,
+        hub: &Hub<D, N, R>,
+        senders: &Senders<N>,
+        task: u64,
+    ) {
         for round in 0..ROUNDS {
-            self.send(hub, guest, round.saturating_mul(AHEAD));
+            self.send(hub, senders, task, round.saturating_mul(AHEAD));
         }
         let (_numbers, completed) = hub.numbers();
         self.seals.fetch_max(completed.seals, Ordering::SeqCst);
@@ -112,7 +120,7 @@ impl Errand for Sends {
 }
 
 #[test]
-fn sixty_four_guests_beside_checkpoints(rt: HostRuntime) -> Result<(), Fail> {
+fn sixty_four_tasks_beside_checkpoints(rt: HostRuntime) -> Result<(), Fail> {
     let host = Host(&rt);
     let alloc = rt.alloc();
     let sends = Sends {
@@ -121,12 +129,12 @@ fn sixty_four_guests_beside_checkpoints(rt: HostRuntime) -> Result<(), Fail> {
         seals: AtomicU64::new(0),
         checkpoints: AtomicU64::new(0),
     };
-    let guests = Guests::new(GUESTS, sends);
-    let device = crewed(&rt, alloc, new_store(&host, alloc), &guests);
-    assert_eq!(rt; guests.missed(), 0);
-    let rows = guests.errand.ledger.rows(&host);
-    let seals = guests.errand.seals.load(Ordering::SeqCst);
-    let checkpoints = guests.errand.checkpoints.load(Ordering::SeqCst);
+    let tasks = Tasks::new(GUESTS, sends);
+    let device = with_tasks(&rt, alloc, new_store(&host, alloc), &tasks);
+    assert_eq!(rt; tasks.missed(), 0);
+    let rows = tasks.errand.ledger.rows(&host);
+    let seals = tasks.errand.seals.load(Ordering::SeqCst);
+    let checkpoints = tasks.errand.checkpoints.load(Ordering::SeqCst);
     assert!(rt; SEALS <= seals && 1 <= checkpoints, "{seals} {checkpoints}");
     let wanted = Contents {
         rows,

@@ -1,10 +1,10 @@
 //! A device that fails while the queue is full or half full: each command is answered.
 
-use crate::queues::crews::{Errand, Guests, crewed, nap};
 use crate::queues::host::Host;
 use crate::queues::said::{Handed, Said, hand_in_purges, room, settle};
+use crate::queues::workloads::{Errand, Tasks, nap, with_tasks};
 use group_core::SubmitError;
-use path_hub::{Hub, HubName};
+use path_hub::{Hub, HubName, Senders};
 use sector_dev::{Device, MemDevice};
 use std::alloc::Global;
 use std::process::Abort;
@@ -36,12 +36,12 @@ fn calls_to_open(rt: &impl Abort, alloc: Global, device: MemDevice) -> u64 {
     panic!(rt; "opening makes no end")
 }
 
-/// How many guests hand commands in.
+/// How many tasks hand commands in.
 const GUESTS: u64 = 4;
 
-/// How many commands wait in the queue as the device goes on: 2,304, which are all that may wait,
+/// How many commands wait in the queue as the device goes on: 8,448, which are all that may wait,
 /// and half of them.
-const WAITING: [u64; 2] = [2304, 1152];
+const WAITING: [u64; 2] = [8448, 4224];
 
 /// A call of the device fails.
 #[derive(Clone, Copy, Debug)]
@@ -146,11 +146,11 @@ fn wanted(committed: u64, stopped: u64, waiting: u64) -> Tally {
     }
 }
 
-/// How long guests wait for each other, in naps.
+/// How long tasks wait for each other, in naps.
 const MOST_NAPS: u64 = 4000;
 
-/// The first guest hands a purge in, and waits until its group's sync is held, if one must be.
-/// Then all guests hand purges in, and the sync goes on once they have.
+/// The first task hands a purge in, and waits until its group's sync is held, if one must be.
+/// Then all tasks hand purges in, and the sync goes on once they have.
 #[derive(Drop)]
 struct Fills<'a> {
     alloc: Global,
@@ -163,9 +163,9 @@ struct Fills<'a> {
 }
 
 impl Fills<'_> {
-    /// Waits until the first sync is held, which the first guest sees.
-    fn wait_for_sync<R: Wait + Clock + Abort>(&self, rt: &R, guest: u64) {
-        if guest == 0 {
+    /// Waits until the first sync is held, which the first task sees.
+    fn wait_for_sync<R: Wait + Clock + Abort>(&self, rt: &R, task: u64) {
+        if task == 0 {
             assert!(rt; self.door.is_held_soon(rt), "no sync is held");
             self.is_held.store(true, Ordering::SeqCst);
         }
@@ -178,7 +178,7 @@ impl Fills<'_> {
         panic!(rt; "no sync is held")
     }
 
-    /// Lets the sync go on once all guests have handed their purges in.
+    /// Lets the sync go on once all tasks have handed their purges in.
     fn go_on<R: Wait + Clock + Abort>(&self, rt: &R) {
         for _ in 0..MOST_NAPS {
             if self.handed.load(Ordering::SeqCst) == GUESTS {
@@ -187,26 +187,27 @@ impl Fills<'_> {
             }
             nap(rt);
         }
-        panic!(rt; "a guest waits for the state's lock, as after NoMemory")
+        panic!(rt; "a task waits for the state's lock, as after NoMemory")
     }
 
-    /// Hands a guest's purges in.
+    /// Hands a task's purges in.
     fn hand_in<D: Device, N: HubName, R: Wait + Clock + Abort>(
         &self,
         hub: &Hub<D, N, R>,
-        guest: u64,
+        senders: &Senders<N>,
+        task: u64,
     ) -> Vec<Handed<N>> {
         let rt = hub.handle();
         let mut all = room(rt, self.alloc, self.each.saturating_add(1));
-        if guest == 0 {
-            hand_in_purges(hub, &mut all, 1);
+        if task == 0 {
+            hand_in_purges(hub, senders, &mut all, 1);
         }
         if self.holds {
-            self.wait_for_sync(rt, guest);
+            self.wait_for_sync(rt, task);
         }
-        hand_in_purges(hub, &mut all, self.each);
+        hand_in_purges(hub, senders, &mut all, self.each);
         self.handed.fetch_add(1, Ordering::SeqCst);
-        if guest == 0 {
+        if task == 0 {
             self.go_on(rt);
         }
         all
@@ -219,8 +220,13 @@ impl Fills<'_> {
 }
 
 impl Errand for Fills<'_> {
-    fn run<D: Device, N: HubName, R: Wait + Clock + Abort>(&self, hub: &Hub<D, N, R>, guest: u64) {
-        for handed in self.hand_in(hub, guest) {
+    fn run<D: Device, N: HubName, R: Wait + Clock + Abort>(
+        &self,
+        hub: &Hub<D, N, R>,
+        senders: &Senders<N>,
+        task: u64,
+    ) {
+        for handed in self.hand_in(hub, senders, task) {
             let (said, _outcome) = settle(hub, handed);
             self.add(hub.handle(), said);
         }
@@ -239,20 +245,20 @@ fn failing_store<R: Wait + Clock + Abort + Copy>(
     opened(&host, alloc, HeldDevice::new(failing, Holds { rt, door }))
 }
 
-/// Has guests hand their purges in at a store on a device whose call of this number fails: the
+/// Has tasks hand their purges in at a store on a device whose call of this number fails: the
 /// device.
 fn failed<R: Wait + Clock + Threads + Abort + Copy + Drop + Send + Sync>(
     rt: R,
     alloc: Global,
     number: u64,
-    guests: &Guests<Fills<'_>>,
+    tasks: &Tasks<Fills<'_>>,
 ) -> MemDevice {
-    let door = guests.errand.door;
+    let door = tasks.errand.door;
     let store = failing_store(rt, alloc, door, number);
-    if guests.errand.holds {
+    if tasks.errand.holds {
         door.arm(&rt);
     }
-    let (device, _gate) = crewed(rt, alloc, store, guests).into_parts();
+    let (device, _gate) = with_tasks(rt, alloc, store, tasks).into_parts();
     device.into_mem()
 }
 
@@ -274,9 +280,9 @@ fn answered<R: Wait + Clock + Threads + Abort + Copy + Drop + Send + Sync>(
         handed: AtomicU64::new(0),
         tally: Mutex::new(Tally::new()),
     };
-    let guests = Guests::new(GUESTS, fills);
-    let device = failed(rt, alloc, number, &guests);
-    let tally = *guests.errand.tally.lock(&rt);
+    let tasks = Tasks::new(GUESTS, fills);
+    let device = failed(rt, alloc, number, &tasks);
+    let tally = *tasks.errand.tally.lock(&rt);
     (tally, device)
 }
 

@@ -1,12 +1,12 @@
 //! Commands that find the queue full, while the flusher can take none of it.
 
-use crate::queues::crews::{Errand, Guests, crewed, nap};
 use crate::queues::host::Host;
 use crate::queues::said::{Handed, Said, hand_in, hand_in_purges, room, settle};
+use crate::queues::workloads::{Errand, Tasks, nap, with_tasks};
 use group_core::SubmitError;
 use hub_readers::HubReader;
 use path_db::Command;
-use path_hub::{Hub, HubName, Notice};
+use path_hub::{Hub, HubName, Notice, Senders};
 use sector_dev::Device;
 use std::alloc::Global;
 use std::process::Abort;
@@ -32,7 +32,7 @@ const FULL: u64 = FIRST + GROUPS;
 const TAKEN: u64 = 32;
 
 /// How many commands may wait in the queue.
-const WAITING: u64 = 2304;
+const WAITING: u64 = 8448;
 
 /// How many commands are handed in once as many wait.
 const REFUSED: u64 = 3;
@@ -75,8 +75,12 @@ fn registration(rt: &impl Abort, alloc: Global, origin: u8) -> Command {
 }
 
 /// Commits a purge in a group of its own, which is the one of this place.
-fn commit_at<D: Device, N: HubName, R: Wait + Clock + Abort>(hub: &Hub<D, N, R>, place: u64) {
-    let (said, _outcome) = settle(hub, hand_in(hub, Command::Purge(0)));
+fn commit_at<D: Device, N: HubName, R: Wait + Clock + Abort>(
+    hub: &Hub<D, N, R>,
+    senders: &Senders<N>,
+    place: u64,
+) {
+    let (said, _outcome) = settle(hub, hand_in(hub, senders, Command::Purge(0)));
     assert_eq!(hub.handle(); said, Said::Committed(place));
 }
 
@@ -97,15 +101,16 @@ impl Fills {
     fn hand_in_all<D: Device, N: HubName, R: Wait + Clock + Abort>(
         &self,
         hub: &Hub<D, N, R>,
+        senders: &Senders<N>,
     ) -> Vec<Handed<N>> {
         let rt = hub.handle();
         let mut all = room(rt, self.alloc, TAKEN + WAITING + REFUSED);
-        hand_in_purges(hub, &mut all, TAKEN);
+        hand_in_purges(hub, senders, &mut all, TAKEN);
         wait_until_taken(hub);
-        hand_in_purges(hub, &mut all, WAITING);
+        hand_in_purges(hub, senders, &mut all, WAITING);
         let [origin, _last] = ORIGINS;
         for _ in 0..REFUSED {
-            let refused = hand_in(hub, registration(rt, self.alloc, origin));
+            let refused = hand_in(hub, senders, registration(rt, self.alloc, origin));
             assert!(rt; all.push(refused).is_ok());
         }
         let (numbers, _completed) = hub.numbers();
@@ -117,6 +122,7 @@ impl Fills {
     fn settle_all<D: Device, N: HubName, R: Wait + Clock + Abort>(
         &self,
         hub: &Hub<D, N, R>,
+        _senders: &Senders<N>,
         all: Vec<Handed<N>>,
     ) {
         let mut number = 0;
@@ -140,6 +146,7 @@ fn shown<N: HubName>(rt: &impl Abort, reader: &mut HubReader<N>, origin: u8) -> 
 /// Sees that the queue takes commands again, and that none of the refused ones has left a row.
 fn assert_goes_on<D: Device, N: HubName, R: Wait + Clock + Abort>(
     hub: &Hub<D, N, R>,
+    senders: &Senders<N>,
     alloc: Global,
 ) {
     let rt = hub.handle();
@@ -147,7 +154,7 @@ fn assert_goes_on<D: Device, N: HubName, R: Wait + Clock + Abort>(
         panic!(rt; "no reader");
     };
     let [refused, last] = ORIGINS;
-    match hub.register(registration(rt, alloc, last)) {
+    match hub.register(&mut senders.begin(), registration(rt, alloc, last)) {
         Ok(mut receipt) => {
             assert_eq!(rt; receipt.place(), LAST);
             reader.learn(&mut receipt);
@@ -160,16 +167,21 @@ fn assert_goes_on<D: Device, N: HubName, R: Wait + Clock + Abort>(
 }
 
 impl Errand for Fills {
-    fn run<D: Device, N: HubName, R: Wait + Clock + Abort>(&self, hub: &Hub<D, N, R>, _guest: u64) {
+    fn run<D: Device, N: HubName, R: Wait + Clock + Abort>(
+        &self,
+        hub: &Hub<D, N, R>,
+        senders: &Senders<N>,
+        _task: u64,
+    ) {
         let rt = hub.handle();
         assert!(rt; self.door.is_held_soon(rt), "no checkpoint is held");
         for place in FIRST..FULL {
-            commit_at(hub, place);
+            commit_at(hub, senders, place);
         }
-        let all = self.hand_in_all(hub);
+        let all = self.hand_in_all(hub, senders);
         self.door.open(rt);
-        self.settle_all(hub, all);
-        assert_goes_on(hub, self.alloc);
+        self.settle_all(hub, senders, all);
+        assert_goes_on(hub, senders, self.alloc);
     }
 
     fn note<R: Wait + Clock>(&self, rt: &R, notice: Notice) {
@@ -189,12 +201,12 @@ fn full_queue_is_busy(rt: HostRuntime) -> Result<(), Fail> {
         door: Door::new(Latch::Armed),
         settled: AtomicU64::new(0),
     };
-    let guests = Guests::new(1, fills);
+    let tasks = Tasks::new(1, fills);
     let store = opened(&host, alloc, sealed_row(&host, alloc));
-    let device = crewed(&rt, alloc, store, &guests);
-    assert_eq!(rt; guests.missed(), 0);
-    assert_eq!(rt; guests.errand.door.latch(&rt), Latch::Open);
-    let settled = guests.errand.settled.load(Ordering::SeqCst);
+    let device = with_tasks(&rt, alloc, store, &tasks);
+    assert_eq!(rt; tasks.missed(), 0);
+    assert_eq!(rt; tasks.errand.door.latch(&rt), Latch::Open);
+    let settled = tasks.errand.settled.load(Ordering::SeqCst);
     assert_eq!(rt; settled, TAKEN + WAITING + REFUSED);
     let wanted = Contents {
         rows: 2,

@@ -2,12 +2,12 @@
 //! allocations refused in turn: a command that is refused takes no place, and is accepted when it
 //! is handed in again.
 
-use crate::queues::crews::{Errand, Guests, nap};
 use crate::queues::host::Host;
 use crate::queues::said::{Handed, Said, hand_in, room, settle};
+use crate::queues::workloads::{Errand, Tasks, nap};
 use group_core::SubmitError;
 use path_db::Command;
-use path_hub::{Hub, HubError, HubName, with_crew};
+use path_hub::{Hub, HubError, HubName, Senders, with_workload};
 use sector_dev::{Device, MemDevice};
 use std::alloc::Global;
 use std::process::Abort;
@@ -30,11 +30,11 @@ const AHEAD: u64 = 100;
 /// that is refused waits for the state's lock, which the sync has.
 const NAPS: u64 = 10;
 
-/// How many naps the second guest waits for a sync to be held.
+/// How many naps the second task waits for a sync to be held.
 const MOST_NAPS: u64 = 400;
 
-/// The first guest hands a purge in, waits until its sync is held, hands more in, and sees that
-/// they are committed in their order. The second guest lets the sync go on where it has to.
+/// The first task hands a purge in, waits until its sync is held, hands more in, and sees that
+/// they are committed in their order. The second task lets the sync go on where it has to.
 #[derive(Drop)]
 struct Grows<'a> {
     alloc: Global,
@@ -44,9 +44,12 @@ struct Grows<'a> {
 }
 
 /// Hands a purge in, and once more where memory is refused.
-fn hand_in_again<D: Device, N: HubName, R: Wait + Clock + Abort>(hub: &Hub<D, N, R>) -> Handed<N> {
-    match hand_in(hub, Command::Purge(0)) {
-        Err(Said::Refused(SubmitError::NoMemory)) => hand_in(hub, Command::Purge(0)),
+fn hand_in_again<D: Device, N: HubName, R: Wait + Clock + Abort>(
+    hub: &Hub<D, N, R>,
+    senders: &Senders<N>,
+) -> Handed<N> {
+    match hand_in(hub, senders, Command::Purge(0)) {
+        Err(Said::Refused(SubmitError::NoMemory)) => hand_in(hub, senders, Command::Purge(0)),
         handed => handed,
     }
 }
@@ -56,13 +59,14 @@ impl Grows<'_> {
     fn hand_in<D: Device, N: HubName, R: Wait + Clock + Abort>(
         &self,
         hub: &Hub<D, N, R>,
+        senders: &Senders<N>,
     ) -> Vec<Handed<N>> {
         let rt = hub.handle();
         let mut all = room(rt, self.alloc, AHEAD + 1);
-        assert!(rt; all.push(hand_in_again(hub)).is_ok());
+        assert!(rt; all.push(hand_in_again(hub, senders)).is_ok());
         assert!(rt; self.door.is_held_soon(rt), "no sync is held");
         for _ in 0..AHEAD {
-            assert!(rt; all.push(hand_in_again(hub)).is_ok());
+            assert!(rt; all.push(hand_in_again(hub, senders)).is_ok());
             self.handed.fetch_add(1, Ordering::SeqCst);
         }
         self.door.open(rt);
@@ -70,9 +74,13 @@ impl Grows<'_> {
     }
 
     /// Hands all purges in, and sees that they are committed.
-    fn settle_all<D: Device, N: HubName, R: Wait + Clock + Abort>(&self, hub: &Hub<D, N, R>) {
+    fn settle_all<D: Device, N: HubName, R: Wait + Clock + Abort>(
+        &self,
+        hub: &Hub<D, N, R>,
+        senders: &Senders<N>,
+    ) {
         let mut place = 0;
-        for handed in self.hand_in(hub) {
+        for handed in self.hand_in(hub, senders) {
             let (said, _outcome) = settle(hub, handed);
             assert_eq!(hub.handle(); said, Said::Committed(place));
             place = place.saturating_add(1);
@@ -99,9 +107,14 @@ impl Grows<'_> {
 }
 
 impl Errand for Grows<'_> {
-    fn run<D: Device, N: HubName, R: Wait + Clock + Abort>(&self, hub: &Hub<D, N, R>, guest: u64) {
-        if guest == 0 {
-            self.settle_all(hub);
+    fn run<D: Device, N: HubName, R: Wait + Clock + Abort>(
+        &self,
+        hub: &Hub<D, N, R>,
+        senders: &Senders<N>,
+        task: u64,
+    ) {
+        if task == 0 {
+            self.settle_all(hub, senders);
         } else {
             self.go_on(hub.handle());
         }
@@ -122,17 +135,17 @@ fn held_store<R: Wait + Clock + Abort + Copy>(
     )
 }
 
-/// A hub with both guests, and once more where memory is refused for it: the device.
+/// A hub with both tasks, and once more where memory is refused for it: the device.
 fn grown<R: Wait + Clock + Threads + Abort + Copy + Drop + Send + Sync>(
     rt: R,
     alloc: Global,
-    guests: &Guests<Grows<'_>>,
+    tasks: &Tasks<Grows<'_>>,
 ) -> MemDevice {
     let host = Host(rt);
-    let door = guests.errand.door;
+    let door = tasks.errand.door;
     let store = held_store(rt, alloc, door, formatted(&host, alloc, LEAST));
     door.arm(&rt);
-    let (device, _left, first) = with_crew(rt, alloc, store, 1, guests);
+    let (device, _left, first) = with_workload(rt, alloc, store, 1, tasks);
     let (device, _gate) = device.into_parts();
     let Err(refused) = first else {
         return device;
@@ -141,7 +154,7 @@ fn grown<R: Wait + Clock + Threads + Abort + Copy + Drop + Send + Sync>(
     let store = held_store(rt, alloc, door, device);
     assert_contents(&host, contents_of(&store), Contents::empty_at(0));
     door.arm(&rt);
-    let (device, _left, again) = with_crew(rt, alloc, store, 1, guests);
+    let (device, _left, again) = with_workload(rt, alloc, store, 1, tasks);
     assert_eq!(&rt; again, Ok(2));
     device.into_parts().0
 }
@@ -157,11 +170,11 @@ fn refused_commands_may_be_handed_in_again(rt: HostRuntime) -> Result<(), Fail> 
         handed: AtomicU64::new(0),
         settled: AtomicU64::new(0),
     };
-    let guests = Guests::new(2, grows);
-    let device = grown(&rt, alloc, &guests);
-    let settled = guests.errand.settled.load(Ordering::SeqCst);
-    // Where no thread was given for the first guest, nobody has handed a purge in.
-    assert!(rt; settled == AHEAD + 1 || (settled == 0 && guests.missed() == 1));
+    let tasks = Tasks::new(2, grows);
+    let device = grown(&rt, alloc, &tasks);
+    let settled = tasks.errand.settled.load(Ordering::SeqCst);
+    // Where no thread was given for the first task, nobody has handed a purge in.
+    assert!(rt; settled == AHEAD + 1 || (settled == 0 && tasks.missed() == 1));
     let _device = assert_opens_to(&host, alloc, device, Contents::empty_at(settled));
     Ok(())
 }

@@ -2,7 +2,7 @@
 
 use group_core::SubmitError;
 use path_db::{Command, Outcome};
-use path_hub::{Hub, HubClaim, HubError, HubName};
+use path_hub::{Hub, HubClaim, HubError, HubName, Senders};
 use sector_dev::Device;
 use std::alloc::Global;
 use std::process::Abort;
@@ -37,19 +37,22 @@ pub(crate) type Handed<N> = Result<HubClaim<N>, Said>;
 /// Hands a command in.
 pub(crate) fn hand_in<D: Device, N: HubName, R: Wait + Clock>(
     hub: &Hub<D, N, R>,
+    senders: &Senders<N>,
     command: Command,
 ) -> Handed<N> {
-    hub.hand_in(command).map_err(answer_of)
+    hub.hand_in(&mut senders.begin(), command)
+        .map_err(answer_of)
 }
 
 /// Hands this number of purges in, one after the other, after those that were handed in before.
 pub(crate) fn hand_in_purges<D: Device, N: HubName, R: Wait + Clock + Abort>(
     hub: &Hub<D, N, R>,
+    senders: &Senders<N>,
     all: &mut Vec<Handed<N>>,
     count: u64,
 ) {
     for _ in 0..count {
-        let handed = hand_in(hub, Command::Purge(0));
+        let handed = hand_in(hub, senders, Command::Purge(0));
         assert!(hub.handle(); all.push(handed).is_ok());
     }
 }

@@ -3,7 +3,8 @@
 use crate::lookups::same::assert_same;
 use crate::lookups::worked::register;
 use isd_as::IsdAs;
-use path_db::{PathDb, Row};
+use path_db::PathDb;
+use row_map::Row;
 use seg_core::{SegType, Segment};
 use seg_lookup::{ANSWER_LIMIT, Query, answer};
 use std::alloc::Global;

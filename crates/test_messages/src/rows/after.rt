@@ -14,6 +14,11 @@ const START: u64 = 0x0001_ff00_0000_0110;
 
 const END: u64 = 0x0001_ff00_0000_0111;
 
+/// The patterns of two ISDs.
+const ISD_1: u64 = 1 << 48;
+
+const ISD_2: u64 = 2 << 48;
+
 /// The last moment at which the segments are shown.
 const LAST: u64 = EXPIRY - 1;
 
@@ -58,10 +63,10 @@ const MIDDLE: [u8; 32] = [0x8b; 32];
 
 const HIGH: [u8; 32] = [0xff; 32];
 
-/// Looks with an end, with a start alone, with neither, of other types, and late. `ID` is that of a
-/// row, the id that begins with 0x8a.
+/// Looks with an end, with a start alone, with neither, of other types, late, and with ISDs alone.
+/// `ID` is that of a row, the id that begins with 0x8a.
 #[rattlefmt::skip]
-const LOOKS: [Look; 20] = [
+const LOOKS: [Look; 26] = [
     Look { kind: DOWN, id: LOW, start: START, end: END, moment: LAST, limit: 64, shown: &[0x19, 0x8a, 0xbe, 0xfe] },
     Look { kind: DOWN, id: ID, start: START, end: END, moment: LAST, limit: 64, shown: &[0xbe, 0xfe] },
     Look { kind: DOWN, id: ID, start: 0, end: END, moment: LAST, limit: 1, shown: &[0xbe] },
@@ -82,6 +87,12 @@ const LOOKS: [Look; 20] = [
     Look { kind: CORE, id: MIDDLE, start: 0, end: 0, moment: LAST, limit: 64, shown: &[] },
     Look { kind: CORE, id: LOW, start: START, end: 0, moment: LAST, limit: 64, shown: &[0x8a] },
     Look { kind: DOWN, id: ID, start: 0, end: END, moment: EXPIRY, limit: 64, shown: &[] },
+    Look { kind: DOWN, id: LOW, start: ISD_1, end: ISD_1, moment: LAST, limit: 64, shown: &[0x19, 0x8a, 0xbe, 0xfe] },
+    Look { kind: DOWN, id: ID, start: ISD_1, end: ISD_1, moment: LAST, limit: 1, shown: &[0xbe] },
+    Look { kind: DOWN, id: ID, start: 0, end: ISD_1, moment: LAST, limit: 64, shown: &[0xbe, 0xe8, 0xfe] },
+    Look { kind: DOWN, id: MIDDLE, start: ISD_2, end: 0, moment: LAST, limit: 64, shown: &[0xe8] },
+    Look { kind: DOWN, id: HIGH, start: ISD_2, end: ISD_1, moment: LAST, limit: 64, shown: &[] },
+    Look { kind: DOWN, id: LOW, start: ISD_2, end: END, moment: LAST, limit: 64, shown: &[] },
 ];
 
 /// The first bytes of the ids of segments.

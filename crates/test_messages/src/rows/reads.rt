@@ -5,7 +5,8 @@ use crate::rows::worked::{
     row_of, segment,
 };
 use isd_as::IsdAs;
-use path_db::{Command, PathDb, Row, Rows};
+use path_db::{Command, PathDb};
+use row_map::{Row, Rows};
 use seg_core::{SegType, Segment, write_segment};
 use std::alloc::{AllocError, Global};
 use std::process::Abort;

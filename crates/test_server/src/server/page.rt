@@ -5,6 +5,11 @@ const BEFORE_TIMES: &str = "\
 # HELP pathd_rows Segments in the store.
 # TYPE pathd_rows gauge
 pathd_rows 1
+# HELP pathd_rows_by_type Segments in the store, by type.
+# TYPE pathd_rows_by_type gauge
+pathd_rows_by_type{type=\"up\"} 0
+pathd_rows_by_type{type=\"core\"} 0
+pathd_rows_by_type{type=\"down\"} 1
 # HELP pathd_rows_bytes Bytes of the records of these segments.
 # TYPE pathd_rows_bytes gauge
 pathd_rows_bytes 93
@@ -29,6 +34,12 @@ pathd_format_version 2
 # HELP pathd_journal_sealed 1 where a full journal awaits its checkpoint.
 # TYPE pathd_journal_sealed gauge
 pathd_journal_sealed 0
+# HELP pathd_journal_sectors Sectors of one of the two journals.
+# TYPE pathd_journal_sectors gauge
+pathd_journal_sectors 516
+# HELP pathd_journal_used_sectors Sectors that groups have taken in the journal to which the next group goes.
+# TYPE pathd_journal_used_sectors gauge
+pathd_journal_used_sectors 8
 # HELP pathd_flusher_phase 1 for the step that the flusher is in.
 # TYPE pathd_flusher_phase gauge
 pathd_flusher_phase{phase=\"resting\"} 1
@@ -90,8 +101,8 @@ pathd_commit_seconds_bucket{le=\"0.000500\"} ";
 /// The page between the last two times of commits.
 const ALL_TIMED: &str = "\npathd_commit_seconds_bucket{le=\"+Inf\"} 4\npathd_commit_seconds_sum ";
 
-/// The page between the times of commits and the number of seconds.
-const BEFORE_SECONDS: &str = "
+/// The page between the times of commits and the number of lookups that took two microseconds.
+const BEFORE_LOOKUPS: &str = "
 pathd_commit_seconds_count 4
 # HELP pathd_sessions Sessions that are open.
 # TYPE pathd_sessions gauge
@@ -119,6 +130,23 @@ pathd_replies_total{kind=\"listed\"} 1
 pathd_replies_total{kind=\"registered\"} 2
 pathd_replies_total{kind=\"purged\"} 1
 pathd_replies_total{kind=\"removed\"} 1
+# HELP pathd_outcomes_total Segments and rows of acknowledged commands, by what became of them.
+# TYPE pathd_outcomes_total counter
+pathd_outcomes_total{outcome=\"inserted\"} 1
+pathd_outcomes_total{outcome=\"updated\"} 0
+pathd_outcomes_total{outcome=\"kept\"} 0
+pathd_outcomes_total{outcome=\"removed\"} 0
+# HELP pathd_lookup_seconds Time from a whole message of a lookup to the segments of its reply.
+# TYPE pathd_lookup_seconds histogram
+pathd_lookup_seconds_bucket{le=\"0.000002\"} ";
+
+/// The page between the last two times of lookups.
+const ALL_LOOKUPS_TIMED: &str =
+    "\npathd_lookup_seconds_bucket{le=\"+Inf\"} 1\npathd_lookup_seconds_sum ";
+
+/// The page between the times of lookups and the number of seconds.
+const BEFORE_SECONDS: &str = "
+pathd_lookup_seconds_count 1
 # HELP pathd_notices_dropped_total Notices that were dropped, since the log took none.
 # TYPE pathd_notices_dropped_total counter
 pathd_notices_dropped_total 0
@@ -139,8 +167,36 @@ const AFTER_BEGUN: &str = "
 pathd_build_info{version=\"0.9.0\",format=\"2\"} 1
 # HELP pathd_refusals_total Messages that were refused, by code.
 # TYPE pathd_refusals_total counter
+pathd_refusals_total{code=\"01\"} 0
+pathd_refusals_total{code=\"11\"} 0
+pathd_refusals_total{code=\"12\"} 0
+pathd_refusals_total{code=\"13\"} 0
+pathd_refusals_total{code=\"14\"} 0
+pathd_refusals_total{code=\"15\"} 0
+pathd_refusals_total{code=\"22\"} 0
+pathd_refusals_total{code=\"23\"} 0
+pathd_refusals_total{code=\"24\"} 0
+pathd_refusals_total{code=\"25\"} 0
+pathd_refusals_total{code=\"26\"} 0
+pathd_refusals_total{code=\"27\"} 0
+pathd_refusals_total{code=\"28\"} 0
 pathd_refusals_total{code=\"29\"} 1
+pathd_refusals_total{code=\"2a\"} 0
+pathd_refusals_total{code=\"31\"} 0
+pathd_refusals_total{code=\"32\"} 0
+pathd_refusals_total{code=\"33\"} 0
 pathd_refusals_total{code=\"41\"} 2
+pathd_refusals_total{code=\"42\"} 0
+pathd_refusals_total{code=\"43\"} 0
+pathd_refusals_total{code=\"51\"} 0
+pathd_refusals_total{code=\"52\"} 0
+pathd_refusals_total{code=\"53\"} 0
+pathd_refusals_total{code=\"54\"} 0
+pathd_refusals_total{code=\"55\"} 0
+pathd_refusals_total{code=\"57\"} 0
+pathd_refusals_total{code=\"62\"} 0
+pathd_refusals_total{code=\"63\"} 0
+pathd_refusals_total{code=\"64\"} 0
 ";
 
 /// A text without the number at its front.
@@ -148,8 +204,8 @@ fn after_number(text: &str) -> &str {
     text.trim_start_matches(|letter: char| letter.is_ascii_digit() || letter == '.')
 }
 
-/// The page in an answer, whatever the times of commits, the number of seconds and the moment of the
-/// start are.
+/// The page in an answer, whatever the times of commits and lookups, the number of seconds and the
+/// moment of the start are.
 pub(crate) fn is_page(answer: &str) -> bool {
     let Some((head, page)) = answer.split_once("\r\n\r\n") else {
         return false;
@@ -158,6 +214,12 @@ pub(crate) fn is_page(answer: &str) -> bool {
         return false;
     };
     let Some((_times, rest)) = rest.split_once(ALL_TIMED) else {
+        return false;
+    };
+    let Some(rest) = after_number(rest).strip_prefix(BEFORE_LOOKUPS) else {
+        return false;
+    };
+    let Some((_times, rest)) = rest.split_once(ALL_LOOKUPS_TIMED) else {
         return false;
     };
     let Some(rest) = after_number(rest).strip_prefix(BEFORE_SECONDS) else {

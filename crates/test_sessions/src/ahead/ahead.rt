@@ -4,7 +4,7 @@
 use crate::ahead::crowds::{Sessions, crowded, served};
 use crate::ahead::frames::{ACK, head_of, number_of, push_frame};
 use crate::ahead::host::Host;
-use path_hub::{Hub, HubName};
+use path_hub::{Hub, HubName, Senders};
 use sector_dev::Device;
 use std::alloc::Global;
 use std::process::Abort;
@@ -74,12 +74,13 @@ impl Sessions for Sends {
     fn run<D: Device, N: HubName, R: Wait + Clock + Abort>(
         &self,
         hub: &Hub<D, N, R>,
+        senders: &Senders<N>,
         session: u64,
     ) {
         let rt = hub.handle();
         let frames = frames_of(rt, self.alloc, session, self.count);
         let mut replies = Vec::new(self.alloc);
-        let ended = served(hub, self.alloc, 0, &frames, &mut replies);
+        let ended = served(hub, senders, self.alloc, 0, &frames, &mut replies);
         assert_eq!(rt; ended, Ok(self.count as u64));
         self.enter_all(rt, session, &replies);
     }

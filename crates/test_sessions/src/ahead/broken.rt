@@ -4,7 +4,7 @@
 use crate::ahead::crowds::{Sessions, crowded, served};
 use crate::ahead::frames::{PURGE, joined, push};
 use crate::ahead::host::Host;
-use path_hub::{Hub, HubName};
+use path_hub::{Hub, HubName, Senders};
 use path_session::FrameError;
 use sector_dev::Device;
 use std::alloc::Global;
@@ -127,7 +127,11 @@ struct Breaks {
 
 impl Breaks {
     /// Serves the session that breaks off. What it writes is a front of the replies.
-    fn break_off<D: Device, N: HubName, R: Wait + Clock + Abort>(&self, hub: &Hub<D, N, R>) {
+    fn break_off<D: Device, N: HubName, R: Wait + Clock + Abort>(
+        &self,
+        hub: &Hub<D, N, R>,
+        senders: &Senders<N>,
+    ) {
         let rt = hub.handle();
         let Break {
             name,
@@ -140,7 +144,7 @@ impl Breaks {
             taken: Vec::new(self.alloc),
             room,
         };
-        let ended = served(hub, self.alloc, 0, &frames, &mut writer);
+        let ended = served(hub, senders, self.alloc, 0, &frames, &mut writer);
         assert_eq!(rt; ended, wanted, "{name}");
         let replies = joined(rt, self.alloc, &REPLIES);
         let (front, _rest) = replies.split_at(room.min(replies.len()));
@@ -166,15 +170,16 @@ impl Sessions for Breaks {
     fn run<D: Device, N: HubName, R: Wait + Clock + Abort>(
         &self,
         hub: &Hub<D, N, R>,
+        senders: &Senders<N>,
         _session: u64,
     ) {
         let rt = hub.handle();
-        self.break_off(hub);
+        self.break_off(hub, senders);
         let early = shown_now(hub);
         assert!(rt; FRONTS.contains(&early), "{}: {early:x}", self.row.name);
         let purge = joined(rt, self.alloc, &[PURGE]);
         let mut replies = Vec::new(self.alloc);
-        let ended = served(hub, self.alloc, 0, &purge, &mut replies);
+        let ended = served(hub, senders, self.alloc, 0, &purge, &mut replies);
         assert_eq!(rt; ended, Ok(1));
         assert_eq!(rt; replies, joined(rt, self.alloc, &[LATER]));
         assert_eq!(rt; shown_now(hub), FRONTS[5], "{}", self.row.name);

@@ -3,7 +3,7 @@
 use crate::ahead::clocks::Counts;
 use crate::ahead::host::Host;
 use isd_as::IsdAs;
-use path_hub::{Crew, Hub, HubName, Patient, with_crew};
+use path_hub::{Hub, HubName, Patient, Senders, Workload, with_workload};
 use path_session::{FrameError, HubService, serve};
 use sector_dev::Device;
 use seg_check::TrustAll;
@@ -29,7 +29,12 @@ const TURNS: u64 = 1000;
 
 /// What sessions do, each by its number, counted from 0.
 pub(crate) trait Sessions {
-    fn run<D: Device, N: HubName, R: Wait + Clock + Abort>(&self, hub: &Hub<D, N, R>, session: u64);
+    fn run<D: Device, N: HubName, R: Wait + Clock + Abort>(
+        &self,
+        hub: &Hub<D, N, R>,
+        senders: &Senders<N>,
+        session: u64,
+    );
 }
 
 /// A number of sessions. Where they do not come to an end, the test does.
@@ -41,8 +46,8 @@ struct Crowd<'a, S> {
     gone: AtomicU64,
 }
 
-impl<S: Sessions, D: Device, R: Wait + Clock + Abort> Crew<D, R> for Crowd<'_, S> {
-    type Guest = u64;
+impl<S: Sessions, D: Device, R: Wait + Clock + Abort> Workload<D, R> for Crowd<'_, S> {
+    type Task = u64;
 
     fn next<N: HubName>(&self, hub: &Hub<D, N, R>) -> Option<u64> {
         let session = self.invited.fetch_add(1, Ordering::SeqCst);
@@ -58,8 +63,8 @@ impl<S: Sessions, D: Device, R: Wait + Clock + Abort> Crew<D, R> for Crowd<'_, S
         panic!(hub.handle(); "a session waits for ever")
     }
 
-    fn attend<N: HubName>(&self, hub: &Hub<D, N, R>, session: u64) {
-        self.sessions.run(hub, session);
+    fn attend<N: HubName>(&self, hub: &Hub<D, N, R>, senders: &Senders<N>, session: u64) {
+        self.sessions.run(hub, senders, session);
         self.gone.fetch_add(1, Ordering::SeqCst);
     }
 
@@ -69,7 +74,7 @@ impl<S: Sessions, D: Device, R: Wait + Clock + Abort> Crew<D, R> for Crowd<'_, S
 }
 
 impl<S> Crowd<'_, S> {
-    /// Has the sessions come once more.
+    /// Lets `next` return the sessions once more.
     fn invite_again(&self) {
         self.invited.store(0, Ordering::SeqCst);
         self.gone.store(0, Ordering::SeqCst);
@@ -89,12 +94,12 @@ pub(crate) fn crowded<
         invited: AtomicU64::new(0),
         gone: AtomicU64::new(0),
     };
-    let (device, left, first) = with_crew(rt, alloc, store, 1, &crowd);
+    let (device, left, first) = with_workload(rt, alloc, store, 1, &crowd);
     let (device, _left, attended) = match first {
         Ok(attended) if attended > 0 => (device, left, Ok(attended)),
         _ => {
             crowd.invite_again();
-            with_crew(rt, alloc, opened(&Host(rt), alloc, device), 1, &crowd)
+            with_workload(rt, alloc, opened(&Host(rt), alloc, device), 1, &crowd)
         }
     };
     assert_eq!(&rt; attended, Ok(count));
@@ -115,6 +120,7 @@ fn cores(rt: &impl Abort, alloc: Global) -> Roster {
 /// this: what the session ended with.
 pub(crate) fn served<D: Device, N: HubName, R: Wait + Clock + Abort, W: Write>(
     hub: &Hub<D, N, R>,
+    senders: &Senders<N>,
     alloc: Global,
     moment: u64,
     frames: &[u8],
@@ -132,6 +138,7 @@ pub(crate) fn served<D: Device, N: HubName, R: Wait + Clock + Abort, W: Write>(
         Counts::after(moment),
         &roster,
         Patient,
+        senders.begin(),
     );
     let mut input = frames;
     let ended = serve(alloc, &mut input, writer, &mut service, TURNS);

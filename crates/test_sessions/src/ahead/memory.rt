@@ -4,7 +4,7 @@
 use crate::ahead::crowds::{Sessions, crowded, served};
 use crate::ahead::frames::{PURGE, joined, purged, push};
 use crate::ahead::host::Host;
-use path_hub::{Hub, HubName};
+use path_hub::{Hub, HubName, Senders};
 use path_session::FrameError;
 use sector_dev::Device;
 use std::alloc::Global;
@@ -74,6 +74,7 @@ impl Purges {
     fn serve<D: Device, N: HubName, R: Wait + Clock + Abort>(
         &self,
         hub: &Hub<D, N, R>,
+        senders: &Senders<N>,
         first: u8,
     ) -> u8 {
         let rt = hub.handle();
@@ -81,7 +82,7 @@ impl Purges {
         // There is room for the replies.
         let mut written = replies_but(rt, self.alloc, first, PURGES);
         written.clear();
-        let ended = served(hub, self.alloc, 0, &frames, &mut written);
+        let ended = served(hub, senders, self.alloc, 0, &frames, &mut written);
         placed(rt, self.alloc, first, ended, &written)
     }
 }
@@ -90,10 +91,11 @@ impl Sessions for Purges {
     fn run<D: Device, N: HubName, R: Wait + Clock + Abort>(
         &self,
         hub: &Hub<D, N, R>,
+        senders: &Senders<N>,
         _session: u64,
     ) {
-        let first = self.serve(hub, 0);
-        let second = self.serve(hub, first);
+        let first = self.serve(hub, senders, 0);
+        let second = self.serve(hub, senders, first);
         assert!(hub.handle(); first == PURGES || second == PURGES);
         let both = u64::from(first).saturating_add(u64::from(second));
         self.placed.store(both, Ordering::SeqCst);

@@ -4,7 +4,7 @@
 use crate::ahead::crowds::{Sessions, crowded, served};
 use crate::ahead::frames::{INSERTED, PURGE, REGISTER, REMOVE, joined, push, register_by};
 use crate::ahead::host::Host;
-use path_hub::{Hub, HubName};
+use path_hub::{Hub, HubName, Senders};
 use sector_dev::{Device, MemDevice};
 use std::alloc::Global;
 use std::process::Abort;
@@ -31,10 +31,18 @@ impl Sessions for Turns {
     fn run<D: Device, N: HubName, R: Wait + Clock + Abort>(
         &self,
         hub: &Hub<D, N, R>,
+        senders: &Senders<N>,
         _session: u64,
     ) {
         let mut replies = Vec::new(self.alloc);
-        let ended = served(hub, self.alloc, self.moment, &self.frames, &mut replies);
+        let ended = served(
+            hub,
+            senders,
+            self.alloc,
+            self.moment,
+            &self.frames,
+            &mut replies,
+        );
         assert!(hub.handle(); ended.is_ok(), "{ended:?}");
         assert_eq!(hub.handle(); replies.as_slice(), self.replies.as_slice());
     }

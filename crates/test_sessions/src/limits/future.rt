@@ -6,9 +6,9 @@ use crate::service::clocks::Counts;
 use crate::service::frames::{
     FOUND, INSERTED, LOOKUP, NONE_FOUND, PURGE, REGISTER, REMOVE, assert_replied, joined,
 };
-use crate::service::guests::{Talk, talked};
 use crate::service::stores::{assert_opens_to, cores, new_store};
-use path_hub::{Hub, HubName, Patient};
+use crate::service::tasks::{Talk, talked};
+use path_hub::{Hub, HubName, Patient, Senders};
 use path_session::{Ack, Code, HubService, Service};
 use sector_dev::Device;
 use seg_check::TrustAll;
@@ -43,13 +43,22 @@ impl Talk for Session<'_> {
     fn talk<D: Device, N: HubName, R: Wait + Clock + Abort>(
         &self,
         hub: &Hub<D, N, R>,
+        senders: &Senders<N>,
     ) -> Option<Vec<u8>> {
         let limits = Limits {
             future: self.bound,
             rooms: None,
             commands: true,
         };
-        replied(hub, self.alloc, limits, self.moment, Patient, self.frames)
+        replied(
+            hub,
+            senders,
+            self.alloc,
+            limits,
+            self.moment,
+            Patient,
+            self.frames,
+        )
     }
 }
 
@@ -226,6 +235,7 @@ impl Talk for OneByOne {
     fn talk<D: Device, N: HubName, R: Wait + Clock + Abort>(
         &self,
         hub: &Hub<D, N, R>,
+        senders: &Senders<N>,
     ) -> Option<Vec<u8>> {
         let rt = hub.handle();
         let roster = cores(rt, self.alloc);
@@ -235,7 +245,15 @@ impl Talk for OneByOne {
         let ends = lookup.as_slice().split_at(HEAD.min(lookup.len())).1;
         let reader = hub.reader().ok()?;
         let clock = Counts::after(0);
-        let service = HubService::new(hub, reader, &TrustAll, clock, &roster, Patient);
+        let service = HubService::new(
+            hub,
+            reader,
+            &TrustAll,
+            clock,
+            &roster,
+            Patient,
+            senders.begin(),
+        );
         let limits = Limits {
             future: Some(BOUND),
             rooms: None,

@@ -2,9 +2,9 @@
 
 use crate::limits::sessions::replied;
 use crate::service::frames::{FOUND, LOOKUP, NONE_FOUND, PURGE, REGISTER, assert_replied};
-use crate::service::guests::{Talk, talked};
 use crate::service::stores::{assert_opens_to, formatted, opened};
-use path_hub::{Hub, HubName, Patient, Waiter};
+use crate::service::tasks::{Talk, talked};
+use path_hub::{Hub, HubName, Patient, Senders, Waiter};
 use sector_dev::Device;
 use session_limits::Limits;
 use std::alloc::Global;
@@ -46,8 +46,8 @@ const NO_LIMITS: Limits<'static> = Limits {
     commands: true,
 };
 
-/// A session whose peer leaves while a sync is held, one that looks up meanwhile, and one that comes
-/// once the sync has passed.
+/// A session whose peer leaves while a sync is held, one that looks up meanwhile, and one that
+/// comes once the sync has passed.
 #[derive(Drop)]
 struct Left<'a> {
     alloc: Global,
@@ -58,6 +58,7 @@ impl Talk for Left<'_> {
     fn talk<D: Device, N: HubName, R: Wait + Clock + Abort>(
         &self,
         hub: &Hub<D, N, R>,
+        senders: &Senders<N>,
     ) -> Option<Vec<u8>> {
         let alloc = self.alloc;
         let peer = Leaves {
@@ -66,11 +67,11 @@ impl Talk for Left<'_> {
         };
         self.door.arm(hub.handle());
         let first = [REGISTER, PURGE, PURGE];
-        let left = replied(hub, alloc, NO_LIMITS, 0, peer, &first);
+        let left = replied(hub, senders, alloc, NO_LIMITS, 0, peer, &first);
         let is_held = self.door.latch(hub.handle()) == Latch::Held;
-        let meanwhile = replied(hub, alloc, NO_LIMITS, 0, Patient, &[LOOKUP]);
+        let meanwhile = replied(hub, senders, alloc, NO_LIMITS, 0, Patient, &[LOOKUP]);
         self.door.open(hub.handle());
-        let after = replied(hub, alloc, NO_LIMITS, 0, Patient, &[PURGE, LOOKUP]);
+        let after = replied(hub, senders, alloc, NO_LIMITS, 0, Patient, &[PURGE, LOOKUP]);
         if !is_held {
             return None;
         }

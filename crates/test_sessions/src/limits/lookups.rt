@@ -5,9 +5,9 @@ use crate::service::frames::{
     FOUND, FOUND_HEAD, INSERTED, LIST, LIST_NO_TYPE, LISTED_HEAD, LOOKUP, PURGE, REGISTER,
     REGISTER_NONE, REMOVE, assert_replied,
 };
-use crate::service::guests::{Talk, talked};
 use crate::service::stores::{assert_opens_to, new_store};
-use path_hub::{Hub, HubName, Patient};
+use crate::service::tasks::{Talk, talked};
+use path_hub::{Hub, HubName, Patient, Senders};
 use sector_dev::Device;
 use session_limits::Limits;
 use std::alloc::Global;
@@ -34,6 +34,7 @@ impl Talk for Sessions {
     fn talk<D: Device, N: HubName, R: Wait + Clock + Abort>(
         &self,
         hub: &Hub<D, N, R>,
+        senders: &Senders<N>,
     ) -> Option<Vec<u8>> {
         let alloc = self.alloc;
         let taking = Limits {
@@ -41,7 +42,7 @@ impl Talk for Sessions {
             rooms: None,
             commands: true,
         };
-        let registered = replied(hub, alloc, taking, 0, Patient, &[REGISTER])?;
+        let registered = replied(hub, senders, alloc, taking, 0, Patient, &[REGISTER])?;
         let looking = Limits {
             future: Some(0),
             rooms: None,
@@ -58,7 +59,7 @@ impl Talk for Sessions {
             LIST,
             LIST_NO_TYPE,
         ];
-        let looked_up = replied(hub, alloc, looking, 0, Patient, &frames)?;
+        let looked_up = replied(hub, senders, alloc, looking, 0, Patient, &frames)?;
         let mut all = registered;
         all.extend_from_slice(looked_up.as_slice()).ok()?;
         Some(all)

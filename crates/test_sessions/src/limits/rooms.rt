@@ -2,9 +2,9 @@
 
 use crate::service::clocks::Counts;
 use crate::service::frames::{LOOKUP, REGISTER, joined};
-use crate::service::guests::{Talk, talked};
 use crate::service::stores::{assert_opens_to, cores, new_store};
-use path_hub::{Hub, HubName, Patient};
+use crate::service::tasks::{Talk, talked};
+use path_hub::{Hub, HubName, Patient, Senders};
 use path_session::{Ack, Code, HubService, Message, Service};
 use sector_dev::Device;
 use seg_check::TrustAll;
@@ -97,6 +97,7 @@ impl Talk for Two {
     fn talk<D: Device, N: HubName, R: Wait + Clock + Abort>(
         &self,
         hub: &Hub<D, N, R>,
+        senders: &Senders<N>,
     ) -> Option<Vec<u8>> {
         let alloc = self.alloc;
         let rt = hub.handle();
@@ -116,10 +117,26 @@ impl Talk for Two {
         let reader = hub.reader().ok()?;
         let another = hub.reader().ok()?;
         let clock = Counts::after(0);
-        let service = HubService::new(hub, reader, &TrustAll, clock, &roster, Patient);
+        let service = HubService::new(
+            hub,
+            reader,
+            &TrustAll,
+            clock,
+            &roster,
+            Patient,
+            senders.begin(),
+        );
         let mut one = Limited::new(service, Counts::after(0), limits, rt);
         let clock = Counts::after(0);
-        let service = HubService::new(hub, another, &TrustAll, clock, &roster, Patient);
+        let service = HubService::new(
+            hub,
+            another,
+            &TrustAll,
+            clock,
+            &roster,
+            Patient,
+            senders.begin(),
+        );
         let mut other = Limited::new(service, Counts::after(0), limits, rt);
         share(rt, alloc, (&mut one, &mut other), &rooms, bodies);
         // A session that ends with a command under way gives its room back.

@@ -2,9 +2,9 @@
 
 use crate::service::clocks::Counts;
 use crate::service::frames::joined;
-use crate::service::guests::TURNS;
 use crate::service::stores::cores;
-use path_hub::{Hub, HubName, Waiter};
+use crate::service::tasks::TURNS;
+use path_hub::{Hub, HubName, Senders, Waiter};
 use path_session::{HubService, serve};
 use sector_dev::Device;
 use seg_check::TrustAll;
@@ -19,6 +19,7 @@ use std::time::Clock;
 /// one; that of the service begins at moment 1.
 pub(crate) fn replied<D: Device, N: HubName, R: Wait + Clock + Abort, P: Waiter + Drop>(
     hub: &Hub<D, N, R>,
+    senders: &Senders<N>,
     alloc: Global,
     limits: Limits<'_>,
     moment: u64,
@@ -30,7 +31,15 @@ pub(crate) fn replied<D: Device, N: HubName, R: Wait + Clock + Abort, P: Waiter 
     let frames = joined(rt, alloc, frames);
     let mut replies = Vec::new(alloc);
     let reader = hub.reader().ok()?;
-    let service = HubService::new(hub, reader, &TrustAll, Counts::after(0), &roster, peer);
+    let service = HubService::new(
+        hub,
+        reader,
+        &TrustAll,
+        Counts::after(0),
+        &roster,
+        peer,
+        senders.begin(),
+    );
     let mut limited = Limited::new(service, Counts::after(moment), limits, rt);
     let mut input = frames.as_slice();
     let ended = serve(alloc, &mut input, &mut replies, &mut limited, TURNS);

@@ -4,9 +4,9 @@
 
 use crate::service::clocks::Counts;
 use crate::service::frames::{FOUND, LOOKUP, REGISTER, joined};
-use crate::service::guests::{TURNS, Talk, talked};
 use crate::service::stores::{assert_opens_to, cores, new_store};
-use path_hub::{Hub, HubName, Patient};
+use crate::service::tasks::{TURNS, Talk, talked};
+use path_hub::{Hub, HubName, Patient, Senders};
 use path_session::{Ack, Code, FrameError, HubService, Outcome, Service, serve};
 use sector_dev::Device;
 use seg_check::TrustAll;
@@ -157,6 +157,7 @@ impl Talk for Again {
     fn talk<D: Device, N: HubName, R: Wait + Clock + Abort>(
         &self,
         hub: &Hub<D, N, R>,
+        senders: &Senders<N>,
     ) -> Option<Vec<u8>> {
         let rt = hub.handle();
         let roster = cores(rt, self.alloc);
@@ -174,6 +175,7 @@ impl Talk for Again {
             Counts::after(0),
             &roster,
             Patient,
+            senders.begin(),
         );
         call(rt, self.alloc, &mut service, bodies);
         hub.give_back(service.into_reader());
@@ -236,6 +238,7 @@ struct Sessions {
 /// What a session of the lookups ends with, and what it writes.
 fn looked_up<D: Device, N: HubName, R: Wait + Clock + Abort>(
     hub: &Hub<D, N, R>,
+    senders: &Senders<N>,
     alloc: Global,
 ) -> Option<(Result<u64, FrameError>, Vec<u8>)> {
     let rt = hub.handle();
@@ -245,7 +248,15 @@ fn looked_up<D: Device, N: HubName, R: Wait + Clock + Abort>(
     let mut written = replies_but(rt, alloc, LOOKUPS);
     written.clear();
     let reader = hub.reader().ok()?;
-    let mut service = HubService::new(hub, reader, &TrustAll, Counts::after(0), &roster, Patient);
+    let mut service = HubService::new(
+        hub,
+        reader,
+        &TrustAll,
+        Counts::after(0),
+        &roster,
+        Patient,
+        senders.begin(),
+    );
     let mut input = frames.as_slice();
     let ended = serve(alloc, &mut input, &mut written, &mut service, TURNS);
     hub.give_back(service.into_reader());
@@ -256,6 +267,7 @@ impl Talk for Sessions {
     fn talk<D: Device, N: HubName, R: Wait + Clock + Abort>(
         &self,
         hub: &Hub<D, N, R>,
+        senders: &Senders<N>,
     ) -> Option<Vec<u8>> {
         let rt = hub.handle();
         let roster = cores(rt, self.alloc);
@@ -273,13 +285,14 @@ impl Talk for Sessions {
             Counts::after(0),
             &roster,
             Patient,
+            senders.begin(),
         );
         let ack = answer_again(rt, self.alloc, &mut service, bodies, (Act::Register, 0));
         assert_eq!(rt; ack.place, 0);
         hub.give_back(service.into_reader());
-        let (ended, written) = looked_up(hub, self.alloc)?;
+        let (ended, written) = looked_up(hub, senders, self.alloc)?;
         let first = is_whole(rt, self.alloc, ended, &written);
-        let (ended, written) = looked_up(hub, self.alloc)?;
+        let (ended, written) = looked_up(hub, senders, self.alloc)?;
         let second = is_whole(rt, self.alloc, ended, &written);
         assert!(rt; first || second);
         Some(Vec::new(self.alloc))

@@ -5,9 +5,9 @@ use crate::service::frames::{
     FOUND, FOUND_HEAD, INSERTED, LIST, LIST_NO_TYPE, LISTED_HEAD, LOOKUP, NONE_FOUND, NONE_LISTED,
     PURGE, REGISTER, assert_replied, joined,
 };
-use crate::service::guests::{Talk, session, talked};
 use crate::service::stores::{cores, new_store};
-use path_hub::{Hub, HubName};
+use crate::service::tasks::{Talk, session, talked};
+use path_hub::{Hub, HubName, Senders};
 use sector_dev::Device;
 use std::alloc::Global;
 use std::process::Abort;
@@ -42,6 +42,7 @@ impl Talk for Expires {
     fn talk<D: Device, N: HubName, R: Wait + Clock + Abort>(
         &self,
         hub: &Hub<D, N, R>,
+        senders: &Senders<N>,
     ) -> Option<Vec<u8>> {
         let rt = hub.handle();
         let roster = cores(rt, self.alloc);
@@ -51,6 +52,7 @@ impl Talk for Expires {
         let clock = Counts::after(EXPIRY - 4);
         session(
             hub,
+            senders,
             self.alloc,
             &roster,
             clock,

@@ -4,11 +4,11 @@ use crate::service::clocks::Counts;
 use crate::service::frames::{
     FOUND, INSERTED, LOOKUP, PURGE, REGISTER, REMOVE, assert_replied, joined, register_by,
 };
-use crate::service::guests::{Talk, nap, session, talked};
 use crate::service::stores::{assert_opens_to, cores, failing_store, new_store, old_store};
+use crate::service::tasks::{Talk, nap, session, talked};
 use group_core::{Redeemed, Ticket};
 use path_db::Command;
-use path_hub::{Hub, HubJob, HubName, Steps, with_hub};
+use path_hub::{Hub, HubJob, HubName, Senders, Steps, with_hub};
 use sector_dev::Device;
 use seg_lookup::Roster;
 use std::alloc::Global;
@@ -32,13 +32,22 @@ const MOST_TRIES: u64 = 4000;
 /// Adds what a session of these frames is replied.
 fn reply<D: Device, N: HubName, R: Wait + Clock>(
     hub: &Hub<D, N, R>,
+    senders: &Senders<N>,
     alloc: Global,
     cores: &Roster,
     frames: &[u8],
     replies: &mut Vec<u8>,
 ) -> Option<()> {
     let mut input = frames;
-    session(hub, alloc, cores, Counts::after(0), &mut input, replies)
+    session(
+        hub,
+        senders,
+        alloc,
+        cores,
+        Counts::after(0),
+        &mut input,
+        replies,
+    )
 }
 
 /// Has as many commands pending as may be, over a hub that commits nothing, and then stops it.
@@ -49,12 +58,17 @@ struct Fills {
 }
 
 /// Submits as many commands as may be pending.
-fn pending<S: Steps>(rt: &impl Abort, alloc: Global, steps: &S) -> Vec<Ticket> {
+fn pending<S: Steps>(
+    rt: &impl Abort,
+    alloc: Global,
+    steps: &S,
+    sender: &mut S::Sender,
+) -> Vec<Ticket> {
     let Ok(mut tickets) = Vec::with_capacity(alloc, MOST_PENDING as usize) else {
         panic!(rt; "out of memory");
     };
     for _ in 0..MOST_PENDING {
-        let Ok(ticket) = steps.submit(Command::Purge(0)) else {
+        let Ok(ticket) = steps.submit(sender, Command::Purge(0)) else {
             panic!(rt; "not accepted");
         };
         if let Err(_ticket) = tickets.push(ticket) {
@@ -85,15 +99,29 @@ fn redeem_all<S: Steps>(rt: &impl Abort, steps: &S, tickets: Vec<Ticket>) {
 impl<D: Device, R: Wait + Clock + Abort> HubJob<D, R> for Fills {
     type Out = Option<Vec<u8>>;
 
-    fn run<N: HubName>(self, hub: &Hub<D, N, R>) -> Option<Vec<u8>> {
+    fn run<N: HubName>(self, hub: &Hub<D, N, R>, senders: &Senders<N>) -> Option<Vec<u8>> {
         let rt = hub.handle();
         let roster = cores(rt, self.alloc);
         let purge = joined(rt, self.alloc, &[PURGE]);
         let mut replies = Vec::new(self.alloc);
-        let tickets = pending(rt, self.alloc, hub);
-        let busy = reply(hub, self.alloc, &roster, purge.as_slice(), &mut replies);
+        let tickets = pending(rt, self.alloc, hub, &mut senders.begin());
+        let busy = reply(
+            hub,
+            senders,
+            self.alloc,
+            &roster,
+            purge.as_slice(),
+            &mut replies,
+        );
         hub.stop();
-        let stopped = reply(hub, self.alloc, &roster, purge.as_slice(), &mut replies);
+        let stopped = reply(
+            hub,
+            senders,
+            self.alloc,
+            &roster,
+            purge.as_slice(),
+            &mut replies,
+        );
         redeem_all(rt, hub, tickets);
         busy?;
         stopped?;
@@ -123,6 +151,7 @@ impl Talk for Overflows {
     fn talk<D: Device, N: HubName, R: Wait + Clock + Abort>(
         &self,
         hub: &Hub<D, N, R>,
+        senders: &Senders<N>,
     ) -> Option<Vec<u8>> {
         let rt = hub.handle();
         let roster = cores(rt, self.alloc);
@@ -132,6 +161,7 @@ impl Talk for Overflows {
             let mut reply_to_one = Vec::new(self.alloc);
             reply(
                 hub,
+                senders,
                 self.alloc,
                 &roster,
                 frame.as_slice(),
@@ -139,7 +169,14 @@ impl Talk for Overflows {
             )?;
         }
         let frame = register_by(MOST_ROWS + 1);
-        reply(hub, self.alloc, &roster, frame.as_slice(), &mut replies)?;
+        reply(
+            hub,
+            senders,
+            self.alloc,
+            &roster,
+            frame.as_slice(),
+            &mut replies,
+        )?;
         Some(replies)
     }
 }
@@ -168,6 +205,7 @@ struct Upgrades {
 /// What a removal is replied, once it is not refused because the store is old.
 fn removed<D: Device, N: HubName, R: Wait + Clock + Abort>(
     hub: &Hub<D, N, R>,
+    senders: &Senders<N>,
     alloc: Global,
     cores: &Roster,
     frame: &[u8],
@@ -175,7 +213,7 @@ fn removed<D: Device, N: HubName, R: Wait + Clock + Abort>(
 ) -> Option<Vec<u8>> {
     for _ in 0..MOST_TRIES {
         let mut replies = Vec::new(alloc);
-        reply(hub, alloc, cores, frame, &mut replies)?;
+        reply(hub, senders, alloc, cores, frame, &mut replies)?;
         if replies.as_slice() != refusal {
             return Some(replies);
         }
@@ -188,19 +226,35 @@ impl Talk for Upgrades {
     fn talk<D: Device, N: HubName, R: Wait + Clock + Abort>(
         &self,
         hub: &Hub<D, N, R>,
+        senders: &Senders<N>,
     ) -> Option<Vec<u8>> {
         let rt = hub.handle();
         let roster = cores(rt, self.alloc);
         let remove = joined(rt, self.alloc, &[REMOVE]);
         let purge = joined(rt, self.alloc, &[PURGE]);
         let mut refusal = Vec::new(self.alloc);
-        reply(hub, self.alloc, &roster, remove.as_slice(), &mut refusal)?;
+        reply(
+            hub,
+            senders,
+            self.alloc,
+            &roster,
+            remove.as_slice(),
+            &mut refusal,
+        )?;
         for _ in 0..PURGES {
             let mut purged = Vec::new(self.alloc);
-            reply(hub, self.alloc, &roster, purge.as_slice(), &mut purged)?;
+            reply(
+                hub,
+                senders,
+                self.alloc,
+                &roster,
+                purge.as_slice(),
+                &mut purged,
+            )?;
         }
         let removed = removed(
             hub,
+            senders,
             self.alloc,
             &roster,
             remove.as_slice(),
@@ -235,18 +289,40 @@ impl Talk for Meets {
     fn talk<D: Device, N: HubName, R: Wait + Clock + Abort>(
         &self,
         hub: &Hub<D, N, R>,
+        senders: &Senders<N>,
     ) -> Option<Vec<u8>> {
         let rt = hub.handle();
         let roster = cores(rt, self.alloc);
         let first = joined(rt, self.alloc, &[REGISTER]);
         let lookup = joined(rt, self.alloc, &[LOOKUP]);
         let mut replies = Vec::new(self.alloc);
-        reply(hub, self.alloc, &roster, first.as_slice(), &mut replies)?;
+        reply(
+            hub,
+            senders,
+            self.alloc,
+            &roster,
+            first.as_slice(),
+            &mut replies,
+        )?;
         for egress in 2..=3 {
             let frame = register_by(egress);
-            reply(hub, self.alloc, &roster, frame.as_slice(), &mut replies)?;
+            reply(
+                hub,
+                senders,
+                self.alloc,
+                &roster,
+                frame.as_slice(),
+                &mut replies,
+            )?;
         }
-        reply(hub, self.alloc, &roster, lookup.as_slice(), &mut replies)?;
+        reply(
+            hub,
+            senders,
+            self.alloc,
+            &roster,
+            lookup.as_slice(),
+            &mut replies,
+        )?;
         Some(replies)
     }
 }

@@ -5,9 +5,9 @@ use crate::service::frames::{
     FOUND, INSERTED, LOOKUP, NONE_FOUND, PURGE, REGISTER, REGISTER_NONE, REMOVE, assert_replied,
     joined,
 };
-use crate::service::guests::{TURNS, Talk, session, talked};
 use crate::service::stores::{assert_opens_to, cores, new_store};
-use path_hub::{Hub, HubName, Patient};
+use crate::service::tasks::{TURNS, Talk, session, talked};
+use path_hub::{Hub, HubName, Patient, Senders};
 use path_session::{HubService, serve};
 use sector_dev::Device;
 use seg_check::TrustAll;
@@ -49,6 +49,7 @@ impl Talk for Frames {
     fn talk<D: Device, N: HubName, R: Wait + Clock + Abort>(
         &self,
         hub: &Hub<D, N, R>,
+        senders: &Senders<N>,
     ) -> Option<Vec<u8>> {
         let roster = cores(hub.handle(), self.alloc);
         let frames = self.frames.as_slice();
@@ -57,6 +58,7 @@ impl Talk for Frames {
         let mut replies = Vec::new(self.alloc);
         session(
             hub,
+            senders,
             self.alloc,
             &roster,
             Counts::after(0),
@@ -144,6 +146,7 @@ impl Talk for Pair {
     fn talk<D: Device, N: HubName, R: Wait + Clock + Abort>(
         &self,
         hub: &Hub<D, N, R>,
+        senders: &Senders<N>,
     ) -> Option<Vec<u8>> {
         let alloc = self.alloc;
         let rt = hub.handle();
@@ -154,7 +157,15 @@ impl Talk for Pair {
         let mut replies = Vec::new(alloc);
         let reader = hub.reader().ok()?;
         let another = hub.reader().ok()?;
-        let mut one = HubService::new(hub, reader, &TrustAll, Counts::after(0), &roster, Patient);
+        let mut one = HubService::new(
+            hub,
+            reader,
+            &TrustAll,
+            Counts::after(0),
+            &roster,
+            Patient,
+            senders.begin(),
+        );
         let mut other = HubService::new(
             hub,
             another,
@@ -162,6 +173,7 @@ impl Talk for Pair {
             Counts::after(0),
             &roster,
             Patient,
+            senders.begin(),
         );
         let ended = [
             serve(

@@ -234,21 +234,21 @@ fn three_commands(rt: HostRuntime) -> Result<(), Fail> {
     Ok(())
 }
 
-// Of 40 commands in one piece, 32 are handed in and settled, and then eight.
+// Of 136 commands in one piece, 128 are handed in and settled, and then eight.
 #[test]
-fn forty_commands(rt: HostRuntime) -> Result<(), Fail> {
-    let (input, replies) = purges(rt.alloc(), 40)?;
+fn more_commands_than_are_taken_ahead(rt: HostRuntime) -> Result<(), Fail> {
+    let (input, replies) = purges(rt.alloc(), 136)?;
     let mut calls = Vec::new(rt.alloc());
-    for (call, count) in [(b'h', 32), (b's', 32), (b'h', 8), (b's', 8)] {
+    for (call, count) in [(b'h', 128), (b's', 128), (b'h', 8), (b's', 8)] {
         let len = calls.len();
         calls.resize(len + count, call)?;
     }
     let wanted = Wanted {
-        ended: Ok(40),
+        ended: Ok(136),
         calls: &calls,
         written: &replies,
     };
-    assert_same(&rt, &MOST_AHEAD, &32, &"most ahead");
+    assert_same(&rt, &MOST_AHEAD, &128, &"most ahead");
     assert_served(&rt, rt.alloc(), (&input, ENOUGH), true, &wanted);
     Ok(())
 }

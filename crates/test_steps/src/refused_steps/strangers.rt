@@ -2,8 +2,8 @@
 
 use crate::refused_steps::host::Host;
 use group_core::{
-    BeginError, FollowError, PlainShow, PublishError, PublishFollowedError, Redeemed, StageError,
-    State, StepError, Ticket,
+    BeginError, FollowError, PlainShow, PublishError, Redeemed, StageError, State, StepError,
+    Ticket,
 };
 use path_db::Command;
 use sector_dev::{Device, MemDevice};
@@ -70,7 +70,7 @@ fn strange_group(
             _other => panic!(rt.0; "no stranger"),
         },
         Group::DurableFollowed(value) => match state.publish_followed(value) {
-            Err(PublishFollowedError::Stranger(value)) => Group::DurableFollowed(value),
+            Err(PublishError::Stranger(value)) => Group::DurableFollowed(value),
             _other => panic!(rt.0; "no stranger"),
         },
     }

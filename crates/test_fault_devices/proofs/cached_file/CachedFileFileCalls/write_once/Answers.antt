@@ -14,5 +14,5 @@ invariant_of-self-clause-kept_image c =
     let most : n ≤ length bytes = omega (arith, c.room-n.ensures) in
     let taken : length (take n bytes) ≡ n = length-take-le n bytes most in
     let inside : c.args.offset + n ≤ length self.bytes.items = omega (arith, c.room-n.ensures, c.if-n-eq0.false) in
-    subst {A = Moment} (λ (m : Moment). IsImage m self.kept.items) (λ i. record { reads = sym c.put_bytes.ensures i; dirty = (ap (λ (len : ℕ). record { start = c.args.offset; len = len } ∷ self.trail.dirty) taken ∙ sym c.wrote-self.ensures.1) i })
-    (image_before_write c.args.offset (take n bytes) self.bytes.items self.kept.items self.trail.dirty (omega (arith, taken, inside)) self.kept_image)
+    subst {A = Moment} (λ (m : Moment). IsImage m self.kept.items) (λ i. record { reads = sym c.put_bytes.ensures i; dirty = (ap (λ (len : ℕ). record { start = c.args.offset; len = len } ∷ self.trail.value.dirty) taken ∙ sym c.trail_wrote.ensures.1) i })
+    (image_before_write c.args.offset (take n bytes) self.bytes.items self.kept.items self.trail.value.dirty (omega (arith, taken, inside)) self.kept_image)

@@ -1,9 +1,9 @@
-//! A crew of one guest, who talks to a hub in a thread beside its actors, and is not waited for for
-//! ever.
+//! A workload of one task, which uses a hub in a thread beside its actors. The wait for it has a
+//! limit.
 
 use crate::service::clocks::Counts;
 use crate::service::stores::opened;
-use path_hub::{Crew, Hub, HubName, Patient, with_crew};
+use path_hub::{Hub, HubName, Patient, Senders, Workload, with_workload};
 use path_session::{HubService, serve};
 use sector_dev::Device;
 use seg_check::TrustAll;
@@ -17,7 +17,7 @@ use std::thread::{Threads, sleep};
 use std::time::{Clock, Duration};
 use store_open::Store;
 
-/// How long the guest is waited for, in naps.
+/// How long the task is waited for, in naps.
 const MOST_NAPS: u64 = 8000;
 
 /// The length of a nap, in milliseconds.
@@ -31,26 +31,27 @@ pub(crate) fn nap(rt: &impl Clock) {
     sleep(rt, Duration::from_millis(NAP));
 }
 
-/// What the guest does with a hub.
+/// What the task does with a hub.
 pub(crate) trait Talk {
     /// What was replied, or none where a call failed that is to succeed.
     fn talk<D: Device, N: HubName, R: Wait + Clock + Abort>(
         &self,
         hub: &Hub<D, N, R>,
+        senders: &Senders<N>,
     ) -> Option<Vec<u8>>;
 }
 
-/// The guest. Where the talk does not come to an end, the test does.
+/// The workload of one task. Where the task does not end, the test ends.
 #[derive(Drop)]
-struct Guest<T> {
+struct Task<T> {
     talk: T,
     invited: AtomicU64,
     gone: AtomicU64,
     replies: Mutex<Option<Vec<u8>>>,
 }
 
-impl<T: Talk, D: Device, R: Wait + Clock + Abort> Crew<D, R> for Guest<T> {
-    type Guest = ();
+impl<T: Talk, D: Device, R: Wait + Clock + Abort> Workload<D, R> for Task<T> {
+    type Task = ();
 
     fn next<N: HubName>(&self, hub: &Hub<D, N, R>) -> Option<()> {
         if self.invited.fetch_add(1, Ordering::SeqCst) == 0 {
@@ -62,50 +63,50 @@ impl<T: Talk, D: Device, R: Wait + Clock + Abort> Crew<D, R> for Guest<T> {
             }
             nap(hub.handle());
         }
-        panic!(hub.handle(); "the guest waits for ever")
+        panic!(hub.handle(); "the task waits for ever")
     }
 
-    fn attend<N: HubName>(&self, hub: &Hub<D, N, R>, _guest: ()) {
-        let replies = self.talk.talk(hub);
+    fn attend<N: HubName>(&self, hub: &Hub<D, N, R>, senders: &Senders<N>, _task: ()) {
+        let replies = self.talk.talk(hub, senders);
         *self.replies.lock(hub.handle()) = replies;
         self.gone.store(1, Ordering::SeqCst);
     }
 
-    fn miss<N: HubName>(&self, _hub: &Hub<D, N, R>, _guest: ()) {
+    fn miss<N: HubName>(&self, _hub: &Hub<D, N, R>, _task: ()) {
         self.gone.store(1, Ordering::SeqCst);
     }
 }
 
-impl<T> Guest<T> {
-    /// Has the guest come once more.
+impl<T> Task<T> {
+    /// Lets `next` return the task once more.
     fn invite_again(&self) {
         self.invited.store(0, Ordering::SeqCst);
         self.gone.store(0, Ordering::SeqCst);
     }
 }
 
-/// Has a guest talk to a hub over a store: the device, and what was replied. Where memory is
-/// refused for the hub or the guest's thread, it is asked for once more.
+/// Has a task talk to a hub over a store: the device, and what was replied. Where memory is
+/// refused for the hub or the task's thread, it is asked for once more.
 pub(crate) fn talked<
     D: Device + Send,
     T: Talk + Drop + Sync,
     R: Wait + Clock + Threads + Abort + Copy + Drop + Send + Sync,
 >(rt: R, alloc: Global, store: Store<D>, talk: T) -> (D, Option<Vec<u8>>) {
-    let guest = Guest {
+    let task = Task {
         talk,
         invited: AtomicU64::new(0),
         gone: AtomicU64::new(0),
         replies: Mutex::new(None),
     };
-    let (device, left, first) = with_crew(rt, alloc, store, 1, &guest);
+    let (device, left, first) = with_workload(rt, alloc, store, 1, &task);
     let (device, _left, attended) = if first == Ok(1) {
         (device, left, first)
     } else {
-        guest.invite_again();
-        with_crew(rt, alloc, opened(&rt, alloc, device), 1, &guest)
+        task.invite_again();
+        with_workload(rt, alloc, opened(&rt, alloc, device), 1, &task)
     };
     assert_eq!(&rt; attended, Ok(1));
-    let replies = guest.replies.lock(&rt).take();
+    let replies = task.replies.lock(&rt).take();
     (device, replies)
 }
 
@@ -113,6 +114,7 @@ pub(crate) fn talked<
 /// does not end well.
 pub(crate) fn session<D: Device, N: HubName, R: Wait + Clock, I: Read>(
     hub: &Hub<D, N, R>,
+    senders: &Senders<N>,
     alloc: Global,
     cores: &Roster,
     clock: Counts,
@@ -120,7 +122,8 @@ pub(crate) fn session<D: Device, N: HubName, R: Wait + Clock, I: Read>(
     replies: &mut Vec<u8>,
 ) -> Option<()> {
     let reader = hub.reader().ok()?;
-    let mut service = HubService::new(hub, reader, &TrustAll, clock, cores, Patient);
+    let sender = senders.begin();
+    let mut service = HubService::new(hub, reader, &TrustAll, clock, cores, Patient, sender);
     let ended = serve(alloc, input, replies, &mut service, TURNS);
     hub.give_back(service.into_reader());
     ended.ok()?;

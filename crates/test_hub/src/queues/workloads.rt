@@ -1,7 +1,7 @@
-//! Crews whose guests do the same, each in a thread of its own, and none of whom is waited for for
-//! ever.
+//! A workload whose tasks do the same work, each in a thread of its own. The wait for them has a
+//! limit.
 
-use path_hub::{Crew, Hub, HubName, Notice, with_crew};
+use path_hub::{Hub, HubName, Notice, Senders, Workload, with_workload};
 use sector_dev::Device;
 use std::alloc::Global;
 use std::process::Abort;
@@ -11,7 +11,7 @@ use std::thread::{Threads, sleep};
 use std::time::{Clock, Duration};
 use store_open::Store;
 
-/// How long a guest is waited for, in naps.
+/// How long a task is waited for, in naps.
 const MOST_NAPS: u64 = 8000;
 
 /// The length of a nap, in milliseconds.
@@ -22,18 +22,23 @@ pub(crate) fn nap(rt: &impl Clock) {
     sleep(rt, Duration::from_millis(NAP));
 }
 
-/// What a guest does with a hub.
+/// What a task does with a hub.
 pub(crate) trait Errand {
-    fn run<D: Device, N: HubName, R: Wait + Clock + Abort>(&self, hub: &Hub<D, N, R>, guest: u64);
+    fn run<D: Device, N: HubName, R: Wait + Clock + Abort>(
+        &self,
+        hub: &Hub<D, N, R>,
+        senders: &Senders<N>,
+        task: u64,
+    );
 
     /// Takes a notice of an actor, whose thread goes on once the call returns.
     fn note<R: Wait + Clock>(&self, _rt: &R, _notice: Notice) {}
 }
 
-/// Guests who run an errand, each with its number, counted from 0. Where they do not come to an
-/// end, the test does.
+/// A workload of tasks that do this work, numbered from 0. Where one of them does not end, the test
+/// ends.
 #[derive(Drop)]
-pub(crate) struct Guests<E> {
+pub(crate) struct Tasks<E> {
     pub(crate) errand: E,
     count: u64,
     invited: AtomicU64,
@@ -42,10 +47,10 @@ pub(crate) struct Guests<E> {
     strangers: AtomicU64,
 }
 
-impl<E> Guests<E> {
-    /// This number of guests with this errand.
-    pub(crate) fn new(count: u64, errand: E) -> Guests<E> {
-        Guests {
+impl<E> Tasks<E> {
+    /// This number of tasks with this errand.
+    pub(crate) fn new(count: u64, errand: E) -> Tasks<E> {
+        Tasks {
             errand,
             count,
             invited: AtomicU64::new(0),
@@ -55,7 +60,7 @@ impl<E> Guests<E> {
         }
     }
 
-    /// For how many guests no thread was given.
+    /// For how many tasks no thread was given.
     pub(crate) fn missed(&self) -> u64 {
         self.missed.load(Ordering::SeqCst)
     }
@@ -66,13 +71,13 @@ impl<E> Guests<E> {
     }
 }
 
-impl<E: Errand, D: Device, R: Wait + Clock + Abort> Crew<D, R> for Guests<E> {
-    type Guest = u64;
+impl<E: Errand, D: Device, R: Wait + Clock + Abort> Workload<D, R> for Tasks<E> {
+    type Task = u64;
 
     fn next<N: HubName>(&self, hub: &Hub<D, N, R>) -> Option<u64> {
-        let guest = self.invited.fetch_add(1, Ordering::SeqCst);
-        if guest < self.count {
-            return Some(guest);
+        let task = self.invited.fetch_add(1, Ordering::SeqCst);
+        if task < self.count {
+            return Some(task);
         }
         for _ in 0..MOST_NAPS {
             if self.gone.load(Ordering::SeqCst) == self.count {
@@ -80,15 +85,15 @@ impl<E: Errand, D: Device, R: Wait + Clock + Abort> Crew<D, R> for Guests<E> {
             }
             nap(hub.handle());
         }
-        panic!(hub.handle(); "a guest waits for ever")
+        panic!(hub.handle(); "a task waits for ever")
     }
 
-    fn attend<N: HubName>(&self, hub: &Hub<D, N, R>, guest: u64) {
-        self.errand.run(hub, guest);
+    fn attend<N: HubName>(&self, hub: &Hub<D, N, R>, senders: &Senders<N>, task: u64) {
+        self.errand.run(hub, senders, task);
         self.gone.fetch_add(1, Ordering::SeqCst);
     }
 
-    fn miss<N: HubName>(&self, _hub: &Hub<D, N, R>, _guest: u64) {
+    fn miss<N: HubName>(&self, _hub: &Hub<D, N, R>, _task: u64) {
         self.missed.fetch_add(1, Ordering::SeqCst);
         self.gone.fetch_add(1, Ordering::SeqCst);
     }
@@ -102,13 +107,13 @@ impl<E: Errand, D: Device, R: Wait + Clock + Abort> Crew<D, R> for Guests<E> {
     }
 }
 
-/// Has all guests run their errand at a hub over a store: the device.
-pub(crate) fn crewed<
+/// Runs all tasks with a hub over a store, and returns the device.
+pub(crate) fn with_tasks<
     D: Device + Send,
     E: Errand + Sync,
     R: Wait + Clock + Threads + Abort + Copy + Drop + Send + Sync,
->(rt: R, alloc: Global, store: Store<D>, guests: &Guests<E>) -> D {
-    let (device, _left, attended) = with_crew(rt, alloc, store, 1, guests);
-    assert_eq!(&rt; attended, Ok(guests.count));
+>(rt: R, alloc: Global, store: Store<D>, tasks: &Tasks<E>) -> D {
+    let (device, _left, attended) = with_workload(rt, alloc, store, 1, tasks);
+    assert_eq!(&rt; attended, Ok(tasks.count));
     device
 }

@@ -1,0 +1,182 @@
+//! What `ask` and `register` send over a link, and what they print of replies.
+
+ghost use Rattle.std.specs.Prelude.{IfOk, ◌≤◌, length};
+
+use cli_ask::{AskError, AskFault, Asked, Link, Refusals, ask, asked_of, register};
+use cli_words::Request;
+use row_lines::RowForm;
+use std::alloc::Global;
+use std::process::Abort;
+use std::test::Fail;
+use test_support::digits;
+
+/// A link over which these replies come, a byte at a time, and then the end.
+#[derive(Drop)]
+struct Script {
+    replies: Vec<u8>,
+    at: usize,
+    sent: Vec<u8>,
+}
+
+impl Script {
+    /// A link with the replies of these digits.
+    fn new(alloc: Global, replies: &str) -> Result<Script, Fail> {
+        Ok(Script {
+            replies: hex::decode(alloc, replies)?,
+            at: 0,
+            sent: Vec::new(alloc),
+        })
+    }
+}
+
+impl Link for Script {
+    fn begin(&mut self) -> Result<(), AskError> {
+        Ok(())
+    }
+
+    fn send(&mut self, bytes: &[u8]) -> Result<(), AskError> {
+        self.sent.extend_from_slice(bytes)?;
+        Ok(())
+    }
+
+    fn receive(&mut self, into: &mut [u8]) -> Result<usize, AskError> {
+        if into.is_empty() {
+            return Ok(0);
+        }
+        match self.replies.get(self.at) {
+            Some(byte) => {
+                into[0] = *byte;
+                self.at = self.at.saturating_add(1);
+                Ok(1)
+            }
+            None => Ok(0),
+        }
+    }
+}
+
+/// A question, the reply to it, the request that is sent, and what comes of it.
+struct Exchange {
+    request: Request,
+    words: &'static [&'static str],
+    reply: &'static str,
+    sent: &'static str,
+    comes: Result<&'static str, AskFault>,
+}
+
+const PURGED: &str = "00000019830000000000000005000000010000000200000003ffffffff";
+
+const PURGE: &str = "00000009030000000000000007";
+
+#[rattlefmt::skip]
+const EXCHANGES: [Exchange; 19] = [
+    Exchange { request: Request::Purge, words: &["7"], reply: PURGED, sent: PURGE, comes: Ok("place 5: 1 inserted, 2 updated, 3 kept, 4294967295 purged\n") },
+    Exchange { request: Request::Purge, words: &[], reply: PURGED, sent: "00000009030000000000000009", comes: Ok("place 5: 1 inserted, 2 updated, 3 kept, 4294967295 purged\n") },
+    Exchange { request: Request::Purge, words: &["18446744073709551615"], reply: PURGED, sent: "0000000903ffffffffffffffff", comes: Ok("place 5: 1 inserted, 2 updated, 3 kept, 4294967295 purged\n") },
+    Exchange { request: Request::Purge, words: &["7"], reply: "", sent: PURGE, comes: Err(AskFault::Cut) },
+    Exchange { request: Request::Purge, words: &["7"], reply: "000000", sent: PURGE, comes: Err(AskFault::Cut) },
+    Exchange { request: Request::Purge, words: &["7"], reply: "0000001983", sent: PURGE, comes: Err(AskFault::Cut) },
+    Exchange { request: Request::Purge, words: &["7"], reply: "00000000", sent: PURGE, comes: Err(AskFault::Reply) },
+    Exchange { request: Request::Purge, words: &["7"], reply: "00110001", sent: PURGE, comes: Err(AskFault::Reply) },
+    Exchange { request: Request::Purge, words: &["7"], reply: "0000000183", sent: PURGE, comes: Err(AskFault::Reply) },
+    Exchange { request: Request::Purge, words: &["7"], reply: "0000000182", sent: PURGE, comes: Err(AskFault::Reply) },
+    Exchange { request: Request::Purge, words: &["7"], reply: "00000003ff5100", sent: PURGE, comes: Err(AskFault::Reply) },
+    Exchange { request: Request::Purge, words: &["7"], reply: "00000002ff51", sent: PURGE, comes: Err(AskFault::Refused(0x51)) },
+    Exchange { request: Request::Remove, words: &["down", "8adcea68dc57cbbe68da7142af88b68a9d27a590e1d5157c53c2bb2c762345ff"], reply: "00000019840000000000000005000000000000000000000000000000", sent: digits::REMOVE, comes: Err(AskFault::Cut) },
+    Exchange { request: Request::Remove, words: &["down", "8adcea68dc57cbbe68da7142af88b68a9d27a590e1d5157c53c2bb2c762345ff"], reply: "0000001984000000000000000500000000000000000000000000000001", sent: digits::REMOVE, comes: Ok("place 5: 0 inserted, 0 updated, 0 kept, 1 purged\n") },
+    Exchange { request: Request::Lookup, words: &["1-ff00:0:110", "1-ff00:0:111"], reply: "0000000182", sent: digits::LOOKUP, comes: Ok("") },
+    Exchange { request: Request::Lookup, words: &["1-ff00:0:110", "1-ff00:0:111"], reply: "000000028200", sent: digits::LOOKUP, comes: Err(AskFault::Reply) },
+    Exchange { request: Request::Lookup, words: &["1-ff00:0:110", "1-ff00:0:111"], reply: digits::FOUND, sent: digits::LOOKUP, comes: Ok("down 8adcea68dc57cbbe68da7142af88b68a9d27a590e1d5157c53c2bb2c762345ff 1700000000 3400043200 1-ff00:0:110 1-ff00:0:111 2\n") },
+    Exchange { request: Request::Lookup, words: &["0-0", "0-0"], reply: "00000002ff41", sent: "0000000102", comes: Err(AskFault::Refused(0x41)) },
+    Exchange { request: Request::Lookup, words: &["0-0", "0-5"], reply: "00000002ff42", sent: "00000003021005", comes: Err(AskFault::Refused(0x42)) },
+];
+
+/// Asks over a script, and sees what was sent and printed.
+fn assert_exchange(rt: &(impl Abort + AllocGlobal), exchange: &Exchange) -> Result<(), Fail> {
+    let alloc = rt.alloc();
+    let reply = exchange.reply;
+    let mut link = Script::new(alloc, reply)?;
+    let mut output = Vec::new(alloc);
+    let Asked::Question(question) = asked_of(exchange.request, exchange.words)? else {
+        assert!(rt; false, "{reply} answers no question");
+        return Ok(());
+    };
+    let came = ask(alloc, &mut link, &question, 9, RowForm::Text, &mut output);
+    let sent = hex::encode(alloc, link.sent.as_slice())?;
+    assert_eq!(rt; sent.as_str(), exchange.sent);
+    match (came, exchange.comes) {
+        (Ok(()), Ok(wanted)) => assert!(rt; output.as_slice() == wanted.as_bytes(), "{reply}"),
+        (Err(error), Err(fault)) => assert_eq!(rt; error.fault(), fault),
+        _ => assert!(rt; false, "{reply} comes otherwise"),
+    }
+    Ok(())
+}
+
+#[test]
+fn replies_of_a_script(rt: HostRuntime) -> Result<(), Fail> {
+    for exchange in &EXCHANGES {
+        assert_exchange(&rt, exchange)?;
+    }
+    Ok(())
+}
+
+/// The lines that were refused, with their codes.
+#[derive(Drop)]
+struct Noted {
+    lines: Vec<(u64, u8)>,
+}
+
+impl Refusals for Noted {
+    fn refused(&mut self, line: u64, code: u8) {
+        let _pushed = self.lines.push((line, code));
+    }
+}
+
+/// The line of the worked segment.
+const LINE: &str = concat!(
+    "{\"type\":\"down\",\"segment\":\"0a080880e2cfaa061007",
+    "12290a270a251223089082808080e07f109182808080e07f1a0e0a0c1001183f220601020304050628c00b",
+    "12210a1f0a1d121b089182808080e07f1a0e0a0c0802183f22060a0b0c0d0e0f28c00b\"}\n",
+);
+
+const REGISTERED: &str = "0000001981000000000000000000000001000000000000000000000000";
+
+#[test]
+fn lines_are_registered(rt: HostRuntime) -> Result<(), Fail> {
+    let alloc = rt.alloc();
+    let mut replies = String::new(alloc);
+    replies.push_str(REGISTERED)?;
+    replies.push_str("00000002ff51")?;
+    replies.push_str(REGISTERED)?;
+    let mut input = String::new(alloc);
+    for line in [LINE, LINE, LINE] {
+        input.push_str(line)?;
+    }
+    let mut link = Script::new(alloc, replies.as_str())?;
+    let mut output = Vec::new(alloc);
+    let mut noted = Noted {
+        lines: Vec::new(alloc),
+    };
+    let mut bytes = input.as_bytes();
+    let came = register(
+        alloc,
+        &mut link,
+        &mut bytes,
+        RowForm::Json,
+        &mut output,
+        &mut noted,
+    );
+    match came {
+        Ok(()) => assert!(rt; false, "all are registered"),
+        Err(error) => assert_eq!(rt; error.fault(), AskFault::Refused(0x51)),
+    }
+    assert!(rt; noted.lines.as_slice() == [(2, 0x51)].as_slice());
+    let sent = hex::encode(alloc, link.sent.as_slice())?;
+    assert_eq!(rt; sent.len(), 3 * digits::REGISTER.len());
+    assert!(rt; sent.as_str().starts_with(digits::REGISTER));
+    let wanted = concat!(
+        "{\"place\":0,\"inserted\":1,\"updated\":0,\"kept\":0,\"purged\":0}\n",
+        "{\"place\":0,\"inserted\":1,\"updated\":0,\"kept\":0,\"purged\":0}\n",
+    );
+    assert!(rt; output.as_slice() == wanted.as_bytes());
+    Ok(())
+}

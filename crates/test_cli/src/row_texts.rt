@@ -1,0 +1,97 @@
+//! The lines of a row, and lines that are read as rows or refused.
+
+use row_lines::{LineError, RowForm, line_as, read_line};
+use seg_core::{SegError, SegType, Segment, read_segment};
+use std::process::Abort;
+use std::test::Fail;
+use test_support::SEGMENT;
+
+/// The line of the worked segment as text.
+const TEXT: &str = concat!(
+    "down 8adcea68dc57cbbe68da7142af88b68a9d27a590e1d5157c53c2bb2c762345ff 1700000000 3400043200 ",
+    "1-ff00:0:110 1-ff00:0:111 2\n",
+);
+
+/// A line with the digits of the worked segment between a front and an end.
+macro_rules! around_digits {
+    ($($front:literal),+; $end:literal) => {
+        concat!(
+            $($front,)+
+            "0a080880e2cfaa061007",
+            "12290a270a251223089082808080e07f109182808080e07f1a0e0a0c1001183f220601020304050628c00b",
+            "12210a1f0a1d121b089182808080e07f1a0e0a0c0802183f22060a0b0c0d0e0f28c00b",
+            $end
+        )
+    };
+}
+
+/// The line of the worked segment as JSON.
+const JSON: &str = around_digits!(
+    "{\"type\":\"down\",\"id\":\"8adcea68dc57cbbe68da7142af88b68a9d27a590e1d5157c53c2bb2c762345ff\",",
+    "\"timestamp\":1700000000,\"expiry\":3400043200,\"first\":\"1-ff00:0:110\",",
+    "\"last\":\"1-ff00:0:111\",\"entries\":2,\"segment\":\"";
+    "\"}\n"
+);
+
+/// Lines that have the worked segment, too.
+const SAME: [&str; 2] = [
+    around_digits!("{\"segment\":\""; "\",\"type\":\"down\"}"),
+    around_digits!(
+        " { \"type\" : \"d\\u006fwn\", \"id\": null, \"segment\": \"";
+        "\", \"more\": [1, {}] } \r"
+    ),
+];
+
+/// Lines without a row, and why.
+const REFUSED: [(&str, LineError); 9] = [
+    ("", LineError::Json),
+    ("{", LineError::Json),
+    ("\u{7f}", LineError::Json),
+    ("[]", LineError::Type),
+    ("{\"type\":2,\"segment\":\"\"}", LineError::Type),
+    ("{\"type\":\"Down\",\"segment\":\"\"}", LineError::Type),
+    ("{\"type\":\"down\"}", LineError::Hex),
+    ("{\"type\":\"down\",\"segment\":\"0\"}", LineError::Hex),
+    (
+        "{\"type\":\"down\",\"segment\":\"\"}",
+        LineError::Segment(SegError::Entries),
+    ),
+];
+
+#[test]
+fn lines_are_read_again(rt: HostRuntime) -> Result<(), Fail> {
+    let alloc = rt.alloc();
+    let segment = read_segment(alloc, &SEGMENT)?;
+    let text = line_as(alloc, RowForm::Text, SegType::Down, &segment)?;
+    assert_eq!(rt; text.as_str(), TEXT);
+    let line = line_as(alloc, RowForm::Json, SegType::Down, &segment)?;
+    assert_eq!(rt; line.as_str(), JSON);
+    assert_read(&rt, line.as_str(), &segment)?;
+    for line in SAME {
+        assert_read(&rt, line, &segment)?;
+    }
+    Ok(())
+}
+
+/// Sees a line read as the row of a segment.
+fn assert_read(rt: &(impl Abort + AllocGlobal), line: &str, segment: &Segment) -> Result<(), Fail> {
+    let (kind, read) = read_line(rt.alloc(), line.as_bytes())?;
+    assert!(rt; kind == SegType::Down && read == *segment);
+    Ok(())
+}
+
+#[test]
+fn lines_without_rows(rt: HostRuntime) {
+    for (line, error) in REFUSED {
+        assert_refused(&rt, line.as_bytes(), error);
+    }
+    assert_refused(&rt, b"\"\xff\"", LineError::Json);
+}
+
+/// Sees a line refused.
+fn assert_refused(rt: &(impl Abort + AllocGlobal), line: &[u8], wanted: LineError) {
+    match read_line(rt.alloc(), line) {
+        Ok(_) => assert!(rt; false, "{wanted} is read"),
+        Err(error) => assert_eq!(rt; error, wanted),
+    }
+}

@@ -1,0 +1,120 @@
+//! How many rows of each type a database has.
+
+use crate::rows::worked::{apply, copy_of, dated_by, no_rows, put};
+use path_db::{Command, PathDb};
+use seg_core::SegType;
+use std::alloc::Global;
+use std::process::Abort;
+use std::test::Fail;
+
+/// What is done to a database. Segments are the worked one with a timestamp, which leaves its first
+/// AS by an interface: segments of other interfaces have other ids.
+#[derive(Clone, Copy, Debug)]
+enum What {
+    /// The registration of the segment of a type, a timestamp and an interface.
+    Register(SegType, u8, u8),
+    /// The removal of the segment of a type and an interface.
+    Remove(SegType, u8),
+    /// A purge at a moment.
+    Purge(u64),
+}
+
+/// A command, and how many up, core and down segments there are after it.
+#[derive(Clone, Copy, Debug)]
+struct Step {
+    what: What,
+    counts: [usize; 3],
+}
+
+const UP: SegType = SegType::Up;
+
+const CORE: SegType = SegType::Core;
+
+const DOWN: SegType = SegType::Down;
+
+/// The segment is valid for 43,200 half seconds, 6 hours, after its timestamp, in seconds: this is
+/// when that of the timestamp 10 expires.
+const TEN_EXPIRES: u64 = 43_220;
+
+/// The types, in the order of the counts.
+const KINDS: [SegType; 3] = [UP, CORE, DOWN];
+
+/// Registrations of new rows, of newer, equal and older ones, and of rows under other types;
+/// removals of a row, of none, and of one of another type; purges of none, of some and of all rows.
+#[rattlefmt::skip]
+const STEPS: [Step; 20] = [
+    Step { what: What::Register(UP, 10, 1), counts: [1, 0, 0] },
+    Step { what: What::Register(CORE, 10, 1), counts: [1, 1, 0] },
+    Step { what: What::Register(DOWN, 10, 1), counts: [1, 1, 1] },
+    Step { what: What::Register(DOWN, 10, 2), counts: [1, 1, 2] },
+    Step { what: What::Register(DOWN, 11, 2), counts: [1, 1, 2] },
+    Step { what: What::Register(DOWN, 11, 2), counts: [1, 1, 2] },
+    Step { what: What::Register(DOWN, 9, 2), counts: [1, 1, 2] },
+    Step { what: What::Register(UP, 12, 1), counts: [1, 1, 2] },
+    Step { what: What::Register(UP, 12, 3), counts: [2, 1, 2] },
+    Step { what: What::Register(CORE, 12, 4), counts: [2, 2, 2] },
+    Step { what: What::Remove(CORE, 2), counts: [2, 2, 2] },
+    Step { what: What::Remove(DOWN, 3), counts: [2, 2, 2] },
+    Step { what: What::Remove(UP, 3), counts: [1, 2, 2] },
+    Step { what: What::Remove(UP, 3), counts: [1, 2, 2] },
+    Step { what: What::Register(UP, 10, 3), counts: [2, 2, 2] },
+    Step { what: What::Purge(TEN_EXPIRES - 1), counts: [2, 2, 2] },
+    Step { what: What::Purge(TEN_EXPIRES), counts: [1, 1, 1] },
+    Step { what: What::Purge(TEN_EXPIRES + 2), counts: [1, 1, 0] },
+    Step { what: What::Register(DOWN, 12, 1), counts: [1, 1, 1] },
+    Step { what: What::Purge(TEN_EXPIRES + 4), counts: [0, 0, 0] },
+];
+
+/// Does what a step says.
+fn take(alloc: Global, database: &mut PathDb, what: What) -> Result<(), Fail> {
+    match what {
+        What::Register(kind, timestamp, egress) => {
+            put(alloc, database, kind, dated_by(alloc, timestamp, egress)?)?;
+        }
+        What::Remove(kind, egress) => {
+            let id = *dated_by(alloc, 10, egress)?.digest();
+            apply(database, &Command::Remove(kind, id))?;
+        }
+        What::Purge(moment) => {
+            apply(database, &Command::Purge(moment))?;
+        }
+    }
+    Ok(())
+}
+
+/// How many of all rows are of a type.
+fn counted(database: &PathDb, kind: SegType) -> usize {
+    let mut count: usize = 0;
+    for row in database.rows() {
+        if row.kind == kind {
+            count = count.wrapping_add(1);
+        }
+    }
+    count
+}
+
+/// Checks the counts against a look at all rows, and against what they are.
+fn assert_counts(rt: &impl Abort, database: &PathDb, step: &Step) {
+    for (kind, count) in KINDS.iter().zip(&step.counts) {
+        assert_eq!(rt; database.len_of(*kind), *count, "{step:?}");
+        assert_eq!(rt; counted(database, *kind), *count, "{step:?}");
+    }
+}
+
+/// Takes all steps, and looks at the database and at copies of it after each.
+fn assert_all_counted(rt: &impl Abort, alloc: Global, database: PathDb) -> Result<(), Fail> {
+    let mut database = database;
+    for step in &STEPS {
+        take(alloc, &mut database, step.what)?;
+        assert_counts(rt, &database, step);
+        assert_counts(rt, &copy_of(&database)?, step);
+        assert_counts(rt, &copy_of(&database)?.without_indexes(), step);
+    }
+    Ok(())
+}
+
+#[test]
+fn rows_of_each_type_are_counted(rt: HostRuntime) -> Result<(), Fail> {
+    assert_all_counted(&rt, rt.alloc(), no_rows(rt.alloc()))?;
+    assert_all_counted(&rt, rt.alloc(), no_rows(rt.alloc()).without_indexes())
+}
