@@ -58,7 +58,7 @@ $(PROGRAM):
 install: $(PROGRAM) install-pages
 	install -d $(BIN) $(LIB) $(MAN) $(UNITS) $(BASH_COMPLETIONS) $(ZSH_COMPLETIONS) $(dir $(SETTINGS))
 	install -m 755 $(PROGRAM) $(BIN)/pathd
-	install -m 755 deploy/pathd-probe deploy/pathd-purge $(LIB)
+	install -m 755 deploy/pathd-probe $(LIB)
 	for unit in $(UNIT_FILES); do \
 	  $(PLACED) "deploy/$$unit" >"$(UNITS)/$$unit" && chmod 644 "$(UNITS)/$$unit" || exit; done
 	$(PLACED) deploy/pathd.1 >$(MAN)/pathd.1

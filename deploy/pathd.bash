@@ -4,25 +4,33 @@ _pathd() {
   local current=${COMP_WORDS[COMP_CWORD]} previous=${COMP_WORDS[COMP_CWORD - 1]} words
   COMPREPLY=()
   if ((COMP_CWORD == 1)); then
-    words="once format copy show status upgrade run help -h --help -V --version"
+    words="once format copy show status upgrade run ask help -h --help -V --version"
   else
     case $previous in
-      --checkpoint | --journal | --rows | --listen | --lookups | --lookup-seats | --status | --cores | --key | --sessions | --peer-sessions | --idle | --future | --spare | --purge | --grace | --now) return ;;
+      --checkpoint | --journal | --rows | --listen | --lookups | --lookup-seats | --status | --cores | --key | --sessions | --peer-sessions | --idle | --future | --spare | --purge | --grace | --now | --timeout) return ;;
     esac
     case ${COMP_WORDS[1]} in
       once) words="--cores --now --key --hex -h --help" ;;
       copy) words="--checkpoint --journal --rows -h --help" ;;
-      format) words="--checkpoint --journal --rows --new --force -h --help" ;;
-      show) words="--layout -h --help" ;;
+      format) words="--checkpoint --journal --rows --new --force --reserve -h --help" ;;
+      show) words="--layout --json -h --help" ;;
       status | upgrade) words="-h --help" ;;
       run) words="--listen --lookups --lookup-seats --status --cores --key --sessions --peer-sessions --idle --future --spare --purge --stop-on-end-of-input --grace --quiet --log-priority -h --help" ;;
-      help) words="once format copy show status upgrade run help" ;;
+      ask) words="--json --timeout -h --help" ;;
+      help) words="once format copy show status upgrade run ask help" ;;
       *) return ;;
     esac
   fi
   mapfile -t COMPREPLY < <(compgen -W "$words" -- "$current")
   case ${COMP_WORDS[1]}:$current in
     *:-*) ;;
+    ask:*)
+      if ((COMP_CWORD == 3)); then
+        mapfile -t COMPREPLY < <(compgen -W "lookup list register purge remove" -- "$current")
+      elif ((COMP_CWORD != 1)); then
+        mapfile -t COMPREPLY < <(compgen -f -- "$current")
+      fi
+      ;;
     format:* | copy:* | show:* | status:* | upgrade:* | run:*)
       ((COMP_CWORD == 1)) || mapfile -t COMPREPLY < <(compgen -f -- "$current")
       ;;

@@ -12,6 +12,7 @@ _pathd() {
     'status:print the numbers of a store'
     'upgrade:write a store in version 2'
     'run:serve sessions over TCP'
+    'ask:ask a server'
     'help:print help'
   )
   if ((CURRENT == 2)); then
@@ -37,6 +38,7 @@ _pathd() {
         '(--checkpoint --journal)--rows[rows for which there is room]:N:' \
         '(--force)--new[refuse where a store is]' \
         '(--new)--force[lose a store that is there, without asking]' \
+        '--reserve[write zeros over the whole file]' \
         '1:DEV:_files'
       ;;
     copy)
@@ -49,7 +51,8 @@ _pathd() {
       ;;
     show)
       _arguments $help \
-        '--layout[draw the regions of the store]' \
+        '(--json)--layout[draw the regions of the store]' \
+        '(--layout)--json[print lines of JSON]' \
         '1:DEV:_files'
       ;;
     status)
@@ -79,6 +82,14 @@ _pathd() {
         '--quiet[print only why the program ends]' \
         '--log-priority[begin each line with its priority]' \
         '1:DEV:_files'
+      ;;
+    ask)
+      _arguments $help \
+        '--json[print lines of JSON]' \
+        '--timeout[how long the connection and each reply may take]:SECONDS:' \
+        '1:ADDR:' \
+        '2:REQUEST:(lookup list register purge remove)' \
+        '*:WORD:_files'
       ;;
     help)
       _describe command commands

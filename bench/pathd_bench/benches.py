@@ -14,6 +14,7 @@ SERVING = [
     Tool("gateway", "gateway.sh", "lookups and registrations through the gateway, beside a server of gRPC that echoes"),
     Tool("run", "run.sh", "`pathd once`, beside Google's protobuf"),
     Tool("lookups", "lookups.sh", "lookups that show 1, 8 and 64 segments"),
+    Tool("waits", "waits", "the longest waits beside purges, wildcards and checkpoints"),
     Tool("profile", "profile.sh", "where the program's instructions go"),
 ]
 

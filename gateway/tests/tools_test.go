@@ -32,7 +32,7 @@ func command(t *testing.T, word, address string) string {
 	}
 	page, err := os.ReadFile(filepath.Join(top, "docs/GATEWAY.md"))
 	pki.Must(t, err)
-	found := regexp.MustCompile("(?m)^```\n(" + word + " (?:.|\n)*?)\n```$").FindStringSubmatch(string(page))
+	found := regexp.MustCompile("(?m)^```[^\n]*\n(" + word + " (?:.|\n)*?)\n```$").FindStringSubmatch(string(page))
 	if found == nil {
 		t.Fatal("the page has no ", word)
 	}

@@ -93,6 +93,7 @@ THINGS = [
     program("strace", "strace"),
     program("valgrind", "valgrind", "callgrind_annotate"),
     program("perl", "perl"),
+    program("curl", "curl"),
     program("bc", "bc"),
     Thing("time", lambda: os.access("/usr/bin/time", os.X_OK), "time"),
     program("losetup", "mount"),

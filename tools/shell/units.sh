@@ -1,16 +1,16 @@
 #!/usr/bin/env bash
 # Tries the steps of docs/operating and the units of deploy/ in a container of this machine's own
-# system, whose first process is systemd: installing, the unit's walls, purges, stops and signals,
-# statuses, a backup, the gateway, a volume as DEV, a fault of that device, the firewall, and a
-# restart of the container. `tools/pathd-tools units-inside` has the list, and runs the blocks of
-# those pages as they are written.
+# system, whose first process is systemd: the first hour, installing, the unit's walls, purges, stops
+# and signals, statuses, a backup, the gateway, a volume as DEV, a fault of that device, the firewall,
+# and a restart of the container. `tools/pathd-tools units-inside` has the list, and runs the blocks
+# of those pages as they are written.
 #
 #     tools/pathd-tools units [PROGRAM [GATEWAY]]
 #
 # PROGRAM is crates/pathd/out/pathd if left out, which `rt run` builds. GATEWAY is
 # gateway/out/pathd-gateway if left out, which `gateway/build` builds; where it is not there the unit
 # of the gateway is left out. The script has to be run as root, on Debian 12 with systemd-container,
-# python3-protobuf, protobuf-compiler, nftables, iproute2 and make (tools/pathd-tools need says what
+# python3-protobuf, protobuf-compiler, nftables, iproute2, curl and make (tools/pathd-tools need says what
 # is missing), and a free loop device, which nobody else may take meanwhile.
 #
 # The container's root is an overlay in memory over the machine's /, its network has nothing but a
@@ -20,7 +20,7 @@
 # left out. On a machine that was started by systemd the script was not tried.
 set -euo pipefail
 top=$(cd "$(dirname "${BASH_SOURCE[0]}")/../.." && pwd)
-"$top/tools/pathd-tools" need root losetup nspawn nft ip make protoc python3-protobuf || exit
+"$top/tools/pathd-tools" need root losetup nspawn nft ip make curl protoc python3-protobuf || exit
 if [ "${1:-}" != --in-own-mounts ]; then
   exec unshare --mount --propagation private "${BASH_SOURCE[0]}" --in-own-mounts "$@"
 fi

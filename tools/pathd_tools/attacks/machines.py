@@ -18,6 +18,7 @@ from pathlib import Path
 
 from pathd_model import model
 from pathd_tools import TOP, runs
+from pathd_tools.pages.blocks import blocks
 
 PAGE = TOP / "docs" / "operating" / "replicated.md"
 COUNT = 3
@@ -64,7 +65,7 @@ def wait_for(is_there: Callable[[], bool], seconds: float, what: str) -> float:
 
 def block_of(first: str) -> str:
     """The block of the page that begins with these words."""
-    return next(it for it in re.findall(r"^```\n(.*?)^```", PAGE.read_text(), re.S | re.M) if it.startswith(first))
+    return next(it.text for it in blocks(PAGE) if it.text.startswith(first))
 
 
 def call(*words: str) -> None:

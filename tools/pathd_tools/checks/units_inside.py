@@ -1,5 +1,7 @@
 """Tries the steps of docs/operating, and the unit of the gateway, on a system whose first process is
-systemd; tools/pathd-tools units starts it in a container.
+systemd; tools/pathd-tools units starts it in a container. It carries out the blocks of
+docs/operating/install.md, first-hour.md and run.md and of docs/WATCHING.md that are marked by `units`,
+and those of the first hour that are marked by `steps`.
 
     tools/pathd-tools units-inside --loop DEVICE
     tools/pathd-tools units-inside --after-restart
@@ -19,6 +21,7 @@ import re
 import socket
 import struct
 import subprocess
+import tempfile
 import time
 import urllib.request
 from collections.abc import Callable
@@ -26,8 +29,12 @@ from pathlib import Path
 
 from pathd_model import model
 from pathd_tools import TOP, messages, toolbox
+from pathd_tools.checks import steps
+from pathd_tools.pages.blocks import Block, blocks
+from pathd_tools.pages.pages import pages
 
-PAGES = TOP / "docs/operating"
+DOCS = TOP / "docs"
+NAME = "units"
 STORE = Path("/var/lib/pathd/store")
 STATE = Path("/var/lib/pathd-units.state")
 DROP_IN = Path("/etc/systemd/system/pathd.service.d")
@@ -83,20 +90,32 @@ def must(*words: object) -> str:
     return done.stdout
 
 
+# The places of the blocks that were carried out.
+CARRIED_OUT: set[str] = set()
+
+
 def text_of(page: str) -> str:
-    """The text of a page of docs/operating."""
-    return (PAGES / f"{page}.md").read_text(encoding="utf-8")
+    """The text of a page of docs/."""
+    return (DOCS / f"{page}.md").read_text(encoding="utf-8")
 
 
-def block(page: str, heading: str, number: int = 0) -> str:
-    """One of the blocks of commands below a heading of a page."""
-    section = text_of(page).split(f"\n## {heading}\n")[1].split("\n## ")[0]
-    return section.split("```")[1 + 2 * number].split("\n", 1)[1]
+def block(page: str, heading: str) -> Block:
+    """The first block below a heading of a page."""
+    begin = text_of(page).split(f"\n## {heading}\n")[0].count("\n") + 2
+    return next(it for it in blocks(DOCS / f"{page}.md") if it.line > begin)
 
 
-def run_block(page: str, heading: str, number: int = 0) -> subprocess.CompletedProcess:
+def run_block(page: str, heading: str) -> subprocess.CompletedProcess:
     """Runs a block of a page as it is written, at the top of the repository."""
-    return run("bash", "-euo", "pipefail", "-c", block(page, heading, number), cwd=TOP)
+    chosen = block(page, heading)
+    CARRIED_OUT.add(chosen.place)
+    return run("bash", "-euo", "pipefail", "-c", chosen.text, cwd=TOP)
+
+
+def compare_blocks() -> None:
+    """Whether each block that is marked by the name of this tool was carried out."""
+    marked = {it.place for page in pages() for it in blocks(page) if it.how == NAME}
+    STEPS.expect("each block of a page that names `units` was carried out, and no other", marked == CARRIED_OUT, marked ^ CARRIED_OUT)
 
 
 def until(is_so: Callable[[], bool], seconds: float = 60) -> bool:
@@ -250,10 +269,19 @@ def shown(store: Path = STORE) -> str:
 # The steps, each a part of the page
 
 
+def first_hour() -> None:
+    """The first hour, as it is written, before anything is installed."""
+    with tempfile.TemporaryDirectory() as folder:
+        environment = {**os.environ, "TMPDIR": folder}
+        for it, fault in steps.carry_out(DOCS / "operating/first-hour.md", (NAME, steps.NAME), environment, Path(folder), {}):
+            STEPS.expect(f"the first hour: the block {it.place} runs", not fault, fault)
+            CARRIED_OUT.update([it.place] if it.how == NAME else [])
+
+
 def install() -> None:
     """'Installing', as it is written."""
     begun = time.time()
-    done = run_block("install", "Steps")
+    done = run_block("operating/install", "Steps")
     STEPS.expect("the block of 'Installing' runs", done.returncode == 0, done.stdout + done.stderr)
     STEPS.expect("the unit is active, and the server listens", until(is_up), run("systemctl", "status", "pathd").stdout)
     text = journal("pathd", begun)
@@ -261,7 +289,7 @@ def install() -> None:
     STEPS.expect("the file has its room on the disk", STORE.stat().st_blocks * 512 >= STORE.stat().st_size)
     made = STORE.stat().st_ino
     ROWS.register_many(3)
-    done = run_block("install", "Steps")
+    done = run_block("operating/install", "Steps")
     STEPS.expect("the block runs again, and leaves the store and its server", done.returncode == 0 and STORE.stat().st_ino == made and until(is_up), done.stdout + done.stderr)
     text = SETTINGS.read_text()
     STEPS.expect("the settings have the core ASes", "\nCORES=1-ff00:0:110\n" in text, text)
@@ -304,7 +332,7 @@ def look_at_walls() -> None:
         lines = [line for line in done.stderr.splitlines() if "pathd" in line]
         STEPS.expect(f"systemd-analyze verify prints nothing of {unit}", not lines, lines)
     rated = re.search(r"exposure level for pathd.service: (\S+)", must("systemd-analyze", "security", "--no-pager", "pathd.service"))
-    said = re.search(r"rates its exposure as ([0-9]+\.[0-9]+)", text_of("install").replace("\n", " "))
+    said = re.search(r"rates its exposure as ([0-9]+\.[0-9]+)", text_of("operating/install").replace("\n", " "))
     STEPS.expect("its exposure is rated as the page says", bool(rated and said) and rated.group(1) == said.group(1), (rated and rated.group(1), said and said.group(1)))
 
 
@@ -416,13 +444,13 @@ def register_expiring(seconds: int, number: int) -> None:
 
 def purged(counts: str) -> bool:
     """Whether the block of 'Purging' prints these counts."""
-    done = run_block("run", "Purging")
+    done = run_block("operating/run", "Purging")
     return done.returncode == 0 and re.search(rf"^place \d+: 0 inserted, 0 updated, 0 kept, {counts}$", done.stdout, re.M) is not None
 
 
 def purge() -> None:
     """'Purging', as it is written, and the server's own purges."""
-    STEPS.expect("the settings have the server purge each five minutes", "--purge 300" in (TOP / "deploy/pathd.default").read_text())
+    STEPS.expect("the settings have the server purge each five seconds", "--purge 5" in (TOP / "deploy/pathd.default").read_text())
     set_settings()
     must("systemctl", "restart", "pathd")
     STEPS.expect("the block of 'Purging' runs, and its purge prints the counts", until(is_up) and purged("0 purged"))
@@ -474,10 +502,9 @@ def numbers(host: str = "127.0.0.1", timeout: float = 10) -> dict[str, float]:
 
 def watch() -> None:
     """The page of numbers: its numbers under the unit."""
-    watched = drop_in("status", (TOP / "deploy/pathd.service.d/status.conf").read_text())
-    must("systemctl", "stop", "pathd")
     begun = time.time()
-    STEPS.expect("with `--status` the unit starts", start(), run("systemctl", "status", "pathd").stdout)
+    done = run_block("WATCHING", "Setting up")
+    STEPS.expect("the block of 'Setting up' runs, and with `--status` the unit starts", done.returncode == 0 and until(is_up), done.stdout + done.stderr)
     text = journal("pathd", begun)
     STEPS.expect("the journal has the line of the second address", f"pathd: status at 127.0.0.1:{NUMBERS_PORT}" in text, text)
     before = numbers()
@@ -486,7 +513,7 @@ def watch() -> None:
     more = {name: after[name] - before[name] for name in ("pathd_rows", "pathd_commands_total", 'pathd_replies_total{kind="registered"}')}
     STEPS.expect("the numbers have three registrations more", set(more.values()) == {3.0}, more)
     STEPS.expect("they say that the store takes commands", after["pathd_stopped"] == 0)
-    take_away(watched)
+    take_away(DROP_IN / "status.conf")
     must("systemctl", "stop", "pathd")
     STEPS.expect("without the option it starts and nothing listens there", start() and must("ss", "-Hltn", f"sport = :{NUMBERS_PORT}") == "")
 
@@ -609,7 +636,8 @@ class Volume:
 
 
 def serve_volume(device: str) -> None:
-    """A volume as DEV under the unit, by the lines of 'Installing'."""
+    """A volume as DEV under the unit, by the lines of the page for its service."""
+    service = block("operating/install", "A volume as DEV").text.partition("[Service]\n")[2].replace("/dev/DISK", device)
     must("chown", "pathd", device)
     must("runuser", "-u", "pathd", "--", "/usr/local/bin/pathd", "format", device, "--checkpoint", "64", "--journal", "4096")
     set_settings(STORE=device)
@@ -618,7 +646,7 @@ def serve_volume(device: str) -> None:
     run("systemctl", "start", "pathd")
     STEPS.expect("the unit as it is doesn't see a volume: `error: device 1`", until(lambda: "error: device 1" in journal("pathd", begun)), journal("pathd", begun))
     must("systemctl", "stop", "pathd")
-    drop_in("volume", f"[Service]\nPrivateDevices=no\nDevicePolicy=closed\nDeviceAllow={device} rw\n")
+    drop_in("volume", f"[Service]\n{service}")
     STEPS.expect("with the three lines of the page it serves the volume", start(), run("systemctl", "status", "pathd").stdout)
 
 
@@ -667,7 +695,7 @@ def reaches(source: str, host: str, *more: str) -> bool:
 def probe(host: str) -> bool:
     """Asks a server once."""
     try:
-        with Session(host, 2) as session:
+        with Session(host, 5) as session:
             return session.ask(messages.lookup_frame(LEAF, CORE))[0] == 0x82
     except OSError:
         return False
@@ -676,7 +704,7 @@ def probe(host: str) -> bool:
 def probe_numbers(host: str) -> bool:
     """Asks for the numbers once."""
     try:
-        return "pathd_rows" in numbers(host, 2)
+        return "pathd_rows" in numbers(host, 5)
     except OSError:
         return False
 
@@ -735,7 +763,7 @@ def limit_access() -> None:
         STEPS.expect("with IPAddressAllow=192.0.2.0/24 these addresses do, too", seen == (True, True, False), seen)
     seen = allow("IPAddressAllow=any\n")
     STEPS.expect("with IPAddressAllow=any all do", seen == (True, True, True), seen)
-    done = run_block("run", "Access")
+    done = run_block("operating/run", "Access")
     STEPS.expect("the block of 'Access' runs", done.returncode == 0, done.stdout + done.stderr)
     seen = all_reach()
     STEPS.expect("by the firewall's rules 192.0.2.0/24 and the loopback reach it, and no other address", seen == (True, True, False), seen)
@@ -778,6 +806,7 @@ def main(words: list[str]) -> int:
     if options.after_restart:
         after_restart()
     else:
+        first_hour()
         install()
         look_at_walls()
         fill_sessions()
@@ -792,6 +821,7 @@ def main(words: list[str]) -> int:
         fail_device(options.loop, by_hand=False)
         start()
         limit_access()
+        compare_blocks()
         ROWS.register_many(20)
         STATE.write_bytes(pickle.dumps(ROWS))
     print(f"{STEPS.count} steps, {STEPS.wrong} came out otherwise, {STEPS.left_out} left out")

@@ -3,6 +3,8 @@ differs, and nothing else, of
 
 - the table of docs/PROTOCOL.md, which --write puts there,
 - crates/reply_codes, in specs/ and in src/,
+- the names of crates/cli_ask,
+- the codes of refused messages in crates/status_server, which are all but the session's,
 - the clients in Python and in Go,
 - the statuses on the page of the gateway, and the model of tools/pathd_model.
 
@@ -27,9 +29,14 @@ CODES = TOP / "docs/codes.csv"
 PROTOCOL = TOP / "docs/PROTOCOL.md"
 PYTHON = TOP / "clients/python/pathd_client/codes.py"
 GO = TOP / "clients/go/codes.go"
+COUNTED = CRATES / "status_server/src/refusals.rt"
 GATEWAY = TOP / "docs/GATEWAY.md"
+ASK = CRATES / "cli_ask/src/codes.rt"
 BEGIN = "<!-- tools/pathd-tools codes --write -->"
 HEAD = ["| code | refusal; 'again' says when it helps to send the request again |", "|---|---|"]
+
+# The code that refuses a session, and no message.
+NO_SESSION = 0x61
 
 # A code with the name before it: `Busy = 0x51`, `(BadSignature entry) = 0x31`, `SubmitError::Busy => 0x51`.
 NAMED = re.compile(r"(\w+)(?:\(_\)| \w+)?\)? =>? 0x([0-9a-f]{2})\b")
@@ -83,10 +90,21 @@ def in_go() -> list[tuple[int, str]]:
     return [(int(code, 16), name) for name, code in re.findall(r"^\t(\w+) +Code = 0x([0-9a-f]{2})$", GO.read_text(), re.M)]
 
 
+def in_ask() -> list[tuple[int, str]]:
+    """The codes that have a name in the program's own client, each with its name."""
+    return [(int(code, 16), name) for code, name in re.findall(r'\(0x([0-9a-f]{2}), "(\w+)"\)', ASK.read_text())]
+
+
 def in_gateway() -> set[int]:
     """The codes of the statuses on the gateway's page."""
     text = GATEWAY.read_text()
     return in_ranges(" ".join(re.findall(r"^\| (0x.*?) \| `[A-Z_]+` \|", text, re.M)))
+
+
+def in_counts() -> set[int]:
+    """The codes of refused messages that a server counts from its start."""
+    known = re.search(r"^const KNOWN: \[u8; \d+\] = \[(.*?)\];$", COUNTED.read_text(), re.M | re.S)
+    return in_ranges(known[1]) if known else set()
 
 
 def unlike(where: str, found: set[int]) -> list[str]:
@@ -115,6 +133,9 @@ def problems() -> list[str]:
     }
     for where, its in named.items():
         found += unlike(where, {code for code, _ in its}) + misnamed(where, its)
+    if in_ask() != [(row.code, row.name) for row in rows() if row.name]:
+        found.append("crates/cli_ask/src/codes.rt has other names than docs/codes.csv, or another order")
+    found += unlike(str(COUNTED.relative_to(TOP)), in_counts() | {NO_SESSION})
     found += unlike("tools/pathd_model/model.py", model.CODES)
     return found + unlike("docs/GATEWAY.md", in_gateway())
 

@@ -37,6 +37,14 @@ def bodies(text: str) -> dict[str, str]:
     return dict(zip(parts[1::2], parts[2::2]))
 
 
+def calls(functions: dict[str, str], name: str) -> list[str]:
+    """A function, and those of the file that it calls with the allocator first, in turn."""
+    found = [name]
+    for it in found:
+        found += [called for called in dict.fromkeys(re.findall(r"\b(\w+)\(\s*alloc\b", functions[it])) if called in functions and called not in found]
+    return [it for it in found if it not in ("option", "flag") and not it.endswith("_argument")]
+
+
 def of_source() -> Commands:
     """The command line as the source makes it."""
     text = SOURCE.read_text()
@@ -44,17 +52,17 @@ def of_source() -> Commands:
     functions = bodies(text)
     paths = {name: re.search(r'\.value_name\("(\w+)"\)', functions[name])[1] for name in functions if name.endswith("_argument")}
     found = {}
-    for body in functions.values():
-        named = re.search(r"\bCommand::new\(alloc, ([A-Z_]+)\)", body)
-        if not named:
+    for name in functions:
+        command = name.removesuffix("_command")
+        if command == name or command not in names.values():
             continue
-        body += "".join(functions[it] for it in re.findall(r"\b(with_\w+)\(alloc, command\)", body))
-        body += "".join(functions[it] for it in re.findall(r"\b(\w+_option)\(alloc\)", body))
-        options = {f"--{names[name]} {value}" for name, value in re.findall(r'\boption\(alloc, (\w+), "(\w+)"', body)}
-        options |= {f"--{names[name]}" for name in re.findall(r"\bflag\(alloc, (\w+),", body)}
+        body = "".join(functions[it] for it in calls(functions, name))
+        options = {f"--{names[it]} {value}" for it, value in re.findall(r'\boption\(\s*alloc,\s*(\w+),\s*"(\w+)"', body) if it in names}
+        options |= {f"--{names[it]} SECONDS" for it in re.findall(r"\bseconds\(\s*alloc,\s*(\w+),", body)}
+        options |= {f"--{names[it]}" for it in re.findall(r"\bflag\(alloc, (\w+),", body)}
         named_paths = re.findall(r'\b(\w+_argument)\(alloc\)(?:\s*\.value_name\("(\w+)"\))?', body)
-        options |= {other or paths[name] for name, other in named_paths}
-        found[names[named[1]]] = frozenset(options | HELP_OPTIONS)
+        options |= {other or paths[it] for it, other in named_paths}
+        found[command] = frozenset(options | HELP_OPTIONS)
     return found | {HELP: frozenset()}
 
 
@@ -131,7 +139,7 @@ def of_zsh() -> Commands:
     found = {name: frozenset() for name in re.findall(r"^ +'(\w+):", listed, re.M)}
     for name, body in re.findall(r"^    (\w+)\)\n(.*?)^      ;;", text, re.M | re.S):
         options = {f"{it} {value}".strip() for it, value in re.findall(r"'(?:\(--[\w -]+\))?(--[\w-]+)\[[^]]*\](?::(\w+):)?'", body)}
-        options |= set(re.findall(r"'\d:(\w+):_files'", body))
+        options |= set(re.findall(r"'\d:(\w+):", body))
         found[name] = frozenset(options | (common if "_arguments $help" in body else frozenset()))
     return found
 

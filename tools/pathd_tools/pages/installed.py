@@ -25,7 +25,7 @@ LACKING = re.compile(r"(?:^|[\s\"'=])(?:\./)?(?:bench|clients|crates|deploy|docs
 
 def blocks(page: Path) -> list[str]:
     """The lines of a page's blocks of code."""
-    found = re.findall(r"^ *```\w*\n(.*?)^ *```", page.read_text(), re.S | re.M)
+    found = re.findall(r"^ *```[^\n]*\n(.*?)^ *```", page.read_text(), re.S | re.M)
     return [line for block in found for line in block.splitlines()]
 
 

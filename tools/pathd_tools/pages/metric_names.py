@@ -1,8 +1,8 @@
-"""Compares what watches a server with the page of its numbers. The names and types of the numbers
-and the values of their labels are those of crates/status_page/specs/, which the contract of the
-page cites; the codes of refusals are those of docs/codes.csv. It prints nothing where
+"""Compares what watches a server with the page of its numbers. The types of the numbers and the
+values of their labels are those of crates/status_page/specs/, which the contract of the page cites,
+and their names those of src/names.rt there; the codes of refusals are those of docs/codes.csv. It prints nothing where
 
-- src/ of that crate has the same names,
+- each name of src/ of that crate has a row in specs/,
 - deploy/pathd.rules.yml and deploy/grafana-dashboard.json use no other name, no other value of a
   label, and `rate` and `increase` of counters alone,
 - each name is on the dashboard, or is listed here as left out,
@@ -26,8 +26,8 @@ WATCHING = TOP / "docs/WATCHING.md"
 # The names that are on no panel, and why.
 NOT_DRAWN = {"pathd_format_version": "it changes once in a store's life", "process_start_time_seconds": "pathd_uptime_seconds is"}
 
-NAME = re.compile(r"\b(?:pathd_[a-z_]+|process_[a-z_]+_seconds)\b")
-LABEL = re.compile(r'\b(kind|phase|code|call|reason|cause|actor)=~?"([^"]*)"')
+NAME = re.compile(r"\b(?:pathd_[a-z_]+|process_[a-z_]+_(?:seconds|seconds_total|bytes|fds))\b")
+LABEL = re.compile(r'\b(kind|phase|code|call|reason|cause|actor|outcome|type)=~?"([^"]*)"')
 # The lines of a histogram have its name with one of these.
 PARTS = ("_bucket", "_sum", "_count")
 
@@ -39,9 +39,9 @@ def files(folder: str, suffix: str) -> str:
 
 def types(specs: str) -> dict[str, str]:
     """The type of each number of the page."""
-    named = dict(re.findall(r'^(\w+) = codes "(pathd_\w+)"$', specs, re.M))
-    found = {name: kind for kind, name in re.findall(r'\b(?:time_)?(counter|gauge) \(codes "(\w+)"\)', specs)}
-    return found | {named[it]: kind for it, kind in re.findall(r'heading (\w+) \(codes "[^"]*"\) \(codes "(\w+)"\)', specs) if it in named}
+    named = dict(re.findall(r'const (\w+): &str =\s*"((?:pathd|process)_\w+)"', (PAGE / "src/names.rt").read_text()))
+    found = {named[it]: kind.lower() for it, kind in re.findall(r"\b(?:plain|heading) (\w+)\.now (Gauge|Counter)", specs)}
+    return found | {named[it]: "histogram" for it in re.findall(r"\bhistogram (\w+)\.now", specs)}
 
 
 def names(text: str, known: dict[str, str]) -> set[str]:
@@ -53,7 +53,7 @@ def names(text: str, known: dict[str, str]) -> set[str]:
 def labels(specs: str) -> dict[str, set[str]]:
     """The values of each label."""
     found: dict[str, set[str]] = {"code": {f"{row.code:02x}" for row in codes.rows()}}
-    for label, value in re.findall(r'codes "(kind|phase|call|reason|cause|actor)=\\"(\w+)\\""', specs):
+    for label, value in re.findall(r'codes "(kind|phase|call|reason|cause|actor|outcome|type)=\\"(\w+)\\""', specs):
         found.setdefault(label, set()).add(value)
     return found
 
@@ -71,7 +71,7 @@ def problems_of(path: Path, text: str, known: dict[str, str], values: dict[str, 
     where = path.relative_to(TOP)
     found = [f"{where}: {name} is no number of the page" for name in sorted(names(text, known) - known.keys())]
     found += [f"{where}: {label} has no value {value}" for label, value in LABEL.findall(text) if not set(value.split("|")) <= values[label]]
-    for function, name in re.findall(r"\b(rate|irate|increase)\((pathd_\w+)", text):
+    for function, name in re.findall(r"\b(rate|irate|increase)\(((?:pathd|process)_\w+)", text):
         found += [f"{where}: {function} of the gauge {name}"] if known.get(name) == "gauge" else []
     return found
 

@@ -8,10 +8,9 @@ from pathd_tools.pages import source
 from pathd_tools.pages.source import CRATES
 from pathd_tools.toolbox import parser
 
-# The lines that may be unsafe, each with its file: two notes for contracts, which have no bytes, are sent to other threads.
+# The lines that may be unsafe, each with its file: a note for contracts, which has no bytes, is sent to other threads.
 ALLOWED = {
-    "row_edits/src/note.rt": "unsafe impl Send for RowsNote {}",
-    "sector_dev/src/trail.rt": "unsafe impl Send for Trail {}",
+    "ghost_note/src/note.rt": "unsafe impl<T> Send for Note<T> {}",
 }
 
 
