@@ -6,8 +6,8 @@ use Rattle.store_layout.specs.CheckpointReading.{checkpoint_in}
 use Rattle.row_map.specs.Database.{RowView}
 use Rattle.path_records.specs.declared.error.DbError.{DbError}
 use Rattle.path_records.specs.RowRecord.{rows_decoding}
-use Rattle.path_records.specs.RowWalk.{WalkView, HasGiven}
-use Rattle.path_records.specs.RowsReader.{AreRefused}
+use Rattle.path_records.specs.RowCursor.{CursorView, HasGiven}
+use Rattle.path_records.specs.DatabaseReader.{AreRefused}
 use Rattle.ckpt_pair.specs.declared.row_stream.RowStream.TheInside.{Inside}
 use Rattle.store_layout.specs.Limits.{latest}
 use Rattle.ckpt_pair.specs.Rows.{rows_format, as_counted}
@@ -15,8 +15,8 @@ use Rattle.ckpt_pair.specs.Reading.{FrontView, front_in, with_head}
 
 -- A stream as contracts see it.
 pub record StreamView : Type 0 where
-  -- The walk over the rows.
-  pub walk : WalkView
+  -- The cursor over the rows.
+  pub cursor : CursorView
   -- The number of bytes that are still to come.
   pub bytes : ℕ
   -- The number of rows that are still to come.
@@ -24,12 +24,12 @@ pub record StreamView : Type 0 where
 
 -- A stream's fields as contracts see them.
 abbrev pub stream_view : Inside → StreamView
-stream_view s = record { walk = s.walk; bytes = s.bytes; rows = s.rows }
+stream_view s = record { cursor = s.cursor; bytes = s.bytes; rows = s.rows }
 
 -- What a stream of `count` rows in `size` bytes has returned.
 pub record HasStreamed (size count : ℕ) (pushed : List ℕ) (given : List RowView) (stream : StreamView) : Type 0 where
   -- The first `size` bytes that were pushed are the records of the rows.
-  pub walk : HasGiven (take size pushed) given stream.walk
+  pub cursor : HasGiven (take size pushed) given stream.cursor
   -- The stream counts the bytes that are still to come.
   pub bytes : stream.bytes ≡ size - length pushed
   -- The stream counts the rows that are still to come.
@@ -42,9 +42,9 @@ AreNoStreamedRows stream =
     (size count : ℕ) (pushed : List ℕ) (given : List RowView) → HasStreamed size count pushed given stream
     → (after : List ℕ) → as_counted count (rows_decoding (take size (pushed ++ after))) ≡ None
 
--- A walk in this state is refused, whatever was pushed and returned before.
-abbrev pub IsRefusedWalk : WalkView → Type 0
-IsRefusedWalk walk = (e : DbError) × ((fed : List ℕ) (given : List RowView) → HasGiven fed given walk → AreRefused fed e)
+-- A cursor in this state is refused, whatever was pushed and returned before.
+abbrev pub IsRefusedCursor : CursorView → Type 0
+IsRefusedCursor cursor = (e : DbError) × ((fed : List ℕ) (given : List RowView) → HasGiven fed given cursor → AreRefused fed e)
 
 -- The list of rows begins with these.
 pub record BeginWith (given rows : List RowView) : Type 0 where

@@ -20,7 +20,7 @@ pub use encoding::{checkpoint_front, checkpoint_head, encode_checkpoint};
 pub use error::PairError;
 pub use format::{CHECKPOINT_MAGIC, COUNT_AT, SIZE_AT, area_room};
 pub use head::{Head, Heads, read_head};
-pub use path_records::RowsReader;
+pub use path_records::DatabaseReader;
 pub use pieces::{feed_rows, feed_rows_by, finish_rows};
 pub use reading::{Checkpoint, Front, read_front, read_half};
 pub use row_stream::RowStream;

@@ -12,12 +12,12 @@ ghost use Rattle.ckpt_pair.specs.Reading.{or_bad_checkpoint, AreNoRows};
 use crate::error::PairError;
 use crate::reading::has_count;
 use path_db::PathDb;
-use path_records::{DbError, OneThread, RowReading, RowsReader};
+use path_records::{DatabaseReader, DbError, OneThread, RowDecoder};
 
 /// Reads the next piece of the rows' bytes, cut anywhere, on the calling thread. A `BadCheckpoint`
 /// does not depend on the count of rows or on the bytes after this piece. An empty piece takes no
 /// memory.
-pub fn feed_rows(reader: RowsReader, piece: &[u8]) -> Result<RowsReader, PairError>
+pub fn feed_rows(reader: DatabaseReader, piece: &[u8]) -> Result<DatabaseReader, PairError>
     ensures fed { IfOk result (λ more. more ≡ reader ++ piece.now) }
     ensures refused { IfErr result (λ e. e ≢ NoMemory → (e ≡ BadCheckpoint) × AreNoRows (reader ++ piece.now)) }
     ensures memory { IfErr result (λ e. 0 < length piece.now) }
@@ -26,11 +26,11 @@ pub fn feed_rows(reader: RowsReader, piece: &[u8]) -> Result<RowsReader, PairErr
 }
 
 /// Reads the next piece of the rows' bytes as `feed_rows` does, in this way.
-pub fn feed_rows_by<B: RowReading>(
+pub fn feed_rows_by<B: RowDecoder>(
     by: &B,
-    reader: RowsReader,
+    reader: DatabaseReader,
     piece: &[u8],
-) -> Result<RowsReader, PairError>
+) -> Result<DatabaseReader, PairError>
     requires { B.is_ready by.now }
     ensures fed { IfOk result (λ more. more ≡ reader ++ piece.now) }
     ensures refused { IfErr result (λ e. e ≢ NoMemory → (e ≡ BadCheckpoint) × AreNoRows (reader ++ piece.now)) }
@@ -45,7 +45,7 @@ pub fn feed_rows_by<B: RowReading>(
 
 /// The database of all bytes that were fed, which have to be the records of exactly `count` rows.
 /// The call takes memory only where the bytes are the records of some rows.
-pub fn finish_rows(reader: RowsReader, count: u32) -> Result<PathDb, PairError>
+pub fn finish_rows(reader: DatabaseReader, count: u32) -> Result<PathDb, PairError>
     ensures decoding { GivesPair (λ rows. rows) result (or_bad_checkpoint (as_counted count (rows_decoding reader))) }
     ensures whole { IfOk result IsDatabase }
     ensures memory { IfErr result (λ e. e ≡ NoMemory → IsOk (rows_decoding reader) × (0 < length reader)) }

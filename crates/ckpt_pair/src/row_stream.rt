@@ -5,13 +5,13 @@ ghost use Rattle.std.specs.Prelude.{◌≡◌, ◌≢◌, ◌+◌, ◌≤◌, �
 ghost use Rattle.row_map.specs.Database.{RowView};
 ghost use Rattle.row_map.specs.Row.{row_view};
 ghost use Rattle.path_records.specs.RowRecord.{rows_decoding, has_row, HasOutline};
-ghost use Rattle.path_records.specs.RowWalk.{HasGiven};
+ghost use Rattle.path_records.specs.RowCursor.{HasGiven};
 ghost use Rattle.ckpt_pair.specs.declared.error.PairError.TheVariants.{NoMemory, BadCheckpoint};
 ghost use Rattle.ckpt_pair.specs.Rows.{as_counted};
-ghost use Rattle.ckpt_pair.specs.Stream.{HasStreamed, AreNoStreamedRows, IsRefusedWalk};
+ghost use Rattle.ckpt_pair.specs.Stream.{HasStreamed, AreNoStreamedRows, IsRefusedCursor};
 
 use crate::error::PairError;
-use path_records::{DbError, RowWalk};
+use path_records::{DbError, RowCursor};
 use row_map::Row;
 use std::alloc::{AllocError, Global};
 use std::marker::Model;
@@ -21,7 +21,7 @@ use std::marker::Model;
 /// returned, these are fewer than 16,389.
 #[derive(Drop)]
 pub struct RowStream {
-    walk: RowWalk,
+    cursor: RowCursor,
     bytes: u32,
     rows: u32,
 }
@@ -41,7 +41,7 @@ impl RowStream {
         ensures { HasStreamed length count [] [] result }
     {
         RowStream {
-            walk: RowWalk::new(alloc),
+            cursor: RowCursor::new(alloc),
             bytes: length,
             rows: count,
         }
@@ -56,7 +56,7 @@ impl RowStream {
         ensures memory { OnErr result (0 < length piece.now) }
     {
         let taken = front_of(piece, self.bytes);
-        self.walk.push(taken)?;
+        self.cursor.push(taken)?;
         self.bytes -= taken.len() as u32;
         Ok(())
     }
@@ -72,19 +72,19 @@ impl RowStream {
         ensures fewer { IfOk result (λ next. IfSome next (λ _. self.new.rows + 1 ≡ self.old.rows)) }
         ensures all { IfOk result (λ next. IfNone next ((size count : ℕ) (pushed : List ℕ) (given : List RowView)
             → HasStreamed size count pushed given self.old → size ≤ length pushed → as_counted count (rows_decoding (take size pushed)) ≡ Some given)) }
-        ensures short { IfOk result (λ next. IfNone next (length self.new.walk.rest < 16389)) }
+        ensures short { IfOk result (λ next. IfNone next (length self.new.cursor.rest < 16389)) }
         ensures none { IfOk result (λ next. IfNone next (self.new ≡ self.old)) }
         ensures refused { IfErr result (λ e. e ≢ NoMemory → (e ≡ BadCheckpoint) × AreNoStreamedRows self.old) }
         ensures kept { OnErr result (self.new ≡ self.old) }
-        ensures memory { IfErr result (λ e. e ≡ NoMemory → HasOutline self.old.walk.rest) }
+        ensures memory { IfErr result (λ e. e ≡ NoMemory → HasOutline self.old.cursor.rest) }
     {
         if self.rows == 0 {
-            if self.walk.has_rest() {
+            if self.cursor.has_rest() {
                 return Err(PairError::BadCheckpoint);
             }
             return Ok(None);
         }
-        match next_row(&mut self.walk)? {
+        match next_row(&mut self.cursor)? {
             Some(row) => {
                 self.rows -= 1;
                 Ok(Some(row))
@@ -107,17 +107,17 @@ fn front_of(piece: &[u8], most: u32) -> &[u8]
     &piece[..piece.len().min(most as usize)]
 }
 
-/// The next row of a walk. Bytes that are no next row are a bad checkpoint.
-fn next_row(walk: &mut RowWalk) -> Result<Option<Row>, PairError>
+/// The next row of a cursor. Bytes that are no next row are a bad checkpoint.
+fn next_row(cursor: &mut RowCursor) -> Result<Option<Row>, PairError>
     ensures row { IfOk result (λ next. IfSome next (λ row. (fed : List ℕ) (given : List RowView)
-        → HasGiven fed given walk.old → HasGiven fed (given ++ row_view row ∷ []) walk.new)) }
-    ensures none { IfOk result (λ next. IfNone next ((walk.new ≡ walk.old) × (has_row walk.old.rest ≡ false))) }
-    ensures short { IfOk result (λ next. IfNone next (length walk.new.rest < 16389)) }
-    ensures refused { IfErr result (λ e. e ≢ NoMemory → (e ≡ BadCheckpoint) × IsRefusedWalk walk.old) }
-    ensures kept { OnErr result (walk.new ≡ walk.old) }
-    ensures memory { IfErr result (λ e. e ≡ NoMemory → HasOutline walk.old.rest) }
+        → HasGiven fed given cursor.old → HasGiven fed (given ++ row_view row ∷ []) cursor.new)) }
+    ensures none { IfOk result (λ next. IfNone next ((cursor.new ≡ cursor.old) × (has_row cursor.old.rest ≡ false))) }
+    ensures short { IfOk result (λ next. IfNone next (length cursor.new.rest < 16389)) }
+    ensures refused { IfErr result (λ e. e ≢ NoMemory → (e ≡ BadCheckpoint) × IsRefusedCursor cursor.old) }
+    ensures kept { OnErr result (cursor.new ≡ cursor.old) }
+    ensures memory { IfErr result (λ e. e ≡ NoMemory → HasOutline cursor.old.rest) }
 {
-    match walk.next() {
+    match cursor.next() {
         Ok(next) => Ok(next),
         Err(DbError::NoMemory) => Err(PairError::NoMemory),
         Err(_) => Err(PairError::BadCheckpoint),

@@ -25,7 +25,7 @@ use Rattle.ckpt_pair.specs.Heads.{head_view}
 use Rattle.ckpt_pair.specs.Reading.{with_head}
 use Rattle.ckpt_pair.specs.Rows.{rows_format, as_counted, counted_rows}
 use Rattle.ckpt_pair.specs.Stream.{StreamView, HasStreamed}
-use Rattle.path_records.specs.RowWalk.{HasGiven}
+use Rattle.path_records.specs.RowCursor.{HasGiven}
 use Rattle.store_open.specs.Sealed.{folded_in, folded_behind, sealed_half}
 use Rattle.store_open.proofs.FirstSectors.{part_in_front}
 use Rattle.store_open.proofs.Journals.{journal_sectors, journal_size}
@@ -76,7 +76,7 @@ take_both (suc m) (suc n) (x ∷ l) = ap (λ (t : List ℕ). x ∷ t) (take_both
 streams_same : (size count : ℕ) (pushed other : List ℕ) (given : List RowView) (stream : StreamView) → length pushed ≡ length other → take size pushed ≡ take size other
     → HasStreamed size count pushed given stream → HasStreamed size count other given stream
 streams_same size count pushed other given stream long same is = record {
-  walk = subst (λ (l : List ℕ). HasGiven l given stream.walk) same is.walk;
+  cursor = subst (λ (l : List ℕ). HasGiven l given stream.cursor) same is.cursor;
   bytes = omega (arith, is.bytes, long);
   rows = is.rows;
 }

@@ -106,7 +106,7 @@ pub(crate) fn rows_on<D: Device>(
         return Ok(HalfRead::Settled(settle_rows(rows)?));
     }
     let mut rows = rows;
-    read_rows(alloc, device, geometry.area_at(half), &mut rows)?;
+    read_row_sectors(alloc, device, geometry.area_at(half), &mut rows)?;
     Ok(HalfRead::Rows(rows))
 }
 
@@ -118,7 +118,7 @@ fn sectors_before_end(size: u32) -> u64
 }
 
 /// Reads the next sectors of an area, at most 64, and sees the rows that end in them.
-fn read_rows<D: Device>(
+fn read_row_sectors<D: Device>(
     alloc: Global,
     device: &mut D,
     area: u64,

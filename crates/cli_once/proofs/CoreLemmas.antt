@@ -3,8 +3,8 @@ use Rattle.std.proofs.Common.{◌≡◌, ℕ, ◌+◌, ◌<◌, List, [], ◌∷
 use Rattle.std.proofs.lemmas.List.{map_push, drop_more}
 use Rattle.isd_as.specs.declared.number.IsdAs.{IsdAs}
 use Rattle.isd_as.specs.Text.{IsIsdAsText}
-use Rattle.cli_once.specs.declared.error.Fault.{Fault}
-use Rattle.cli_once.specs.declared.error.Fault.TheVariants as fault
+use Rattle.cli_once.specs.declared.error.SessionFault.{SessionFault}
+use Rattle.cli_once.specs.declared.error.SessionFault.TheVariants as fault
 use Rattle.cli_once.specs.Cores.{texts_of, AreCores, IsCoreList, RefusesText, RefusesTexts, RefusesList}
 
 AreCores-push : (texts : List (List ℕ)) (cores : List IsdAs) (text : List ℕ) (core : IsdAs) → AreCores texts cores → IsIsdAsText text core → AreCores (texts ++ text ∷ []) (cores ++ core ∷ [])
@@ -31,7 +31,7 @@ module _ {B : Type 0} (now : B → List ℕ) (items : List B) (x : B) where
         (drop_more (texts_of list) (length items) (now x) inside ∙ ap (λ (t : List ℕ). t ∷ drop (length items + 1) (texts_of list)) (sym here))
 
     -- the next text is refused
-    pub RefusesTexts-here : (e : Fault) → IsCoreList (map now items) → RefusesText (now x) e → RefusesTexts list e
+    pub RefusesTexts-here : (e : SessionFault) → IsCoreList (map now items) → RefusesText (now x) e → RefusesTexts list e
     RefusesTexts-here (fault.Text e) so_far refused = record {
       front = map now items;
       cores = so_far.cores;
@@ -47,7 +47,7 @@ module _ {B : Type 0} (now : B → List ℕ) (items : List B) (x : B) where
     RefusesTexts-here fault.Output so_far refused = absurd refused
 
 -- what is refused without memory is refused
-pub RefusesList-from : (list : List ℕ) (e : Fault) → RefusesTexts list e → RefusesList list e
+pub RefusesList-from : (list : List ℕ) (e : SessionFault) → RefusesTexts list e → RefusesList list e
 RefusesList-from list (fault.Text e) refused = refused
 RefusesList-from list fault.Memory refused = absurd refused
 RefusesList-from list fault.Hex refused = absurd refused

@@ -8,8 +8,8 @@ use Rattle.hex.specs.Hex.{decode_of, is_hex_digit}
 use Rattle.hex.specs.declared.error.FromHexError.{FromHexError}
 use Rattle.hex.proofs.HexLemmas.{decode_of-ok, decode_of-digits}
 use Rattle.seg_check.specs.declared.keyed.TheConstants.{MOST_KEY}
-use Rattle.cli_once.specs.declared.error.Fault.{Fault}
-use Rattle.cli_once.specs.declared.error.Fault.TheVariants as fault
+use Rattle.cli_once.specs.declared.error.SessionFault.{SessionFault}
+use Rattle.cli_once.specs.declared.error.SessionFault.TheVariants as fault
 use Rattle.cli_once.specs.HexInput.{RefusesDigits}
 use Rattle.cli_once.specs.Key.{IsKeyText, IsKeyTooLong, RefusesKey}
 
@@ -53,7 +53,7 @@ pub short_key : (s bytes : List ℕ) → length s ≤ 2 * MOST_KEY → decode_of
 short_key s bytes short d = let size = (decode_of-ok s bytes d).2 in omega (arith, size, short)
 
 -- digits that are refused are refused as a key
-pub refuses_key : (s : List ℕ) (e : Fault) → length s ≤ 2 * MOST_KEY → RefusesDigits s e → RefusesKey s e
+pub refuses_key : (s : List ℕ) (e : SessionFault) → length s ≤ 2 * MOST_KEY → RefusesDigits s e → RefusesKey s e
 refuses_key s fault.Hex short refuses = inl refuses
 refuses_key s fault.Memory short ok = by_decoding (decode_of s) refl ok
   where

@@ -5,8 +5,8 @@ use Rattle.isd_as.specs.declared.number.IsdAs.{IsdAs}
 use Rattle.isd_as.specs.declared.error.IaError.{IaError}
 use Rattle.isd_as.specs.declared.error.IaError.TheVariants.{BadText, TooLarge}
 use Rattle.isd_as.specs.Text.{IsIsdAsText, IsInGrammar, IsTooLargeText}
-use Rattle.cli_once.specs.declared.error.Fault.{Fault}
-use Rattle.cli_once.specs.declared.error.Fault.TheVariants as fault
+use Rattle.cli_once.specs.declared.error.SessionFault.{SessionFault}
+use Rattle.cli_once.specs.declared.error.SessionFault.TheVariants as fault
 
 -- The texts between the commas.
 abbrev pub texts_of : List ℕ → List (List ℕ)
@@ -22,7 +22,7 @@ IsNoIsdAs text BadText = ¬ IsInGrammar text
 IsNoIsdAs text TooLarge = IsTooLargeText text
 
 -- The program's fault for such a text.
-abbrev pub RefusesText : List ℕ → Fault → Type 0
+abbrev pub RefusesText : List ℕ → SessionFault → Type 0
 RefusesText text (fault.Text e) = IsNoIsdAs text e
 RefusesText text _ = ⊥
 
@@ -50,12 +50,12 @@ pub record IsCoreList (texts : List (List ℕ)) : Type 0 where
 
 -- Why a list is refused: a text in it is no ISD-AS, which is found without memory, or memory was
 -- refused for the core ASes.
-abbrev pub RefusesList : List ℕ → Fault → Type 0
+abbrev pub RefusesList : List ℕ → SessionFault → Type 0
 RefusesList list (fault.Text e) = FirstRefusal (texts_of list) e
 RefusesList list fault.Memory = IsCoreList (texts_of list)
 RefusesList list _ = ⊥
 
 -- Why a list is refused by the checks that take no memory.
-abbrev pub RefusesTexts : List ℕ → Fault → Type 0
+abbrev pub RefusesTexts : List ℕ → SessionFault → Type 0
 RefusesTexts list (fault.Text e) = FirstRefusal (texts_of list) e
 RefusesTexts list _ = ⊥

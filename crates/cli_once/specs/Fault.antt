@@ -5,11 +5,11 @@ use Rattle.isd_as.specs.declared.error.IaError.{IaError}
 use Rattle.isd_as.specs.declared.error.IaError.TheVariants as ia
 use Rattle.session_core.specs.declared.error.FrameError.{FrameError}
 use Rattle.session_core.specs.declared.error.FrameError.TheVariants as error
-use Rattle.cli_once.specs.declared.error.Fault.{Fault}
-use Rattle.cli_once.specs.declared.error.Fault.TheVariants as fault
+use Rattle.cli_once.specs.declared.error.SessionFault.{SessionFault}
+use Rattle.cli_once.specs.declared.error.SessionFault.TheVariants as fault
 
 -- The fault of a session's error. Refused memory is not a fault of a frame.
-abbrev pub frame_fault : FrameError → Fault
+abbrev pub frame_fault : FrameError → SessionFault
 frame_fault error.NoMemory = fault.Memory
 frame_fault error.Length = fault.Frame error.Length
 frame_fault error.Kind = fault.Frame error.Kind
@@ -32,7 +32,7 @@ frame_number error.Write = 4
 frame_number error.Turns = 5
 
 -- The words of a fault.
-abbrev pub session_fault_text : Fault → List ℕ
+abbrev pub session_fault_text : SessionFault → List ℕ
 session_fault_text (fault.Text e) = codes "text " ++ decimal (text_number e)
 session_fault_text fault.Hex = codes "hex"
 session_fault_text (fault.Frame e) = codes "frame " ++ decimal (frame_number e)

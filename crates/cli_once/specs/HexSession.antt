@@ -7,7 +7,7 @@ use Rattle.session_core.specs.declared.error.FrameError.{FrameError}
 use Rattle.session_core.specs.declared.error.FrameError.TheVariants as error
 use Rattle.session_core.specs.Source.{AreReads}
 use Rattle.session_core.specs.Lines.{IsServedInLines}
-use Rattle.cli_once.specs.declared.error.Fault.{Fault}
+use Rattle.cli_once.specs.declared.error.SessionFault.{SessionFault}
 use Rattle.cli_once.specs.Fault.{frame_fault}
 use Rattle.cli_once.specs.HexInput.{without_blanks, RefusesHex}
 use Rattle.cli_once.specs.Memory.{Served, Answers}
@@ -20,7 +20,7 @@ InputEndsEarly turns pieces error.Turns = length pieces ≡ turns
 InputEndsEarly turns pieces _ = ⊥
 
 -- The input was not read whole, and nothing was written.
-pub record IsUnread (turns : ℕ) (pieces : List (List ℕ)) (output output_left : Option (List ℕ)) (result : Result ℕ Fault) : Type 0 where
+pub record IsUnread (turns : ℕ) (pieces : List (List ℕ)) (output output_left : Option (List ℕ)) (result : Result ℕ SessionFault) : Type 0 where
   -- The error of the reads.
   pub error : FrameError
   -- The reads ended early for that error.
@@ -31,18 +31,18 @@ pub record IsUnread (turns : ℕ) (pieces : List (List ℕ)) (output output_left
   pub said : result ≡ Err (frame_fault error)
 
 -- The input is refused as a text, and nothing was written.
-pub record IsNoText (text : List ℕ) (output output_left : Option (List ℕ)) (result : Result ℕ Fault) : Type 0 where
+pub record IsNoText (text : List ℕ) (output output_left : Option (List ℕ)) (result : Result ℕ SessionFault) : Type 0 where
   -- Nothing was written.
   pub kept : Appends output output_left []
   -- The fault of the text.
-  pub refusal : Fault
+  pub refusal : SessionFault
   -- The text is refused for that fault.
   pub refused : RefusesHex text refusal
   -- The result is that fault.
   pub said : result ≡ Err refusal
 
 -- The program's result for a session's result.
-abbrev pub answer_for : Result ℕ FrameError → Result ℕ Fault
+abbrev pub answer_for : Result ℕ FrameError → Result ℕ SessionFault
 answer_for (Ok count) = Ok count
 answer_for (Err e) = Err (frame_fault e)
 
@@ -52,7 +52,7 @@ pub record AreAnsweredInLines (start : Served) (bytes : List ℕ) (output output
   pub served : IsServedInLines Answers bytes start left output output_left outcome
 
 -- The input is a text that encodes bytes, whose messages were answered in lines.
-pub record IsAnsweredText (start : Served) (text : List ℕ) (output output_left : Option (List ℕ)) (result : Result ℕ Fault) : Type 0 where
+pub record IsAnsweredText (start : Served) (text : List ℕ) (output output_left : Option (List ℕ)) (result : Result ℕ SessionFault) : Type 0 where
   -- The bytes that the text encodes.
   pub bytes : List ℕ
   -- The text encodes those bytes.
@@ -65,13 +65,13 @@ pub record IsAnsweredText (start : Served) (text : List ℕ) (output output_left
   pub said : result ≡ answer_for outcome
 
 -- The input was read to its end, and checked as a text before anything was answered.
-pub record IsReadText (start : Served) (text : List ℕ) (input_ended : Type 0) (output output_left : Option (List ℕ)) (result : Result ℕ Fault) : Type 0 where
+pub record IsReadText (start : Served) (text : List ℕ) (input_ended : Type 0) (output output_left : Option (List ℕ)) (result : Result ℕ SessionFault) : Type 0 where
   pub end : input_ended
   pub ended : IsNoText text output output_left result ⊎ IsAnsweredText start text output output_left result
 
 -- A session over hexadecimal text.
 pub record IsHexSession {R : Type 0} (gives : R → List ℕ → R → Type 0) (turns : ℕ) (start : Served) (source source_left : R)
-    (input_ended : Type 0) (output output_left : Option (List ℕ)) (result : Result ℕ Fault) : Type 0 where
+    (input_ended : Type 0) (output output_left : Option (List ℕ)) (result : Result ℕ SessionFault) : Type 0 where
   -- The pieces of the input that at most `turns` reads gave.
   pub pieces : List (List ℕ)
   -- The source was read for those pieces.

@@ -2,8 +2,8 @@
 use Rattle.std.specs.Prelude.{◌≡◌, ℕ, ◌≤◌, ◌<◌, ◌⊎◌, List, length, Ok, IsErr}
 use Rattle.hex.specs.Hex.{decode_of}
 use Rattle.seg_check.specs.declared.keyed.TheConstants.{MOST_KEY}
-use Rattle.cli_once.specs.declared.error.Fault.{Fault}
-use Rattle.cli_once.specs.declared.error.Fault.TheVariants as fault
+use Rattle.cli_once.specs.declared.error.SessionFault.{SessionFault}
+use Rattle.cli_once.specs.declared.error.SessionFault.TheVariants as fault
 
 -- The text encodes a key.
 pub record IsKeyText (text : List ℕ) : Type 0 where
@@ -19,7 +19,7 @@ pub record IsKeyTooLong (text : List ℕ) : Type 0 where
 
 -- Why a text is refused: it is no key, which is found without memory, or memory was refused for the
 -- key.
-abbrev pub RefusesKey : List ℕ → Fault → Type 0
+abbrev pub RefusesKey : List ℕ → SessionFault → Type 0
 RefusesKey text fault.Hex = IsErr (decode_of text) ⊎ IsKeyTooLong text
 RefusesKey text fault.Memory = IsKeyText text
 RefusesKey text _ = ⊥

@@ -10,7 +10,7 @@ use std::fmt;
 
 /// What ends the program. The program prints these words after `error: `.
 #[derive(Clone, Copy, Debug, PartialEq, Eq)]
-pub enum Fault {
+pub enum SessionFault {
     /// A text in the list of core ASes is no ISD-AS.
     Text(IaError),
     /// The input is no hexadecimal text.
@@ -23,23 +23,23 @@ pub enum Fault {
     Output,
 }
 
-impl fmt::Display for Fault {
+impl fmt::Display for SessionFault {
     ghost use Rattle.cli_once.specs.Fault.{session_fault_text};
 
     ghost output = { λ fault. Some (session_fault_text fault) };
 
     fn fmt<W: fmt::Write>(&self, f: &mut fmt::Formatter<W>) -> fmt::Result {
         match self {
-            Fault::Text(error) => write!(f, "text {}", text_number(*error)),
-            Fault::Hex => write!(f, "hex"),
-            Fault::Frame(error) => write!(f, "frame {}", frame_number(*error)),
-            Fault::Memory => write!(f, "memory"),
-            Fault::Output => write!(f, "output"),
+            SessionFault::Text(error) => write!(f, "text {}", text_number(*error)),
+            SessionFault::Hex => write!(f, "hex"),
+            SessionFault::Frame(error) => write!(f, "frame {}", frame_number(*error)),
+            SessionFault::Memory => write!(f, "memory"),
+            SessionFault::Output => write!(f, "output"),
         }
     }
 }
 
-impl Error for Fault {}
+impl Error for SessionFault {}
 
 fn text_number(error: IaError) -> u8
     ensures { result ≡ text_number error }
@@ -53,15 +53,15 @@ fn frame_number(error: FrameError) -> u8
     error as u8
 }
 
-impl From<FrameError> for Fault {
+impl From<FrameError> for SessionFault {
     ghost use Rattle.cli_once.specs.Fault.{frame_fault};
 
     ghost from_gives = { λ error fault. fault ≡ frame_fault error };
 
     fn from(error: FrameError) -> Self {
         match error {
-            FrameError::NoMemory => Fault::Memory,
-            error => Fault::Frame(error),
+            FrameError::NoMemory => SessionFault::Memory,
+            error => SessionFault::Frame(error),
         }
     }
 }

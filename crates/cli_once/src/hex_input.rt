@@ -4,12 +4,12 @@ ghost use Rattle.std.specs.Prelude.{◌≡◌, ◌↔◌, Ok, IfOk, IfErr, IsOk,
 ghost use Rattle.hex.specs.Hex.{decode_of};
 ghost use Rattle.cli_once.specs.HexInput.{is_blank, without_blanks, RefusesDigits, RefusesHex};
 
-use crate::error::Fault;
+use crate::error::SessionFault;
 use std::alloc::Global;
 
 /// The bytes of a hexadecimal text. Spaces and ends of lines are left out, even between two digits.
 /// A text that is not hexadecimal is refused without memory.
-pub fn bytes_of(alloc: Global, text: Vec<u8>) -> Result<Vec<u8>, Fault>
+pub fn bytes_of(alloc: Global, text: Vec<u8>) -> Result<Vec<u8>, SessionFault>
     ensures ok { IfOk result (λ bytes. decode_of (without_blanks text.items) ≡ Ok bytes.items) }
     ensures err { IfErr result (RefusesHex text.items) }
 {
@@ -19,14 +19,14 @@ pub fn bytes_of(alloc: Global, text: Vec<u8>) -> Result<Vec<u8>, Fault>
 }
 
 /// The bytes that digits encode.
-pub(crate) fn bytes_of_digits(alloc: Global, digits: &[u8]) -> Result<Vec<u8>, Fault>
+pub(crate) fn bytes_of_digits(alloc: Global, digits: &[u8]) -> Result<Vec<u8>, SessionFault>
     ensures ok { IfOk result (λ bytes. decode_of digits.now ≡ Ok bytes.items) }
     ensures err { IfErr result (RefusesDigits digits.now) }
 {
     if !encode_bytes(digits) {
-        return Err(Fault::Hex);
+        return Err(SessionFault::Hex);
     }
-    hex::decode(alloc, digits).map_err(|_| Fault::Memory)
+    hex::decode(alloc, digits).map_err(|_| SessionFault::Memory)
 }
 
 /// Whether these are digits, and of an even number.

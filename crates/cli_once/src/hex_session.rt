@@ -3,7 +3,7 @@
 ghost use Rattle.cli_once.specs.Memory.{opening};
 ghost use Rattle.cli_once.specs.HexSession.{IsHexSession, AreAnsweredInLines};
 
-use crate::error::Fault;
+use crate::error::SessionFault;
 use crate::hex_input::bytes_of;
 use crate::once_service::OnceService;
 use seg_check::Verifier;
@@ -23,7 +23,7 @@ pub fn once_in_hex<R: Source, W: Write, V: Verifier>(
     checker: &V,
     now: u64,
     turns: u64,
-) -> Result<u64, Fault>
+) -> Result<u64, SessionFault>
     ensures { IsHexSession R.gives turns (opening cores.now (V.verifies checker.now) now) reader.old reader.new
         (R.is_at_end reader.new) (W.contents writer.old) (W.contents writer.new) result }
 {

@@ -16,7 +16,7 @@ mod once_service;
 mod session;
 
 pub use cores::cores_of;
-pub use error::Fault;
+pub use error::SessionFault;
 pub use hex_input::bytes_of;
 pub use hex_session::once_in_hex;
 pub use key::key_of;

@@ -1,7 +1,7 @@
 -- How the program ends.
 use Rattle.std.specs.Prelude.{ℕ, List, ◌++◌, codes, Result, Ok, Err, if◌then◌else◌}
 use Rattle.cli_once.specs.Fault as session
-use Rattle.cli_once.specs.declared.error.Fault.TheVariants as session_fault
+use Rattle.cli_once.specs.declared.error.SessionFault.TheVariants as session_fault
 use Rattle.cli_store.specs.Fault as store
 use Rattle.cli_ask.specs.Faults as asked
 use Rattle.path_server.specs.declared.error.RunError.{RunError}

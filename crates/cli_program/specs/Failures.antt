@@ -4,7 +4,7 @@ use Rattle.std.specs.IoError.{error_kind}
 use Rattle.std.specs.declared.io.ErrorKind.{ErrorKind}
 use Rattle.std.specs.declared.io.ErrorKind.TheVariants.{OutOfMemory, NotFound, PermissionDenied, InvalidInput}
 use Rattle.isd_as.specs.declared.error.IaError.TheVariants as text_error
-use Rattle.cli_once.specs.declared.error.Fault.TheVariants as session_fault
+use Rattle.cli_once.specs.declared.error.SessionFault.TheVariants as session_fault
 use Rattle.store_open.specs.declared.error.OpenError.TheVariants as opening
 use Rattle.cli_store.specs.declared.error.Fault.{Fault}
 use Rattle.cli_store.specs.declared.error.Fault.TheVariants as store_fault

@@ -22,7 +22,7 @@ pub enum Done {
 pub enum Ended {
     /// An option cannot be read, or a session of `once` ended with a fault, or memory was refused,
     /// or a print failed.
-    Session(cli_once::Fault),
+    Session(cli_once::SessionFault),
     /// A store is not made, opened or changed.
     Store(cli_store::Fault),
     /// The address cannot be read or bound, or the listener broke.
@@ -48,12 +48,12 @@ impl fmt::Display for Ended {
 
 impl Error for Ended {}
 
-impl From<cli_once::Fault> for Ended {
+impl From<cli_once::SessionFault> for Ended {
     ghost use Rattle.cli_program.specs.declared.ending.Ended.TheVariants.{Session};
 
     ghost from_gives = { λ fault ended. ended ≡ Session fault };
 
-    fn from(fault: cli_once::Fault) -> Ended {
+    fn from(fault: cli_once::SessionFault) -> Ended {
         Ended::Session(fault)
     }
 }
@@ -75,7 +75,7 @@ impl From<RunError> for Ended {
 
     fn from(error: RunError) -> Ended {
         match error {
-            RunError::NoMemory => Ended::Session(cli_once::Fault::Memory),
+            RunError::NoMemory => Ended::Session(cli_once::SessionFault::Memory),
             RunError::Net => Ended::Net,
         }
     }

@@ -6,7 +6,7 @@ ghost use Rattle.cli_program.specs.Failures.{ended_by, is_lasting, is_lasting_fa
 
 use crate::ending::Ended;
 use cli_ask::{AskError, AskFault, WordError};
-use cli_once::Fault;
+use cli_once::SessionFault;
 use cli_store::Fault as StoreFault;
 use cli_words::{CORES, KEY};
 use isd_as::IaError;
@@ -43,7 +43,7 @@ pub(crate) enum Failure<'a> {
     /// The server ended before its sessions were served.
     Server(RunError),
     /// A session of `once` ended.
-    Session(Fault),
+    Session(SessionFault),
     /// Memory was refused, or a thread was not given.
     Memory,
     /// Standard output could not be written.
@@ -56,9 +56,9 @@ impl Failure<'_> {
         ensures { result ≡ ended_by self.now }
     {
         match self {
-            Failure::Core(_, error) => Ended::Session(Fault::Text(*error)),
-            Failure::AnyCore(_) => Ended::Session(Fault::Text(IaError::BadText)),
-            Failure::Key => Ended::Session(Fault::Hex),
+            Failure::Core(_, error) => Ended::Session(SessionFault::Text(*error)),
+            Failure::AnyCore(_) => Ended::Session(SessionFault::Text(IaError::BadText)),
+            Failure::Key => Ended::Session(SessionFault::Hex),
             Failure::Address(_, _) | Failure::Peer(_) => Ended::Net,
             Failure::Word(_, error) => Ended::Ask(AskFault::Word(error.number())),
             Failure::Asked(_, error) => Ended::Ask(error.fault()),
@@ -67,8 +67,8 @@ impl Failure<'_> {
             Failure::Store(_, fault) => Ended::Store(*fault),
             Failure::Server(error) => Ended::from(*error),
             Failure::Session(fault) => Ended::Session(*fault),
-            Failure::Memory => Ended::Session(Fault::Memory),
-            Failure::Output => Ended::Session(Fault::Output),
+            Failure::Memory => Ended::Session(SessionFault::Memory),
+            Failure::Output => Ended::Session(SessionFault::Output),
         }
     }
 }
@@ -109,7 +109,7 @@ fn or_for_memory(error: &io::Error, other: Ended) -> Ended
     ensures { result ≡ or_memory (error_kind error.now) other }
 {
     match error.kind() {
-        ErrorKind::OutOfMemory => Ended::Session(Fault::Memory),
+        ErrorKind::OutOfMemory => Ended::Session(SessionFault::Memory),
         _ => other,
     }
 }
@@ -198,12 +198,12 @@ fn write_store_failure<W: fmt::Write>(
 }
 
 /// Writes why a session of `once` ended, or did not begin.
-fn write_no_session<W: fmt::Write>(f: &mut Formatter<W>, fault: Fault) -> fmt::Result {
+fn write_no_session<W: fmt::Write>(f: &mut Formatter<W>, fault: SessionFault) -> fmt::Result {
     match fault {
-        Fault::Text(error) => write!(f, "--{CORES}: {error}"),
-        Fault::Hex => write!(f, "standard input is no hexadecimal text"),
-        Fault::Frame(error) => write!(f, "the session ended: {error}"),
-        Fault::Memory => write!(f, "out of memory"),
-        Fault::Output => write!(f, "cannot write standard output"),
+        SessionFault::Text(error) => write!(f, "--{CORES}: {error}"),
+        SessionFault::Hex => write!(f, "standard input is no hexadecimal text"),
+        SessionFault::Frame(error) => write!(f, "the session ended: {error}"),
+        SessionFault::Memory => write!(f, "out of memory"),
+        SessionFault::Output => write!(f, "cannot write standard output"),
     }
 }

@@ -6,7 +6,7 @@ ghost use Rattle.cli_program.specs.Options.{IsKeyOf, IsNumberOf};
 
 use crate::failure::Failure;
 use clap::ArgMatches;
-use cli_once::{Fault, cores_of, key_of};
+use cli_once::{SessionFault, cores_of, key_of};
 use cli_words::{CORES, KEY};
 use isd_as::{IsdAs, parse};
 use seg_check::Keyed;
@@ -55,7 +55,7 @@ fn wildcard_in(list: &str) -> Option<&str> {
 }
 
 /// Why a list has no core ASes: its first text that is no ISD-AS, or want of memory.
-fn no_cores(list: &str, fault: Fault) -> Failure<'_> {
+fn no_cores(list: &str, fault: SessionFault) -> Failure<'_> {
     for text in list.split(',') {
         if let Err(error) = parse(text) {
             return Failure::Core(text, error);
@@ -76,7 +76,7 @@ pub(crate) fn key_in<'a>(
     };
     match key_of(alloc, text) {
         Ok(key) => Ok(Some(key)),
-        Err(Fault::Hex) => Err(Failure::Key),
+        Err(SessionFault::Hex) => Err(Failure::Key),
         Err(fault) => Err(Failure::Session(fault)),
     }
 }

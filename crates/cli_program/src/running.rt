@@ -14,7 +14,7 @@ use crate::stores::{copy_file, format_file, show_file, status_of_file, upgrade_f
 use crate::system::System;
 use clap::Error;
 use clap::error::ErrorKind;
-use cli_once::Fault;
+use cli_once::SessionFault;
 use cli_words::{CommandLine, LOG_PRIORITY, Subcommand, read};
 use std::env;
 use std::io::{IsTerminal, Read, Write};
@@ -43,7 +43,7 @@ pub fn run<R: System, I: Read + IsTerminal + Drop + Send + 'static, O: Write + I
     input: I,
     output: O,
 ) -> Result<Done, Failed> {
-    let no_memory = Failed::from(Ended::Session(Fault::Memory));
+    let no_memory = Failed::from(Ended::Session(SessionFault::Memory));
     let Ok(words) = env::args(rt) else {
         return Err(no_memory);
     };
@@ -121,16 +121,16 @@ fn mark_where(is_marked: bool) -> &'static str {
 const NO_DIGIT: &str = "invalid digit found in string";
 
 /// Prints what was wrong with the command line, or the help that it asked for.
-fn refuse<R: System>(rt: &R, error: &Error) -> Result<Done, Fault> {
+fn refuse<R: System>(rt: &R, error: &Error) -> Result<Done, SessionFault> {
     if error.kind() == ErrorKind::OutOfMemory {
-        return Err(Fault::Memory);
+        return Err(SessionFault::Memory);
     }
-    let text = format!(in rt.alloc(); "{}", *error).map_err(|_| Fault::Memory)?;
+    let text = format!(in rt.alloc(); "{}", *error).map_err(|_| SessionFault::Memory)?;
     match text.split_once(NO_DIGIT) {
         Some((front, end)) => eprint!(rt; "{front}not decimal digits{end}"),
         None => error.print(rt),
     }
-    .map_err(|_| Fault::Output)?;
+    .map_err(|_| SessionFault::Output)?;
     Ok(if error.exit_code() == 0 {
         Done::Carried
     } else {

@@ -3,7 +3,7 @@
 use crate::failure::Failure;
 use crate::options::{cores_in, key_in};
 use clap::ArgMatches;
-use cli_once::{Fault, once, once_in_hex};
+use cli_once::{SessionFault, once, once_in_hex};
 use cli_words::{HEX, NOW};
 use seg_check::{TrustAll, Verifier};
 use seg_lookup::Roster;
@@ -34,14 +34,14 @@ fn answer_checked<I: Read, O: Write, V: Verifier>(
     output: &mut O,
     cores: &Roster,
     checker: &V,
-) -> Result<(), Fault> {
+) -> Result<(), SessionFault> {
     let now = options.get_one::<u64>(NOW).unwrap_or(0);
     if options.get_flag(HEX) {
         once_in_hex(alloc, input, output, cores, checker, now, MOST_READS)?;
         return Ok(());
     }
     let Ok(mut output) = BufWriter::new(alloc, output) else {
-        return Err(Fault::Memory);
+        return Err(SessionFault::Memory);
     };
     once(alloc, input, &mut output, cores, checker, now, MOST_READS)?;
     Ok(())

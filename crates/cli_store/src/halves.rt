@@ -40,7 +40,7 @@ impl Halves {
     }
 
     /// The half that is chosen by both heads, and the half that has the tail.
-    pub(crate) fn choice(&self) -> Result<Choice, PairError> {
+    pub(crate) fn choice(&self) -> Result<ChosenHalves, PairError> {
         let first = self.first.head?;
         let second = self.second.head?;
         let heads = Heads { first, second };
@@ -50,7 +50,7 @@ impl Halves {
         if sealed && self.is_sealed(tail) {
             return Err(PairError::SealedNewer);
         }
-        Ok(Choice { half, tail })
+        Ok(ChosenHalves { half, tail })
     }
 
     fn is_sealed(&self, half: Half) -> bool {
@@ -60,7 +60,7 @@ impl Halves {
 
 /// The half that is chosen, and the half that has the tail.
 #[derive(Clone, Copy)]
-pub(crate) struct Choice {
+pub(crate) struct ChosenHalves {
     pub half: Half,
     pub tail: Half,
 }

@@ -11,7 +11,7 @@ use Rattle.command_queue.specs.declared.history.QueueName.{Ghosts}
 use Rattle.command_queue.specs.contracts.claim.Claim as Claim
 use Rattle.command_queue.specs.contracts.history.History as History
 use Rattle.command_queue.specs.contracts.history.HistoryRuleCommandU64.TheImpl as rule
-use Rattle.command_queue.specs.contracts.numbers.Numbers as Numbers
+use Rattle.command_queue.specs.contracts.numbering.Numbering as Numbering
 use Rattle.command_queue.specs.contracts.queue.HandedIn as HandedIn
 use Rattle.command_queue.specs.contracts.queue.CommandQueue as CommandQueue
 use Rattle.command_queue.specs.contracts.sender.Senders as Senders
@@ -32,8 +32,8 @@ module _ (N T : RattleType) (g : Ghosts N.Denot) (n : IsSend N) (t : IsSend T) w
   whole_send : IsSend (HandedIn.the_row N T g)
   whole_send = recorded_send _ _ _ (HandedIn.the_type N T g).to_one handed_send
 
-  numbers_send : IsSend (Numbers.the_field N g).row
-  numbers_send = struct_send (shape (Numbers.the_type N g)) (search sendable, (seen.the_send Command.the_row u64 History.the_row rule.ghosts, (word.the_send Command.the_row u64 History.the_row rule.ghosts, (search (sendable, crosses), tt))))
+  numbers_send : IsSend (Numbering.the_field N g).row
+  numbers_send = struct_send (shape (Numbering.the_type N g)) (search sendable, (seen.the_send Command.the_row u64 History.the_row rule.ghosts, (word.the_send Command.the_row u64 History.the_row rule.ghosts, (search (sendable, crosses), tt))))
 
   pub queue_send : IsSend (CommandQueue.the_field N T g).row
   queue_send = struct_send (shape (CommandQueue.the_type N T g)) (numbers_send, (search sendable, (Deque-send (HandedIn.the_row N T g) whole_send, (search (sendable, crosses), tt))))

@@ -1,7 +1,7 @@
 -- The numbers of the commands that wait, once one more waits.
 use Rattle.std.proofs.Common.{◌≡◌, ℕ, zero, suc, ◌+◌, ◌-◌, List, [], ◌∷◌, ◌++◌, length, map, ap, ◌∙◌, arith, length-append}
 use Rattle.std.proofs.lemmas.List.{map-append}
-use Rattle.command_queue.specs.Numbers.{last_numbers}
+use Rattle.command_queue.specs.Numbering.{last_numbers}
 
 -- the last ones before a number, and that number, are the last ones before the next
 numbers_with : (next count : ℕ) → last_numbers next count ++ next ∷ [] ≡ last_numbers (next + 1) (suc count)

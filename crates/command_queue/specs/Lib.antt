@@ -1,4 +1,4 @@
 pub mod Handed
 pub mod History
-pub mod Numbers
+pub mod Numbering
 pub mod Refusals

@@ -15,7 +15,7 @@ mod claim;
 mod history;
 mod leave;
 mod not_queued;
-mod numbers;
+mod numbering;
 mod queue;
 mod sender;
 

@@ -4,7 +4,7 @@ ghost use Rattle.std.specs.Prelude.{◌≡◌, ◌==◌, ◌+◌, ◌-◌, ◌^�
 ghost use Rattle.std.specs.VecDeque.{deque_len, deque_capacity};
 ghost use Rattle.group_core.specs.declared.submit_error.SubmitError.{SubmitError};
 ghost use Rattle.command_queue.specs.Handed.{handed_with};
-ghost use Rattle.command_queue.specs.Numbers.{last_numbers};
+ghost use Rattle.command_queue.specs.Numbering.{last_numbers};
 ghost use Rattle.command_queue.specs.Refusals.{queue_refusal};
 ghost use Rattle.command_queue.specs.declared.not_queued.NotQueued.TheVariants.{NoMemory};
 
@@ -12,7 +12,7 @@ use crate::claim::Claim;
 use crate::history::{NewHistory, QueueName};
 use crate::leave::Leave;
 use crate::not_queued::{NotQueued, refusal};
-use crate::numbers::Numbers;
+use crate::numbering::Numbering;
 use crate::sender::{Sender, Senders};
 use path_db::Command;
 use std::alloc::Global;
@@ -37,7 +37,7 @@ pub struct HandedIn<J: QueueName, T> {
 /// and the last one the number before the next.
 #[derive(Drop)]
 pub struct CommandQueue<J: QueueName, T> {
-    numbers: Numbers<J>,
+    numbers: Numbering<J>,
     is_closed: bool,
     waiting: VecDeque<HandedIn<J, T>>,
     leave: Leave<J>,
@@ -55,7 +55,7 @@ impl<J: QueueName, T: Drop> CommandQueue<J, T> {
         ensures { (result.0.numbers.next ≡ 0) × (result.0.waiting.items ≡ []) × (result.0.is_closed ≡ false) }
     {
         let queue = CommandQueue {
-            numbers: Numbers::new(history),
+            numbers: Numbering::new(history),
             is_closed: false,
             waiting: VecDeque::new(alloc),
             leave: Leave::new(),

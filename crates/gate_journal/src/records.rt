@@ -16,7 +16,7 @@ use byte_lists::read_u32;
 use path_db::Command;
 use path_records::read_command;
 use std::alloc::Global;
-use store_layout::{CommandKind, allows};
+use store_layout::{JournalKind, allows};
 
 /// Reads the records and the padding of a group's payload, by the count and the size of its header,
 /// and appends the commands.
@@ -76,7 +76,7 @@ fn read_record(alloc: Global, bytes: &[u8], version: u32) -> Result<(Command, &[
     if bytes.len() - PREFIX < size {
         return Err(JournalError::BadRecord);
     }
-    let removals = allows(version, CommandKind::Removal);
+    let removals = allows(version, JournalKind::Removal);
     let command = read_command(alloc, &bytes[PREFIX..PREFIX + size], removals)?;
     Ok((command, &bytes[PREFIX + size..]))
 }

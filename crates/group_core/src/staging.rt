@@ -60,7 +60,7 @@ impl From<AllocError> for StageError {
 /// The longest front of commands that fits one group: its number of commands, and the number of
 /// bytes of their records.
 #[derive(Clone, Copy)]
-pub(crate) struct Front {
+pub(crate) struct GroupSize {
     pub(crate) count: usize,
     pub(crate) bytes: usize,
 }
@@ -113,7 +113,7 @@ impl<D: Device, S: Showcase> State<D, S> {
 }
 
 /// The longest front of commands that fits one group.
-pub(crate) fn longest_front(commands: &[Command], version: u32) -> Front
+pub(crate) fn longest_front(commands: &[Command], version: u32) -> GroupSize
     requires { All IsWithinLimits commands.now }
     ensures longest { IsLongestFront (limits_of version) commands.now result.count }
     ensures some { 1 ≤ length commands.now → 1 ≤ result.count }
@@ -124,11 +124,11 @@ pub(crate) fn longest_front(commands: &[Command], version: u32) -> Front
     for (count, command) in commands.iter().enumerate() {
         let more = bytes + record_len(command);
         if count == most || more > MOST_RECORD_BYTES {
-            return Front { count, bytes };
+            return GroupSize { count, bytes };
         }
         bytes = more;
     }
-    Front {
+    GroupSize {
         count: commands.len(),
         bytes,
     }

@@ -30,7 +30,7 @@ pub(crate) struct Pace {
 
 /// The time of one call of a connection.
 #[derive(Clone, Copy)]
-pub(crate) struct Turn {
+pub(crate) struct CallTime {
     /// When the time is over, or `None` for no limit.
     deadline: Option<Deadline>,
     /// The time that is left.
@@ -57,9 +57,9 @@ impl Pace {
     /// The time of the next call: what is left of the frame under way, or the whole idle time
     /// between two frames. The error is that no time is left, as after an earlier call that was
     /// late, or that the clock cannot be read, or could not be read when the frame began.
-    pub(crate) fn turn(&mut self, clock: &impl Clock) -> io::Result<Turn> {
+    pub(crate) fn call_time(&mut self, clock: &impl Clock) -> io::Result<CallTime> {
         let Some(idle) = self.idle else {
-            return Ok(Turn {
+            return Ok(CallTime {
                 deadline: None,
                 time: None,
             });
@@ -71,7 +71,7 @@ impl Pace {
             return Err(io::Error::from(ErrorKind::Other));
         }
         let Some(deadline) = self.deadline else {
-            return Ok(Turn {
+            return Ok(CallTime {
                 deadline: Some(Deadline::after(clock, idle)?),
                 time: Some(idle),
             });
@@ -81,13 +81,13 @@ impl Pace {
             self.is_late = true;
             return Err(late());
         }
-        Ok(Turn {
+        Ok(CallTime {
             deadline: Some(deadline),
             time,
         })
     }
 
-    /// Takes note of bytes that have arrived. Where the clock cannot be read, the next turn fails.
+    /// Takes note of bytes that have arrived. Where the clock cannot be read, the next call fails.
     pub(crate) fn arrive(&mut self, clock: &impl Clock, bytes: &[u8]) {
         let Some(idle) = self.idle else {
             return;
@@ -101,9 +101,9 @@ impl Pace {
     }
 
     /// Takes note of bytes that the peer has taken in a call that had this time.
-    pub(crate) fn leave(&mut self, bytes: &[u8], turn: &Turn) {
+    pub(crate) fn leave(&mut self, bytes: &[u8], time: &CallTime) {
         if self.idle.is_some() && self.begins_with(bytes) {
-            self.deadline = turn.deadline;
+            self.deadline = time.deadline;
         }
     }
 
@@ -132,14 +132,14 @@ impl Pace {
     }
 }
 
-impl Turn {
-    /// The same turn after an interruption, with the time that is left of it.
-    pub(crate) fn interrupted(&self, clock: &impl Clock) -> Turn {
+impl CallTime {
+    /// The same time after an interruption, with the time that is left of it.
+    pub(crate) fn interrupted(&self, clock: &impl Clock) -> CallTime {
         let Some(deadline) = self.deadline else {
             return *self;
         };
         let least = Duration::from_millis(AFTER_INTERRUPTION);
-        Turn {
+        CallTime {
             deadline: Some(deadline),
             time: Some(deadline.left(clock).unwrap_or(least).max(least)),
         }

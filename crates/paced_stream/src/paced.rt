@@ -65,18 +65,18 @@ impl<'a, C: Clock, T: StreamCalls> Paced<'a, C, T> {
         ensures most { IfOk result (λ n. n ≤ length bytes.now) }
         ensures taken { T.taken self.new.stream ≡ grown_by (T.taken self.old.stream) result bytes.now }
     {
-        let mut turn = self.pace.turn(self.clock)?;
+        let mut call = self.pace.call_time(self.clock)?;
         for _ in 0..u64::MAX {
-            if self.sets(turn.time) {
-                self.stream.set_write_timeout(turn.time)?;
+            if self.sets(call.time) {
+                self.stream.set_write_timeout(call.time)?;
             }
             match self.stream.write_once(bytes) {
                 Ok(count) => {
-                    self.pace.leave(bytes.split_at(count).0, &turn);
+                    self.pace.leave(bytes.split_at(count).0, &call);
                     return Ok(count);
                 }
                 Err(error) if error.kind() == ErrorKind::Interrupted => {
-                    turn = turn.interrupted(self.clock);
+                    call = call.interrupted(self.clock);
                 }
                 Err(error) => {
                     self.pace.fail(&error);
@@ -94,10 +94,10 @@ impl<C: Clock, T: StreamCalls> Source for Paced<'_, C, T> {
     ghost is_at_end = { λ paced. T.is_at_end paced.stream };
 
     fn read_piece(&mut self, buf: &mut [u8]) -> io::Result<usize> {
-        let mut turn = self.pace.turn(self.clock)?;
+        let mut call = self.pace.call_time(self.clock)?;
         for _ in 0..u64::MAX {
-            if self.sets(turn.time) {
-                self.stream.set_read_timeout(turn.time)?;
+            if self.sets(call.time) {
+                self.stream.set_read_timeout(call.time)?;
             }
             match self.stream.read_once(buf) {
                 Ok(count) => {
@@ -105,7 +105,7 @@ impl<C: Clock, T: StreamCalls> Source for Paced<'_, C, T> {
                     return Ok(count);
                 }
                 Err(error) if error.kind() == ErrorKind::Interrupted => {
-                    turn = turn.interrupted(self.clock);
+                    call = call.interrupted(self.clock);
                 }
                 Err(error) => {
                     self.pace.fail(&error);

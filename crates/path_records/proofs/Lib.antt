@@ -10,6 +10,6 @@ pub mod RowsBack
 mod RowPieces
 mod RowRuns
 mod LongRows
-mod WalkSteps
-mod WalkEnds
+mod CursorSteps
+mod CursorEnds
 pub mod Exports

@@ -1,4 +1,4 @@
--- Rows that are too long: for `row_walk`.
+-- Rows that are too long: for `row_cursor`.
 use Rattle.std.proofs.Common.{◌≡◌, ℕ, ◌+◌, ◌<◌, ◌≤◌, Bool, true, false, List, ◌++◌, length, refl, sym, ap, ◌∙◌, arith, append_assoc, drop, Ok, Err}
 use Rattle.std.proofs.lemmas.Bool.{lt-leb}
 use Rattle.std.specs.Prelude.{Result, slice_index}
@@ -16,8 +16,8 @@ use Rattle.path_records.specs.declared.error.DbError.{DbError}
 use Rattle.path_records.specs.declared.error.DbError.TheVariants.{BadRecord}
 use Rattle.path_records.specs.RecordSteps.{◌>>=◌}
 use Rattle.path_records.specs.RowRecord.{rows_encoding, has_row, record_of, spelled_segment, row_decoding, rows_decoding}
-use Rattle.path_records.specs.RowsReader.{AreRefused}
-use Rattle.path_records.specs.RowWalk.{IsRowTooLong}
+use Rattle.path_records.specs.DatabaseReader.{AreRefused}
+use Rattle.path_records.specs.RowCursor.{IsRowTooLong}
 use Rattle.path_records.proofs.Spelled.{has_room}
 use Rattle.path_records.proofs.RowPieces.{row_by, row_is, part_longer}
 use Rattle.path_records.proofs.RowsRead.{row_refused}

@@ -1,4 +1,4 @@
--- Rows that are read from pieces: for `rows_reader`.
+-- Rows that are read from pieces: for `database_reader`.
 use Rattle.std.proofs.Common.{◌≡◌, ℕ, ◌+◌, ◌-◌, ◌<◌, ◌≤◌, Bool, true, false, List, [], ◌∷◌, ◌++◌, length, take, drop, refl, sym, ap, subst, ◌∙◌, arith, append_assoc, append-nil, leb-true, le-leb, Ok, Err, Some, None}
 use Rattle.std.specs.Prelude.{Result, Option, IsOk, slice_index, if◌then◌else◌, nat_le}
 use Rattle.std.specs.Option.{option_or}
@@ -15,7 +15,7 @@ use Rattle.path_records.specs.declared.error.DbError.TheVariants.{BadRecord, Ord
 use Rattle.row_map.specs.Database.{RowView, IsDatabase}
 use Rattle.path_records.specs.RecordSteps.{◌>>=◌, demand}
 use Rattle.path_records.specs.RowRecord.{row_record, rows_encoding, row_size, has_row, record_of, spelled_segment, row_decoding, is_row_above, rows_decoding}
-use Rattle.path_records.specs.RowsReader.{AreRefused}
+use Rattle.path_records.specs.DatabaseReader.{AreRefused}
 use Rattle.path_records.proofs.Spelled.{has_room, row_spelled}
 use Rattle.path_records.proofs.Records.{whole_more}
 use Rattle.path_records.proofs.RowsBack.{Rises, rises, rising}

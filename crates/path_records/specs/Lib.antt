@@ -3,7 +3,7 @@ pub mod RowRecord
 pub mod CommandRecord
 pub mod RecordLaws
 pub mod RecordRefusals
-pub mod RowsReader
-pub mod RowReading
+pub mod DatabaseReader
+pub mod RowDecoder
 pub mod Key
-pub mod RowWalk
+pub mod RowCursor

@@ -5,17 +5,17 @@ ghost use Rattle.path_records.specs.declared.error.DbError.TheVariants.{NoMemory
 ghost use Rattle.row_map.specs.Database.{IsDatabase};
 ghost use Rattle.row_map.specs.Row.{row_views};
 ghost use Rattle.path_records.specs.RowRecord.{rows_encoding, has_row};
-ghost use Rattle.path_records.specs.RowsReader.{AreRowsOf, AreRefused, AreReadOn};
+ghost use Rattle.path_records.specs.DatabaseReader.{AreRowsOf, AreRefused, AreReadOn};
 
 use crate::error::DbError;
-use crate::row_reading::read_on;
+use crate::row_decoder::read_on;
 use crate::row_records::{is_above_last, size_of_row};
 use row_map::Row;
 use std::alloc::Global;
 use std::thread::{Threads, join};
 
 /// Reads the whole rows at the front of the bytes in up to four threads, the calling one among
-/// them, as `RowReading` says. Where no thread can be made, the calling thread reads its rows too.
+/// them, as `RowDecoder` says. Where no thread can be made, the calling thread reads its rows too.
 /// Bytes that one of the threads refuses are read again on the calling thread alone, so that the
 /// refusal is that of `OneThread`.
 pub fn read_in_threads<R: Threads + Sync>(

@@ -7,19 +7,20 @@
 
 mod command_records;
 mod command_sizes;
+mod database_reader;
 mod error;
 mod format;
 mod in_threads;
 mod key;
 mod one_key;
 mod record_laws;
-mod row_reading;
+mod row_cursor;
+mod row_decoder;
 mod row_records;
-mod row_walk;
-mod rows_reader;
 
 pub use command_records::{read_command, write_command};
 pub use command_sizes::{command_len, is_within_limits};
+pub use database_reader::DatabaseReader;
 pub use error::DbError;
 pub use format::PIECE;
 pub use in_threads::read_in_threads;
@@ -30,7 +31,6 @@ pub use record_laws::{
     read_commands_can_be_written, read_rows_are_spelled, row_refusals_are_exact,
     written_commands_are_read, written_rows_are_counted, written_rows_are_read,
 };
-pub use row_reading::{ByCall, OneThread, RowReading};
+pub use row_cursor::RowCursor;
+pub use row_decoder::{ByCall, OneThread, RowDecoder};
 pub use row_records::{read_rows, row_head, write_rows};
-pub use row_walk::RowWalk;
-pub use rows_reader::RowsReader;

@@ -1,7 +1,7 @@
 -- The server's action after an accept that failed.
 use Rattle.std.specs.Prelude.{ℕ, ℤ, pos, negsuc, ◌*◌, min, max, Bool, false, List, [], ◌∷◌, Option, Some, None, if◌then◌else◌, ◌||◌, ◌==◌}
-use Rattle.path_server.specs.declared.accepting.Failure.{Failure}
-use Rattle.path_server.specs.declared.accepting.Failure.TheVariants.{Nobody, Pause, Broken}
+use Rattle.path_server.specs.declared.accepting.AcceptFailure.{AcceptFailure}
+use Rattle.path_server.specs.declared.accepting.AcceptFailure.TheVariants.{Nobody, Pause, Broken}
 
 -- A number is among others.
 abbrev pub is_among : List ℕ → ℕ → Bool
@@ -18,12 +18,12 @@ abbrev pub timed_out : ℕ
 timed_out = 11
 
 -- The action after the error of this number.
-abbrev pub failure_of : ℤ → Failure
+abbrev pub failure_of : ℤ → AcceptFailure
 failure_of (negsuc number) = Pause
 failure_of (pos number) = if is_among of_the_listener number then Broken else if number == timed_out then Nobody else Pause
 
 -- The action after an error. An error without a number is the peer's.
-abbrev pub failure_after : Option ℤ → Failure
+abbrev pub failure_after : Option ℤ → AcceptFailure
 failure_after None = Pause
 failure_after (Some number) = failure_of number
 

@@ -25,7 +25,7 @@ const LONGEST_PAUSE: u64 = 1_000;
 
 /// The server's action after an accept that failed.
 #[derive(Clone, Copy, Debug, PartialEq, Eq)]
-pub enum Failure {
+pub enum AcceptFailure {
     /// No peer came in the time of the listener: the next one is awaited.
     Nobody,
     /// Descriptors or memory are short, or the peer or the network failed: the next connection is
@@ -68,9 +68,9 @@ pub(crate) fn next_arrival<
         match accepted {
             Ok((stream, address)) => return Arrival::Peer(stream, address),
             Err(error) => match after_failure(&error) {
-                Failure::Nobody => pause = 0,
-                Failure::Pause => pause = pause_after(rt, &error, pause, &fail),
-                Failure::Broken => return Arrival::Broken,
+                AcceptFailure::Nobody => pause = 0,
+                AcceptFailure::Pause => pause = pause_after(rt, &error, pause, &fail),
+                AcceptFailure::Broken => return Arrival::Broken,
             },
         }
     }
@@ -127,22 +127,22 @@ fn next_pause(pause: u64) -> u64
 
 /// The action after an accept that failed, by the system's number of its error. An error without a
 /// number is the peer's.
-pub fn after_failure(error: &io::Error) -> Failure
+pub fn after_failure(error: &io::Error) -> AcceptFailure
     ensures { result ≡ failure_after (raw_os_error error.now) }
 {
     match error.raw_os_error() {
         Some(number) => failure_of(number),
-        None => Failure::Pause,
+        None => AcceptFailure::Pause,
     }
 }
 
 /// The action after the error of this number, as accept(2) of Linux lists them.
-fn failure_of(number: i32) -> Failure
+fn failure_of(number: i32) -> AcceptFailure
     ensures { result ≡ failure_of number }
 {
     match number {
-        EBADF | EFAULT | EINVAL | ENOTSOCK | EOPNOTSUPP => Failure::Broken,
-        EAGAIN => Failure::Nobody,
-        _ => Failure::Pause,
+        EBADF | EFAULT | EINVAL | ENOTSOCK | EOPNOTSUPP => AcceptFailure::Broken,
+        EAGAIN => AcceptFailure::Nobody,
+        _ => AcceptFailure::Pause,
     }
 }

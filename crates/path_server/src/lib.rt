@@ -36,12 +36,12 @@ mod visitors;
 mod waiting;
 mod watching;
 
-pub use accepting::{Failure, after_failure};
+pub use accepting::{AcceptFailure, after_failure};
 pub use descriptors::raised_listener;
 pub use error::RunError;
 pub use listeners::{Listener, Listeners, set_accept_timeout};
 pub use options::Options;
-pub use reports::{Report, Reports, Silent};
+pub use reports::{Report, Reports};
 pub use running::{System, serve_store};
 pub use seats::{MOST_LOOKUP_SEATS, MOST_SESSIONS};
 pub use status_page::Usage;

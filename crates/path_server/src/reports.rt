@@ -175,11 +175,3 @@ pub trait Reports {
         None
     }
 }
-
-/// Drops each report.
-#[derive(Clone, Copy)]
-pub struct Silent;
-
-impl Reports for Silent {
-    fn report(&self, _report: Report) {}
-}

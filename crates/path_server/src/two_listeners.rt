@@ -1,6 +1,6 @@
 //! Waiting for peers of two listeners.
 
-use crate::accepting::{Arrival, Failure, accept_one, after_failure, pause_after};
+use crate::accepting::{AcceptFailure, Arrival, accept_one, after_failure, pause_after};
 use crate::listeners::{ACCEPT, Listener};
 use crate::role::Role;
 use libc::net::{POLLIN, poll};
@@ -45,9 +45,9 @@ pub(crate) fn next_of_two<
         match accepted {
             Ok((stream, address)) => return (role, Arrival::Peer(stream, address)),
             Err(error) => match after_failure(&error) {
-                Failure::Nobody => pause = 0,
-                Failure::Pause => pause = pause_after(rt, &error, pause, &fail),
-                Failure::Broken => return (role, Arrival::Broken),
+                AcceptFailure::Nobody => pause = 0,
+                AcceptFailure::Pause => pause = pause_after(rt, &error, pause, &fail),
+                AcceptFailure::Broken => return (role, Arrival::Broken),
             },
         }
     }

@@ -1,6 +1,6 @@
 //! Waiting for peers that ask for the numbers of a server, beside those that are visiting.
 
-use crate::accepting::{Failure, accept_one, after_failure, next_peer};
+use crate::accepting::{AcceptFailure, accept_one, after_failure, next_peer};
 use std::net::{OpenListener, TcpStream};
 use std::sync::Wait;
 use std::time::Clock;
@@ -43,8 +43,8 @@ fn visitor_now<L: OpenListener<Stream = TcpStream>>(listener: &L) -> Visitor {
     match accept_one(listener) {
         Ok((stream, _address)) => Visitor::Peer(stream),
         Err(error) => match after_failure(&error) {
-            Failure::Nobody | Failure::Pause => Visitor::Nobody,
-            Failure::Broken => Visitor::Over,
+            AcceptFailure::Nobody | AcceptFailure::Pause => Visitor::Nobody,
+            AcceptFailure::Broken => Visitor::Over,
         },
     }
 }

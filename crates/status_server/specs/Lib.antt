@@ -3,5 +3,5 @@ pub mod Kinds
 pub mod LookupTimes
 pub mod Refusals
 pub mod Requests
-pub mod Turns
+pub mod VisitSteps
 pub mod Visits

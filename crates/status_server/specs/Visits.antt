@@ -5,7 +5,7 @@ use Rattle.status_page.specs.declared.request.Asked.{Asked}
 use Rattle.status_page.specs.Request.{IsAsked}
 use Rattle.status_server.specs.declared.visit.Visit.{Visit}
 use Rattle.status_server.specs.declared.visit.Stage.TheVariants.{Reading, Sending}
-use Rattle.status_server.specs.Turns.{IsReadOn, IsSentOn}
+use Rattle.status_server.specs.VisitSteps.{IsReadOn, IsSentOn}
 
 -- Nothing was read yet. The visit has 250 milliseconds until the first byte, and a second in all.
 pub record IsNew (visit : Visit) : Type 0 where

@@ -3,7 +3,7 @@
 ghost use Rattle.std.specs.Prelude.{◌≡◌, ◌≢◌, ◌≤◌, ◌<◌, ◌++◌, ℕ, length, Ok, IfSome, IfOk, OnOk, OnErr, string_bytes};
 ghost use Rattle.status_page.specs.Request.{IsAsked};
 ghost use Rattle.status_server.specs.Requests.{IsPieceTaken};
-ghost use Rattle.status_server.specs.Turns.{IfAsks, IsReadOn, IsSentOn};
+ghost use Rattle.status_server.specs.VisitSteps.{IfAsks, IsReadOn, IsSentOn};
 ghost use Rattle.status_server.specs.declared.visit.Stage.TheVariants.{Reading, Sending};
 
 use crate::connection::PIECE;
@@ -41,7 +41,7 @@ pub(crate) enum Stage {
 
 /// What comes of a step of a visit.
 #[derive(Clone, Copy, Debug, PartialEq, Eq)]
-pub(crate) enum Turn {
+pub(crate) enum VisitStep {
     /// The peer asks for this.
     Asks(Asked),
     /// The next step is made once the connection can be read or written.
@@ -51,7 +51,7 @@ pub(crate) enum Turn {
 }
 
 /// The connection of a peer, whose request is read by and by, and answered by and by. After
-/// `Turn::Asks` the visit sends what `answer_by` gives it, or nothing.
+/// `VisitStep::Asks` the visit sends what `answer_by` gives it, or nothing.
 #[derive(Drop)]
 pub(crate) struct Visit {
     stream: TcpStream,
@@ -85,7 +85,7 @@ impl Visit {
     }
 
     /// Makes one step of the visit: one read, or one write.
-    pub(crate) fn go_on(&mut self, clock: &impl Clock) -> Turn
+    pub(crate) fn go_on(&mut self, clock: &impl Clock) -> VisitStep
         ensures asks { IfAsks result (IsAsked self.new.head.items) }
         ensures once { IfAsks result (λ _. (self.old.stage ≡ Reading) × (self.new.stage ≡ Sending)) }
         ensures stage { self.new.stage ≡ Reading → self.old.stage ≡ Reading }
@@ -99,7 +99,7 @@ impl Visit {
             Stage::Parting => self.part(),
         };
         match turn {
-            Turn::Waits if self.is_late(clock) => Turn::Over,
+            VisitStep::Waits if self.is_late(clock) => VisitStep::Over,
             turn => turn,
         }
     }
@@ -137,7 +137,7 @@ impl Visit {
     }
 
     /// Reads a piece of the request.
-    fn read(&mut self) -> Turn
+    fn read(&mut self) -> VisitStep
         requires { self.old.stage ≡ Reading }
         ensures asks { IfAsks result (λ asked. IsAsked self.new.head.items asked × (self.new.stage ≡ Sending)) }
         ensures head { IsReadOn 1024 self.old.head.items self.new.head.items }
@@ -147,23 +147,23 @@ impl Visit {
         let mut piece = [0u8; PIECE];
         let read = match unless_waiting((&self.stream).read(&mut piece)) {
             Ok(Some(count)) => take_piece(&mut self.head, piece.split_at(count).0),
-            Ok(None) => return Turn::Waits,
-            Err(_) => return Turn::Over,
+            Ok(None) => return VisitStep::Waits,
+            Err(_) => return VisitStep::Over,
         };
         match read {
             Ok(Some(asked)) => {
                 self.stage = Stage::Sending;
-                Turn::Asks(asked)
+                VisitStep::Asks(asked)
             }
-            Ok(None) => Turn::Waits,
-            Err(_refused) => Turn::Over,
+            Ok(None) => VisitStep::Waits,
+            Err(_refused) => VisitStep::Over,
         }
     }
 
     /// Sends a front of what is left of the answer, and ends this side of the connection once
     /// nothing is left. A close over unread input would reset the connection, and the peer might
     /// lose its answer.
-    fn send(&mut self) -> Turn
+    fn send(&mut self) -> VisitStep
         requires { self.old.stage ≡ Sending }
         ensures asks { IfAsks result (λ _. ⊥) }
         ensures stage { self.new.stage ≢ Reading }
@@ -175,24 +175,24 @@ impl Visit {
             Ok(Some(count)) => {
                 self.rest.drain(..count);
             }
-            Ok(None) => return Turn::Waits,
-            Err(_) => return Turn::Over,
+            Ok(None) => return VisitStep::Waits,
+            Err(_) => return VisitStep::Over,
         }
         if self.rest.is_empty() {
             let _shut = self.stream.shutdown(Shutdown::Write);
             self.stage = Stage::Parting;
         }
-        Turn::Waits
+        VisitStep::Waits
     }
 
     /// Drops a piece of input. The visit is over at its end.
-    fn part(&self) -> Turn
+    fn part(&self) -> VisitStep
         ensures { IfAsks result (λ _. ⊥) }
     {
         let mut piece = [0u8; PIECE];
         match unless_waiting((&self.stream).read(&mut piece)) {
-            Ok(Some(0)) | Err(_) => Turn::Over,
-            Ok(Some(_) | None) => Turn::Waits,
+            Ok(Some(0)) | Err(_) => VisitStep::Over,
+            Ok(Some(_) | None) => VisitStep::Waits,
         }
     }
 }

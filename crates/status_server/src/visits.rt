@@ -4,7 +4,7 @@ ghost use Rattle.std.specs.Prelude.{◌≡◌, ◌≤◌, ◌↔◌, [], length,
 ghost use Rattle.std.specs.Bool.{OnTrue};
 ghost use Rattle.status_server.specs.Visits.{Gives, IsBegun, WentOn, AllWentOn};
 
-use crate::visit::{Turn, Visit};
+use crate::visit::{Visit, VisitStep};
 use libc::net::poll;
 use libc::types::pollfd;
 use status_page::Asked;
@@ -102,14 +102,14 @@ fn goes_on<F: Fn(Asked) -> Result<String, AllocError>>(
     ensures { OnTrue result (WentOn (Gives string_bytes (F.post answer.now)) visit.old visit.new) }
 {
     match visit.go_on(clock) {
-        Turn::Asks(asked) => match answer(asked) {
+        VisitStep::Asks(asked) => match answer(asked) {
             Ok(text) => {
                 visit.answer_by(text);
                 true
             }
             Err(_refused) => false,
         },
-        Turn::Waits => true,
-        Turn::Over => false,
+        VisitStep::Waits => true,
+        VisitStep::Over => false,
     }
 }

@@ -1,8 +1,8 @@
 -- The versions of the format, and the limits of a journal's groups by the version that counts for
 -- the journal.
 use Rattle.std.specs.Prelude.{◌≡◌, ℕ, ◌≤◌, Bool, true, false, if◌then◌else◌, nat_le}
-use Rattle.store_layout.specs.declared.versions.CommandKind.{CommandKind}
-use Rattle.store_layout.specs.declared.versions.CommandKind.TheVariants.{Registration, Purge, Removal}
+use Rattle.store_layout.specs.declared.versions.JournalKind.{JournalKind}
+use Rattle.store_layout.specs.declared.versions.JournalKind.TheVariants.{Registration, Purge, Removal}
 
 -- The greatest version that is known. Checkpoints are written in this version.
 abbrev pub latest : ℕ
@@ -21,7 +21,7 @@ abbrev pub limits_of : ℕ → Limits
 limits_of version = if nat_le version 1 then record { most = 8; removals = false } else record { most = 32; removals = true }
 
 -- Limits allow commands of a kind: removals where they say so, and the other kinds always.
-abbrev pub allows : Limits → CommandKind → Bool
+abbrev pub allows : Limits → JournalKind → Bool
 allows limits Registration = true
 allows limits Purge = true
 allows limits Removal = limits.removals

@@ -38,7 +38,7 @@ pub use opening_laws::{
     openings_stay_under_later_versions,
 };
 pub use regions::{regions_are_apart, writes_leave_other_regions};
-pub use versions::{CommandKind, LATEST, MOST_COMMANDS, allows, most_commands};
+pub use versions::{JournalKind, LATEST, MOST_COMMANDS, allows, most_commands};
 pub use worked::{worked_journals, worked_payloads, worked_sizes, worked_versions};
 pub use worked_images::{
     worked_checkpoints, worked_choices, worked_opening, worked_regions, worked_titles,

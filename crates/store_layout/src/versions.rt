@@ -15,7 +15,7 @@ const FIRST_MOST_COMMANDS: usize = 8;
 
 /// The kinds of commands that a version may allow.
 #[derive(Clone, Copy, Debug, PartialEq, Eq)]
-pub enum CommandKind {
+pub enum JournalKind {
     /// Registrations of segments.
     Registration,
     /// Purges of the rows that have expired at a moment.
@@ -39,11 +39,11 @@ pub fn most_commands(version: u32) -> usize
 
 /// Whether a version allows commands of a kind: removals from version 2 on, and registrations and
 /// purges in each version.
-pub fn allows(version: u32, kind: CommandKind) -> bool
+pub fn allows(version: u32, kind: JournalKind) -> bool
     ensures { result ≡ allows (limits_of version) kind }
 {
     match kind {
-        CommandKind::Registration | CommandKind::Purge => true,
-        CommandKind::Removal => version > 1,
+        JournalKind::Registration | JournalKind::Purge => true,
+        JournalKind::Removal => version > 1,
     }
 }

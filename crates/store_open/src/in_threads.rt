@@ -5,7 +5,7 @@ ghost use Rattle.row_map.specs.Database.{IsDatabase};
 ghost use Rattle.row_map.specs.Row.{row_views};
 ghost use Rattle.path_records.specs.declared.error.DbError.TheVariants.{NoMemory};
 ghost use Rattle.path_records.specs.RowRecord.{rows_encoding};
-ghost use Rattle.path_records.specs.RowsReader.{AreReadOn, AreRefused};
+ghost use Rattle.path_records.specs.DatabaseReader.{AreReadOn, AreRefused};
 ghost use Rattle.sector_dev.specs.Disk.{IsHonest, reads_of, after_sync};
 ghost use Rattle.sector_dev.specs.Image.{IsFromImage};
 ghost use Rattle.sector_dev.specs.Stretch.{Stretch};

@@ -17,7 +17,7 @@ use crate::folded::{Folded, fold_found};
 use crate::opening::read_opening;
 use crate::store::Store;
 use gate_journal::JournalError;
-use path_records::{OneThread, RowReading};
+use path_records::{OneThread, RowDecoder};
 use sector_dev::Device;
 use std::alloc::Global;
 
@@ -45,7 +45,7 @@ pub fn open<D: Device>(alloc: Global, device: D) -> Result<Store<D>, (D, OpenErr
 }
 
 /// Opens a device with a store as `open` does, and reads the rows of the checkpoint in this way.
-pub(crate) fn open_by<B: RowReading, D: Device>(
+pub(crate) fn open_by<B: RowDecoder, D: Device>(
     by: &B,
     alloc: Global,
     device: D,
@@ -90,7 +90,7 @@ pub(crate) fn open_by<B: RowReading, D: Device>(
 }
 
 /// Syncs, so that a stop leaves the bytes that reads return, and brings the device to rest.
-fn settle<B: RowReading, D: Device>(
+fn settle<B: RowDecoder, D: Device>(
     by: &B,
     alloc: Global,
     device: &mut D,
@@ -113,7 +113,7 @@ fn settle<B: RowReading, D: Device>(
 
 /// Reads what a device opens with, folds it, and closes the half that is not used. Nothing may be
 /// dirty before the call.
-fn bring_to_rest<B: RowReading, D: Device>(
+fn bring_to_rest<B: RowDecoder, D: Device>(
     by: &B,
     alloc: Global,
     device: &mut D,

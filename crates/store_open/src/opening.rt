@@ -25,7 +25,7 @@ use crate::rows::read_checkpoint;
 use crate::scanning::scan_journal;
 use ckpt_pair::{Checkpoint, PairError, tail_half};
 use gate_journal::Scan;
-use path_records::RowReading;
+use path_records::RowDecoder;
 use sector_dev::Device;
 use std::alloc::Global;
 use store_layout::{Geometry, Half};
@@ -42,7 +42,7 @@ pub(crate) struct Found {
 }
 
 /// Reads what a device's image opens with, its rows in this way. Nothing is written.
-pub(crate) fn read_opening<B: RowReading, D: Device>(
+pub(crate) fn read_opening<B: RowDecoder, D: Device>(
     by: &B,
     alloc: Global,
     device: &mut D,
@@ -59,7 +59,7 @@ pub(crate) fn read_opening<B: RowReading, D: Device>(
 }
 
 /// Reads what an image opens with, given the sizes that were found.
-fn read_sized<B: RowReading, D: Device>(
+fn read_sized<B: RowDecoder, D: Device>(
     by: &B,
     alloc: Global,
     device: &mut D,
@@ -82,7 +82,7 @@ fn read_sized<B: RowReading, D: Device>(
 }
 
 /// Reads what the image of a store of these sizes opens with.
-fn read_store<B: RowReading, D: Device>(
+fn read_store<B: RowDecoder, D: Device>(
     by: &B,
     alloc: Global,
     device: &mut D,

@@ -21,7 +21,7 @@ use crate::scanning::read_piece;
 use ckpt_pair::{
     Checkpoint, checkpoints_are_read_by_their_fronts, feed_rows_by, finish_rows, read_front,
 };
-use path_records::{RowReading, RowsReader};
+use path_records::{DatabaseReader, RowDecoder};
 use sector_dev::{Device, SECTOR};
 use std::alloc::Global;
 use store_layout::{BEFORE_ROWS, Geometry, Half};
@@ -32,13 +32,13 @@ const MOST_READ: u64 = 32_768;
 
 /// Reads the rows of the area that begins at a sector, which have `size` bytes, in pieces of at
 /// most 16 MiB, each in this way.
-pub(crate) fn feed_area<B: RowReading, D: Device>(
+pub(crate) fn feed_area<B: RowDecoder, D: Device>(
     by: &B,
     alloc: Global,
     device: &mut D,
     area: u64,
     size: u32,
-) -> Result<RowsReader, OpenError>
+) -> Result<DatabaseReader, OpenError>
     requires ready { B.is_ready by.now }
     requires room { SECTOR * area + BEFORE_ROWS + size ≤ SECTOR * (D.disk device.old).sectors }
     ensures looks { LooksFor result (D.disk device.old) (D.disk device.new) }
@@ -47,7 +47,7 @@ pub(crate) fn feed_area<B: RowReading, D: Device>(
     let sector = SECTOR as u64;
     let end = BEFORE_ROWS as u64 + u64::from(size);
     let sectors = (end + (sector - 1)) / sector;
-    let mut reader = RowsReader::new(alloc);
+    let mut reader = DatabaseReader::new(alloc);
     let mut fed = BEFORE_ROWS as u64;
     'pieces: while fed < end {
         let first = fed / sector;
@@ -64,7 +64,7 @@ pub(crate) fn feed_area<B: RowReading, D: Device>(
 }
 
 /// Reads the checkpoint of a half: its front, and no more of its area than its rows.
-pub(crate) fn read_checkpoint<B: RowReading, D: Device>(
+pub(crate) fn read_checkpoint<B: RowDecoder, D: Device>(
     by: &B,
     alloc: Global,
     device: &mut D,

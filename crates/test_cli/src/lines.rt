@@ -3,7 +3,7 @@
 //! has to fail for them.
 
 use cli_ask::AskFault;
-use cli_once::Fault;
+use cli_once::SessionFault;
 use cli_program::{Ended, Failed, status_of};
 use cli_store::Fault as StoreFault;
 use path_server::RunError;
@@ -41,7 +41,7 @@ fn lines_of_ends(rt: HostRuntime) {
     for (fault, line) in STORES {
         assert_line(&rt, rt.alloc(), Ended::from(fault), line);
     }
-    let turns = Ended::from(Fault::from(FrameError::Turns));
+    let turns = Ended::from(SessionFault::from(FrameError::Turns));
     assert_line(&rt, rt.alloc(), turns, "error: frame 5");
     let net = Ended::from(RunError::Net);
     assert_line(&rt, rt.alloc(), net, "error: net");
@@ -63,8 +63,8 @@ fn status_of_what_lasts(rt: HostRuntime) {
 #[test]
 fn lines_of_refused_memory(rt: HostRuntime) {
     for ended in [
-        Ended::from(Fault::Memory),
-        Ended::from(Fault::from(FrameError::NoMemory)),
+        Ended::from(SessionFault::Memory),
+        Ended::from(SessionFault::from(FrameError::NoMemory)),
         Ended::from(StoreFault::from(OpenError::NoMemory)),
         Ended::from(StoreFault::from(StoreError::NoMemory)),
         Ended::from(RunError::NoMemory),

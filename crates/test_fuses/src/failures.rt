@@ -18,7 +18,7 @@ use test_support::{TestHost, assert_same, assert_true};
 const MANY: u64 = 4000;
 
 /// How a device is made to fail.
-pub trait Failure {
+pub trait FailingDevices {
     /// Such a device.
     type On: Device;
 
@@ -32,7 +32,7 @@ pub trait Failure {
     fn memory(&self, device: Self::On) -> MemDevice;
 }
 
-impl Failure for Tear {
+impl FailingDevices for Tear {
     type On = FuseDevice;
 
     fn over(&self, memory: MemDevice, number: u64) -> FuseDevice {
@@ -60,13 +60,13 @@ fn restored(rt: &impl TestHost, device: MemDevice, image: &[u8]) -> MemDevice {
 }
 
 /// What is there after a failure, after which no call of the device was made.
-fn memory_of<F: Failure>(rt: &impl TestHost, failure: &F, device: F::On) -> MemDevice {
+fn memory_of<F: FailingDevices>(rt: &impl TestHost, failure: &F, device: F::On) -> MemDevice {
     assert_same(rt, &failure.late(&device), &0, &"calls after a failure");
     failure.memory(device)
 }
 
 /// Runs a script on a device that fails: what that may leave, and what it left.
-fn failing_run<F: Failure>(
+fn failing_run<F: FailingDevices>(
     rt: &impl TestHost,
     alloc: Global,
     script: &Script,
@@ -137,7 +137,7 @@ fn calls_of_run(
 /// Has the opening of a device with this image, which opens to this place, fail at its calls that
 /// the script has tried, one after the other: each time it opens to the same. How many times it
 /// failed.
-fn failing_openings<F: Failure>(
+fn failing_openings<F: FailingDevices>(
     rt: &impl TestHost,
     alloc: Global,
     script: &Script,
@@ -238,7 +238,7 @@ fn opened_image(
 /// Has a script's run fail at its calls of the device that the script has tried, one after the
 /// other, and the openings of each image that it leaves: how many times each failed. An image that
 /// is left twice in a row is opened with failures once.
-pub fn failing_runs<F: Failure>(
+pub fn failing_runs<F: FailingDevices>(
     rt: &impl TestHost,
     alloc: Global,
     script: &Script,

@@ -1,6 +1,6 @@
 //! Runs on a device that fails once, at each of its calls in turn, and works again after it.
 
-use crate::failures::{Failure, failing_runs};
+use crate::failures::{FailingDevices, failing_runs};
 use crate::host::Host;
 use crate::scripts::{Script, long_script, short_script};
 use sector_dev::{DevError, Device, MemDevice};
@@ -60,7 +60,7 @@ impl<D: Device> Device for Watched<D> {
 /// One call fails.
 pub struct Once;
 
-impl Failure for Once {
+impl FailingDevices for Once {
     type On = Watched<FaultDevice>;
 
     fn over(&self, memory: MemDevice, number: u64) -> Watched<FaultDevice> {

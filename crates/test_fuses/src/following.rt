@@ -1,7 +1,7 @@
 //! Groups that follow each other on a device that stops, or fails once, at each of its calls in
 //! turn.
 
-use crate::failures::{Failure, failing_runs};
+use crate::failures::{FailingDevices, failing_runs};
 use crate::faults::Once;
 use crate::host::Host;
 use crate::rounds::FLUSHER;
@@ -14,7 +14,12 @@ use test_group_scripts::stores::TEARS;
 use test_group_scripts::values::step_of;
 
 /// Has the run of a script fail at each call, and each opening of what is left.
-fn assert_fronts<F: Failure>(rt: &Host<impl Abort>, alloc: Global, script: &Script, failure: &F) {
+fn assert_fronts<F: FailingDevices>(
+    rt: &Host<impl Abort>,
+    alloc: Global,
+    script: &Script,
+    failure: &F,
+) {
     let (runs, openings) = failing_runs(rt, alloc, script, failure);
     assert!(rt.0; runs > 0 && openings > 0);
 }
@@ -39,7 +44,7 @@ fn is_between(number: usize) -> bool {
 
 /// Has a device fail within groups of a store of this version, with a whole round of the
 /// checkpointer between any two steps of the flusher.
-fn assert_rounds<F: Failure>(
+fn assert_rounds<F: FailingDevices>(
     rt: &Host<impl Abort>,
     alloc: Global,
     version: u8,

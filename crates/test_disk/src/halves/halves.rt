@@ -94,22 +94,22 @@ fn heads_are_read(rt: HostRuntime) -> Result<(), Fail> {
 
 /// The epochs of the halves that have a head, and which half is chosen.
 #[derive(Clone, Copy, Debug)]
-struct Choice {
+struct ChoiceRow {
     first: Option<u64>,
     second: Option<u64>,
     chosen: Result<Half, PairError>,
 }
 
 #[rattlefmt::skip]
-const CHOICES: [Choice; 8] = [
-    Choice { first: None, second: None, chosen: Err(PairError::NoHalf) },
-    Choice { first: Some(0), second: None, chosen: Ok(Half::First) },
-    Choice { first: None, second: Some(0), chosen: Ok(Half::Second) },
-    Choice { first: Some(3), second: Some(3), chosen: Err(PairError::SameEpoch) },
-    Choice { first: Some(3), second: Some(4), chosen: Ok(Half::Second) },
-    Choice { first: Some(4), second: Some(3), chosen: Ok(Half::First) },
-    Choice { first: Some(0), second: Some(u64::MAX), chosen: Ok(Half::Second) },
-    Choice { first: Some(u64::MAX), second: Some(0), chosen: Ok(Half::First) },
+const CHOICES: [ChoiceRow; 8] = [
+    ChoiceRow { first: None, second: None, chosen: Err(PairError::NoHalf) },
+    ChoiceRow { first: Some(0), second: None, chosen: Ok(Half::First) },
+    ChoiceRow { first: None, second: Some(0), chosen: Ok(Half::Second) },
+    ChoiceRow { first: Some(3), second: Some(3), chosen: Err(PairError::SameEpoch) },
+    ChoiceRow { first: Some(3), second: Some(4), chosen: Ok(Half::Second) },
+    ChoiceRow { first: Some(4), second: Some(3), chosen: Ok(Half::First) },
+    ChoiceRow { first: Some(0), second: Some(u64::MAX), chosen: Ok(Half::Second) },
+    ChoiceRow { first: Some(u64::MAX), second: Some(0), chosen: Ok(Half::First) },
 ];
 
 // The half with the greater epoch is chosen.

@@ -1,7 +1,7 @@
 //! Rows from pieces of their bytes, cut anywhere.
 
 use crate::halves::area::{area, changed, rows_of};
-use ckpt_pair::{PairError, RowsReader, feed_rows, finish_rows, read_front};
+use ckpt_pair::{DatabaseReader, PairError, feed_rows, finish_rows, read_front};
 use std::alloc::Global;
 use std::test::Fail;
 
@@ -11,7 +11,7 @@ const BAD: PairError = PairError::BadCheckpoint;
 /// The number of rows that are read from bytes in pieces of this size, and the length of their
 /// records.
 fn read(alloc: Global, bytes: &[u8], size: usize, count: u32) -> Result<(usize, u64), PairError> {
-    let mut reader = RowsReader::new(alloc);
+    let mut reader = DatabaseReader::new(alloc);
     if size > 0 {
         for piece in bytes.chunks(size) {
             reader = feed_rows(reader, piece)?;

@@ -4,7 +4,8 @@
 
 use crate::halves::area::{area, changed, rows_of};
 use ckpt_pair::{
-    Checkpoint, Head, PairError, RowsReader, encode_checkpoint, feed_rows, finish_rows, read_half,
+    Checkpoint, DatabaseReader, Head, PairError, encode_checkpoint, feed_rows, finish_rows,
+    read_half,
 };
 use path_db::PathDb;
 use path_records::write_rows;
@@ -108,7 +109,7 @@ fn refused_memory_of_read_checkpoints(rt: HostRuntime) -> Result<(), Fail> {
 
 /// The rows of bytes that are fed in pieces of 50.
 fn read_in_pieces(alloc: Global, bytes: &[u8], count: u32) -> Result<PathDb, PairError> {
-    let mut reader = RowsReader::new(alloc);
+    let mut reader = DatabaseReader::new(alloc);
     for piece in bytes.chunks(50) {
         reader = feed_rows(reader, piece)?;
     }

@@ -7,7 +7,7 @@ use path_db::Command;
 use path_records::{DbError, read_command, write_command};
 use std::alloc::Global;
 use std::test::Fail;
-use store_layout::{CommandKind, allows};
+use store_layout::{JournalKind, allows};
 
 /// A record that registers the worked segment this number of times, as down segments.
 pub(crate) fn registration(alloc: Global, count: u8) -> Result<Vec<u8>, Fail> {
@@ -74,7 +74,7 @@ fn shape_of(command: &Command) -> Shape {
 /// What the command is that is read under a version. Where memory is refused, the bytes are read
 /// again.
 fn command_of(alloc: Global, bytes: &[u8], version: u32) -> Result<Shape, DbError> {
-    let removals = allows(version, CommandKind::Removal);
+    let removals = allows(version, JournalKind::Removal);
     let command = match read_command(alloc, bytes, removals) {
         Err(DbError::NoMemory) => read_command(alloc, bytes, removals)?,
         read => read?,

@@ -5,7 +5,7 @@
 use crate::rows::commands::registration;
 use crate::rows::records::{assert_written_as, changed, read_again, rows_of};
 use path_db::{Command, PathDb};
-use path_records::{DbError, RowsReader, read_command, read_rows, write_command, write_rows};
+use path_records::{DatabaseReader, DbError, read_command, read_rows, write_command, write_rows};
 use std::alloc::{AllocError, Global};
 use std::process::Abort;
 use std::test::Fail;
@@ -87,7 +87,7 @@ fn refused_memory_of_read_rows(rt: HostRuntime) -> Result<(), Fail> {
 
 /// The rows of bytes that are fed in pieces of 50.
 fn read_in_pieces(alloc: Global, bytes: &[u8]) -> Result<PathDb, DbError> {
-    let mut reader = RowsReader::new(alloc);
+    let mut reader = DatabaseReader::new(alloc);
     for piece in bytes.chunks(50) {
         reader = reader.feed(piece)?;
     }

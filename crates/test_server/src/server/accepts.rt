@@ -2,28 +2,28 @@
 
 use crate::server::stores::{LEAST, assert_opens_to, formatted, opened};
 use crate::server::worlds::{Counts, options};
-use path_server::{Failure, Listener, Listeners, RunError, after_failure, serve_store};
+use path_server::{AcceptFailure, Listener, Listeners, RunError, after_failure, serve_store};
 use std::io;
 use std::net::{OpenListener, SocketAddr, TcpStream};
 use std::sync::atomic::{AtomicUsize, Ordering};
 use std::test::Fail;
 
 /// The numbers of Linux's errors of accept(2), and what is done after them.
-const FAILURES: [(i32, Failure); 14] = [
-    (9, Failure::Broken), // EBADF
-    (14, Failure::Broken), // EFAULT
-    (22, Failure::Broken), // EINVAL
-    (88, Failure::Broken), // ENOTSOCK
-    (95, Failure::Broken), // EOPNOTSUPP
-    (11, Failure::Nobody), // EAGAIN
-    (12, Failure::Pause), // ENOMEM
-    (23, Failure::Pause), // ENFILE
-    (24, Failure::Pause), // EMFILE
-    (105, Failure::Pause), // ENOBUFS
-    (1, Failure::Pause), // EPERM
-    (71, Failure::Pause), // EPROTO
-    (103, Failure::Pause), // ECONNABORTED
-    (110, Failure::Pause), // ETIMEDOUT
+const FAILURES: [(i32, AcceptFailure); 14] = [
+    (9, AcceptFailure::Broken), // EBADF
+    (14, AcceptFailure::Broken), // EFAULT
+    (22, AcceptFailure::Broken), // EINVAL
+    (88, AcceptFailure::Broken), // ENOTSOCK
+    (95, AcceptFailure::Broken), // EOPNOTSUPP
+    (11, AcceptFailure::Nobody), // EAGAIN
+    (12, AcceptFailure::Pause), // ENOMEM
+    (23, AcceptFailure::Pause), // ENFILE
+    (24, AcceptFailure::Pause), // EMFILE
+    (105, AcceptFailure::Pause), // ENOBUFS
+    (1, AcceptFailure::Pause), // EPERM
+    (71, AcceptFailure::Pause), // EPROTO
+    (103, AcceptFailure::Pause), // ECONNABORTED
+    (110, AcceptFailure::Pause), // ETIMEDOUT
 ];
 
 #[test]

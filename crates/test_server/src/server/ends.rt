@@ -85,9 +85,9 @@ fn bytes_may_come_one_by_one(rt: HostRuntime) -> Result<(), Fail> {
 
 /// Two peers: the first one is silent until the server ends its session, and the second one is
 /// served meanwhile.
-struct Silent;
+struct SilentPeer;
 
-impl Clients for Silent {
+impl Clients for SilentPeer {
     type Seen = (bool, String);
 
     fn meet<R: Outside>(&self, rt: R, alloc: Global, to: SocketAddr) -> io::Result<(bool, String)> {
@@ -111,7 +111,7 @@ fn silent_peers_are_given_up(rt: HostRuntime) -> Result<(), Fail> {
         alloc,
         device,
         &options,
-        &Silent,
+        &SilentPeer,
         &Counts::new(),
     );
     assert_eq!(rt; served, Ok(2));

@@ -2,7 +2,7 @@
 
 use crate::once::streams::{Narrow, Pieces, WhenFull, in_pieces};
 use crate::once::worked::*;
-use cli_once::{Fault, once_in_hex};
+use cli_once::{SessionFault, once_in_hex};
 use seg_check::TrustAll;
 use seg_lookup::Roster;
 use session_core::{FrameError, Source};
@@ -16,7 +16,7 @@ fn in_hex<R: Source, W: Write>(
     writer: &mut W,
     cores: &Roster,
     turns: u64,
-) -> Result<u64, Fault> {
+) -> Result<u64, SessionFault> {
     once_in_hex(alloc, reader, writer, cores, &TrustAll, 0, turns)
 }
 
@@ -33,11 +33,11 @@ fn hexadecimal_streams(rt: HostRuntime) {
         failing: 2,
     };
     let failed = in_hex(alloc, &mut reader, &mut lines, &none, 1_000);
-    assert_eq!(rt; failed, Err(Fault::Frame(FrameError::Read)));
+    assert_eq!(rt; failed, Err(SessionFault::Frame(FrameError::Read)));
 
     let mut reader = in_pieces(text.as_bytes(), 10);
     let short = in_hex(alloc, &mut reader, &mut lines, &none, 3);
-    assert_eq!(rt; short, Err(Fault::Frame(FrameError::Turns)));
+    assert_eq!(rt; short, Err(SessionFault::Frame(FrameError::Turns)));
     assert_eq!(rt; lines.len(), 0);
 
     let mut writer = Narrow {
@@ -46,6 +46,6 @@ fn hexadecimal_streams(rt: HostRuntime) {
         when_full: WhenFull::TakesNone,
     };
     let full = in_hex(alloc, &mut text.as_bytes(), &mut writer, &none, 1_000);
-    assert_eq!(rt; full, Err(Fault::Frame(FrameError::Write)));
+    assert_eq!(rt; full, Err(SessionFault::Frame(FrameError::Write)));
     assert_eq!(rt; writer.taken.as_slice(), b"0000001".as_slice());
 }

@@ -16,10 +16,10 @@ returns-clause-settled c =
     let seen = c.in_ok-see_rows.ensures.seen rows.journal.commands.items read.seen in
     record {
       commands = rows.journal.commands.items;
-      settles = c.in_ok-settling.ensures.settles c.see_rows.new.note.value seen streamed.walk.database;
+      settles = c.in_ok-settling.ensures.settles c.see_rows.new.note.value seen streamed.cursor.database;
       all = record {
         after = c.rows_after-after.ensures ∙ ap (database_after_all c.see_rows.new.note.value) c.deref.ensures.value;
-        database = streamed.walk.database;
+        database = streamed.cursor.database;
         size = rows_sized read.pushed c.see_rows.new.note.value rows.front.size rows.front.count inside
             (c.in_ok-see_rows.ensures.all rows.front.size rows.front.count read.pushed read.streamed inside);
         summed = read.summed ∙ c.requires.all;
