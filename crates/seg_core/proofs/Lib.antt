@@ -13,6 +13,7 @@ pub mod Written
 pub mod PiecesKept
 pub mod Kept
 pub mod Responses
+pub mod OneType
 pub mod MessageSizes
 pub mod Registered
 pub mod ResponseLengths

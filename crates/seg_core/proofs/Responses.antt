@@ -39,10 +39,10 @@ split_at rows i row lt is =
     let split : drop i rows ≡ get_or rows i row ∷ drop (i + 1) rows = rw add-one (drop-cons rows i row lt) in
     ap referred_rows (split ∙ ap (λ r. r ∷ drop (i + 1) rows) (sym is))
 
-one_of_type : (kind : SegType) (row : SegType × SegmentView) (rows : List (SegType × SegmentView)) → (type_number row.0 == type_number kind) ≡ true → of_type kind (row ∷ rows) ≡ row.1 ∷ of_type kind rows
+pub one_of_type : (kind : SegType) (row : SegType × SegmentView) (rows : List (SegType × SegmentView)) → (type_number row.0 == type_number kind) ≡ true → of_type kind (row ∷ rows) ≡ row.1 ∷ of_type kind rows
 one_of_type kind row rows same = rw same refl
 
-not_of_type : (kind : SegType) (row : SegType × SegmentView) (rows : List (SegType × SegmentView)) → (type_number row.0 == type_number kind) ≡ false → of_type kind (row ∷ rows) ≡ of_type kind rows
+pub not_of_type : (kind : SegType) (row : SegType × SegmentView) (rows : List (SegType × SegmentView)) → (type_number row.0 == type_number kind) ≡ false → of_type kind (row ∷ rows) ≡ of_type kind rows
 not_of_type kind row rows other = rw other refl
 
 -- the next row is of the type
@@ -74,7 +74,7 @@ other-next kind rows i row whole out lt is other so_far =
 
 -- ---- the map entry of a type
 
-some_bytes : (s : SegmentView) (ss : List SegmentView) → length (segments_encoding (s ∷ ss)) ≡ 0 → ⊥
+pub some_bytes : (s : SegmentView) (ss : List SegmentView) → length (segments_encoding (s ∷ ss)) ≡ 0 → ⊥
 some_bytes s ss none =
     let parts = length-append (bytes_field_encoding 1 (segment_encoding s)) (segments_encoding ss) in
     omega (arith, ap length (flat_map-cons (λ s. bytes_field_encoding 1 (segment_encoding s)) s ss), parts, field-length 1 (segment_encoding s) (omega arith))

@@ -28,6 +28,7 @@ mod response;
 mod seg_type;
 mod segment;
 mod shape;
+mod typed_response;
 mod writing;
 
 pub use decoding_laws::{
@@ -46,4 +47,5 @@ pub use response::{write_response, write_response_of};
 pub use seg_slots::{SegError, first_misfit_is_exact};
 pub use seg_type::SegType;
 pub use segment::{Segment, read_segment};
+pub use typed_response::write_response_of_type;
 pub use writing::{encoded_len, is_encoding_of, put_segment, write_segment};

@@ -17,12 +17,12 @@ use std::alloc::{AllocError, Global};
 
 /// The room that is reserved for the last bytes of a response, beyond their length: two varints of
 /// ten bytes.
-const SLACK: usize = 20;
+pub(crate) const SLACK: usize = 20;
 /// The length of the key of a map entry: a tag, and a type of one byte.
 const KEY_LEN: usize = 2;
 
 /// A sum of lengths. An error means that the sum has more than 64 bits.
-fn sum(a: usize, b: usize) -> Result<usize, AllocError>
+pub(crate) fn sum(a: usize, b: usize) -> Result<usize, AllocError>
     ensures { IfOk result (λ n. n ≡ a + b) }
 {
     a.checked_add(b).ok_or(AllocError)
@@ -75,7 +75,7 @@ fn put_segments(
 }
 
 /// The length of a map entry's key and value, given the length of the value.
-fn content_len(value: usize) -> Result<usize, AllocError>
+pub(crate) fn content_len(value: usize) -> Result<usize, AllocError>
     ensures { (bytes : List ℕ) → length bytes ≡ value → IfOk result (λ n. n ≡ 2 + length (bytes_field_encoding 2 bytes)) }
 {
     sum(KEY_LEN + head_len(value), value)
