@@ -9,10 +9,10 @@ ghost use Rattle.session_core.specs.ReplyViews.{reply_view};
 use crate::error::AskError;
 use byteorder::{BigEndian, ByteOrder};
 use pw_wire::{first_bytes, first_number};
-use seg_core::{SegError, SegType, Segment, read_segment, write_response_of};
+use seg_core::{SegError, SegType, Segment, read_segment, write_response_of_type};
 use session_core::kinds::{FOUND, LISTED, PURGED, REFUSED, REGISTERED, REMOVED};
 use session_core::{Ack, Code, Listing, Outcome, Reply};
-use std::alloc::{AllocError, Global};
+use std::alloc::Global;
 
 /// The number of bytes of an acknowledgement, after its kind.
 const ACK: usize = 24;
@@ -114,22 +114,11 @@ fn read_segments(alloc: Global, body: &[u8]) -> Result<(SegType, Vec<Segment>), 
     ensures { IfOk result (λ read. body.now ≡ response_encoding (typed_segments read.0 read.1.items)) }
 {
     let (kind, segments) = segments_in(alloc, body)?;
-    let encoded = response_of(alloc, kind, segments.as_slice())?;
+    let encoded = write_response_of_type(alloc, kind, segments.as_slice())?;
     if encoded.as_slice() != body {
         return Err(AskError::Faulty);
     }
     Ok((kind, segments))
-}
-
-/// A response of segments of one type.
-fn response_of(alloc: Global, kind: SegType, segments: &[Segment]) -> Result<Vec<u8>, AllocError>
-    ensures { IfOk result (λ body. body.items ≡ response_encoding (typed_segments kind segments.now)) }
-{
-    let mut rows = Vec::with_capacity(alloc, segments.len())?;
-    for segment in segments {
-        rows.push((kind, segment))?;
-    }
-    write_response_of(alloc, &rows)
 }
 
 /// The segments that a response seems to have.

@@ -1,6 +1,6 @@
--- Commands that were handed in, one after the other: for `hand_in`, `settle`, `next_reply` and
--- `answer_all`.
-use Rattle.std.proofs.Common.{◌≡◌, ℕ, suc, ◌+◌, ◌^◌, ◌<◌, ◌≤◌, List, [], ◌∷◌, ◌++◌, length, drop, Option, Some, None, Result, Ok, Err, refl, sym, ap, subst, arith}
+-- Commands that were handed in, one after the other: for `hand_in_after`, `settle`, `next_reply`
+-- and `answer_all`.
+use Rattle.std.proofs.Common.{◌≡◌, ℕ, suc, ◌+◌, ◌^◌, ◌<◌, ◌≤◌, List, [], ◌∷◌, ◌++◌, length, drop, Option, Some, None, Result, Ok, Err, refl, sym, ap, subst, ◌∙◌, arith}
 use Rattle.std.proofs.lemmas.List.{drop-drop, length-drop}
 use Rattle.std.specs.List.{AllByRecursion}
 use Rattle.std.specs.Borrow.{Bor}
@@ -71,12 +71,12 @@ module _ {S U : Type 0} (is_for : S → U → MessageView → Type 0) where
   handed_in-push s (g ∷ hs) h bytes all one =
       (all.0, handed_in-push s hs h (drop g.len bytes) all.1 (subst (IsHandedIn is_for s h) (sym (drop-drop (frames_len hs) g.len bytes)) one))
 
-  pub handed_in-next : (s t : S) (hs gs : List (Handed U)) (h : Handed U) (bytes new : List ℕ) (at : ℕ) → t ≡ s → new ≡ bytes → at ≡ frames_len hs → gs ≡ hs ++ h ∷ []
-      → AreHandedIn is_for s hs bytes → IsHandedIn is_for t h (drop at new) → AreHandedIn is_for t gs new
-  handed_in-next s t hs gs h bytes new at state inbox is pushed all one =
-      let before : AreHandedIn is_for t hs new = subst (λ (u : S). AreHandedIn is_for u hs new) (sym state) (subst (λ (b : List ℕ). AreHandedIn is_for s hs b) (sym inbox) all) in
-      let after : IsHandedIn is_for t h (drop (frames_len hs) new) = subst (λ (n : ℕ). IsHandedIn is_for t h (drop n new)) is one in
-      subst (λ (xs : List (Handed U)). AreHandedIn is_for t xs new) (sym pushed) (handed_in-push t hs h new before after)
+  pub handed_in-next : (s t : S) (hs gs : List (Handed U)) (h : Handed U) (bytes new : List ℕ) (len at : ℕ) → t ≡ s → new ≡ bytes → at ≡ len + frames_len hs → gs ≡ hs ++ h ∷ []
+      → AreHandedIn is_for s hs (drop len bytes) → IsHandedIn is_for t h (drop at new) → AreHandedIn is_for t gs (drop len new)
+  handed_in-next s t hs gs h bytes new len at state inbox is pushed all one =
+      let before : AreHandedIn is_for t hs (drop len new) = subst (λ (u : S). AreHandedIn is_for u hs (drop len new)) (sym state) (subst (λ (b : List ℕ). AreHandedIn is_for s hs (drop len b)) (sym inbox) all) in
+      let after : IsHandedIn is_for t h (drop (frames_len hs) (drop len new)) = subst (IsHandedIn is_for t h) (ap (λ (n : ℕ). drop n new) is ∙ sym (drop-drop (frames_len hs) len new)) one in
+      subst (λ (xs : List (Handed U)). AreHandedIn is_for t xs (drop len new)) (sym pushed) (handed_in-push t hs h (drop len new) before after)
 
   -- a frame ends within the bytes
   pub within : (s : S) (h : Handed U) (bytes : List ℕ) (at : ℕ) → at ≤ length bytes → IsHandedIn is_for s h (drop at bytes) → at + h.len ≤ length bytes

@@ -1,4 +1,4 @@
--- Messages answered one after the other: for `answer_all`, `serve_piece` and `serve`.
+-- Messages answered one after the other: for `answer_all` and `serve`.
 use Rattle.std.proofs.Common.{◌≡◌, ℕ, ◌+◌, ◌-◌, ◌^◌, ◌<◌, min, List, [], ◌∷◌, ◌++◌, length, Option, Err, refl, sym, ap, subst, ◌∙◌, arith}
 use Rattle.std.proofs.lemmas.List.{append-nil, length-append, map-append}
 use Rattle.std.proofs.lemmas.List.Concat.{flat_map-append}

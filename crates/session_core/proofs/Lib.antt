@@ -8,6 +8,7 @@ mod WriteLemmas
 mod AheadLemmas
 mod Exchanges
 mod SessionLemmas
+mod InboxLemmas
 mod Behind
 pub mod FramerLemmas
 mod Pieces

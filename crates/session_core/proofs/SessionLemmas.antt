@@ -1,7 +1,7 @@
--- The pieces that were answered one after the other are a session: for `serve_piece` and
+-- The pieces that were answered one after the other are a session: for `answer_and_flush` and
 -- `serve_session`.
 use Rattle.std.proofs.Common.{◌≡◌, ℕ, ◌+◌, ◌<◌, ◌≤◌, List, [], ◌∷◌, ◌++◌, length, Option, Result, Ok, Err, IfOk, IfErr, refl, sym, ap, subst, ◌∙◌, arith, append_assoc}
-use Rattle.std.proofs.lemmas.List.{append-nil, length-append}
+use Rattle.std.proofs.lemmas.List.{append-nil, length-append, nil_from_length}
 use Rattle.std.proofs.lemmas.List.Folds.{concat-append}
 use Rattle.std.proofs.lemmas.Fn.{FoldsTo-push}
 use Rattle.std.specs.List.{AllByRecursion, FoldsTo, concat}
@@ -15,7 +15,7 @@ use Rattle.session_core.specs.Reply.{ReplyView, HasReplySize}
 use Rattle.session_core.specs.Service.{Exchange, messages_of, replies_of, all_told, reply_frames, AreAnswered}
 use Rattle.session_core.specs.declared.reply.Form.{Form}
 use Rattle.session_core.specs.declared.reply.Form.TheVariants.{Frames}
-use Rattle.session_core.specs.Source.{AreReads}
+use Rattle.session_core.specs.Source.{AreReads, TakesIn, FailsToTakeIn}
 use Rattle.session_core.specs.Session.{WritesReplies, LeavesAhead, TellsFrontOfLast, IsPrompt, EndsFor, IsServed, IsSentFor}
 use Rattle.session_core.specs.Answered.{AreFrontsAnswered}
 use Rattle.session_core.specs.Lines.{IsServedInLines}
@@ -56,22 +56,6 @@ front_of form (Err error.NoMemory) written es told = record {
 }
 
 module _ {S : Type 0} (form : Form) (answers : S → MessageView → ReplyView → S → Type 0) where
-  -- no memory for the piece
-  pub stops_at_once : (s : S) (bytes left : List ℕ) (o : Option (List ℕ)) (n : ℕ) → AreFrontsAnswered form answers s bytes s left o o n (Err error.NoMemory)
-  stops_at_once s bytes left o n = record {
-    exchanges = [];
-    rest = bytes;
-    handed = [];
-    ahead = none_ahead bytes;
-    written = [];
-    framed = AreWholeFrames-none bytes;
-    answered = refl;
-    sized = tt;
-    appended = Appends-nil o;
-    told = record { before = []; last = []; parts = refl; one = omega arith; written_is = refl };
-    stops = tt;
-  }
-
   -- a flush after the piece that failed
   pub not_flushed : (a b : S) (bytes left : List ℕ) (o p q : Option (List ℕ)) (n : ℕ) (r : Result ℕ FrameError) → AreFrontsAnswered form answers a bytes b left o p n r → Keeps p q
       → AreFrontsAnswered form answers a bytes b left o q n (Err error.Write)
@@ -250,24 +234,52 @@ module _ {S R : Type 0} (answers : S → MessageView → ReplyView → S → Typ
     nothing_more = all_joined [] ∙ append-nil (concat h.pieces)
 
     -- a read that failed
-    pub fails_to_read : (turns : ℕ) (t : R) (i : Type 0) (e : FrameError) → turn < turns → gives s [] t → e ≡ error.Read → IsServed answers gives turns a b r t i o p (Err e)
+    fails_to_read : (turns : ℕ) (t : R) (i : Type 0) (e : FrameError) → turn < turns → gives s [] t → e ≡ error.Read → IsServed answers gives turns a b r t i o p (Err e)
     fails_to_read turns t i e lt one is = subst (λ (x : FrameError). IsServed answers gives turns a b r t i o p (Err x)) (sym is)
         (ends_at_read turns t i ([] ∷ []) nothing_more (omega arith) (read_more turns t [] lt one (omega arith)))
 
     -- the end of the input
-    pub ends_at_end : (turns : ℕ) (t : R) (i : Type 0) (result : Result ℕ FrameError) → turn < turns → gives s [] t → i
+    ends_at_end : (turns : ℕ) (t : R) (i : Type 0) (result : Result ℕ FrameError) → turn < turns → gives s [] t → i
         → IfOk result (λ n. n ≡ count) → IfOk result (λ _. inbox ≡ []) → IfErr result (λ e. e ≡ error.Read) → IsServed answers gives turns a b r t i o p result
     ends_at_end turns t i (Ok n) lt one end same none err = subst (λ (k : ℕ). IsServed answers gives turns a b r t i o p (Ok k)) (sym same)
         (ends_well turns t i ([] ∷ []) nothing_more (omega arith) (read_more turns t [] lt one (omega arith)) end none)
     ends_at_end turns t i (Err e) lt one end same none err = fails_to_read turns t i e lt one err
 
+    -- no further read was made
+    no_read : (turns : ℕ) → turn ≤ turns → AreReads gives turns r (h.pieces ++ []) s
+    no_read turns le =
+        let same : h.pieces ++ [] ≡ h.pieces = append-nil h.pieces in
+        record { made = subst (λ (ps : List (List ℕ)). FoldsTo gives r ps s) (sym same) h.made; few = omega (arith, le, h.turns_are, ap length same); short = pieces-append h.pieces [] h.short tt }
+
     -- the allowed number of reads was made
     pub ends_at_turns : (i : Type 0) → IsServed answers gives turn a b r s i o p (Err error.Turns)
     ends_at_turns i =
         let same : h.pieces ++ [] ≡ h.pieces = append-nil h.pieces in
-        ends_in_time turn s i [] (ap concat same) (omega arith)
-        (record { made = subst (λ (ps : List (List ℕ)). FoldsTo gives r ps s) (sym same) h.made; few = omega (arith, h.turns_are, ap length same); short = pieces-append h.pieces [] h.short tt })
-        (ap length same ∙ h.turns_are)
+        ends_in_time turn s i [] (ap concat same) (omega arith) (no_read turn (omega arith)) (ap length same ∙ h.turns_are)
+
+    -- no memory for a read
+    ends_without_room : (turns : ℕ) (i : Type 0) → turn ≤ turns → IsServed answers gives turns a b r s i o p (Err error.NoMemory)
+    ends_without_room turns i le =
+        ends_here turns s i [] (ap concat (append-nil h.pieces)) (omega arith) (no_read turns le) (Err error.NoMemory)
+        (record { before = h.done.exchanges; last = []; parts = sym (append-nil h.done.exchanges); one = omega arith; written_is = refl }) (none_ahead inbox) tt
+
+    -- nothing was read
+    pub fails_to_take_in : (turns : ℕ) (t : R) (i : Type 0) (e : FrameError) → turn < turns → FailsToTakeIn gives s e t → IsServed answers gives turns a b r t i o p (Err e)
+    fails_to_take_in turns t i error.NoMemory lt same = subst (λ (u : R). IsServed answers gives turns a b r u i o p (Err error.NoMemory)) (sym same) (ends_without_room turns i (omega (arith, lt)))
+    fails_to_take_in turns t i error.Read lt one = fails_to_read turns t i error.Read lt one refl
+    fails_to_take_in turns t i error.Length lt f = absurd f
+    fails_to_take_in turns t i error.Kind lt f = absurd f
+    fails_to_take_in turns t i error.Write lt f = absurd f
+    fails_to_take_in turns t i error.Turns lt f = absurd f
+
+    -- a read that gave no byte
+    pub ends_after_read : (turns : ℕ) (t : R) (i : Type 0) (len : ℕ) (left : List ℕ) (result : Result ℕ FrameError) → turn < turns → TakesIn gives s inbox len t left → len ≡ 0 → i
+        → IfOk result (λ n. n ≡ count) → IfOk result (λ _. left ≡ []) → IfErr result (λ e. e ≡ error.Read) → IsServed answers gives turns a b r t i o p result
+    ends_after_read turns t i len left result lt x zero end same none err =
+        let nothing : x.piece ≡ [] = nil_from_length x.piece (x.len_is ∙ zero) in
+        let one : gives s [] t = subst (λ (piece : List ℕ). gives s piece t) nothing x.gave in
+        let is : left ≡ inbox = x.joined ∙ ap (λ (piece : List ℕ). inbox ++ piece) nothing ∙ append-nil inbox in
+        ends_at_end turns t i result lt one end same (subst (λ (bytes : List ℕ). IfOk result (λ _. bytes ≡ [])) is none) err
 
     -- ---- one more piece
 
@@ -287,7 +299,7 @@ module _ {S R : Type 0} (answers : S → MessageView → ReplyView → S → Typ
       both_frames : reply_frames (h.done.exchanges ++ x.exchanges) ≡ reply_frames h.done.exchanges ++ reply_frames x.exchanges
       both_frames = told-append Frames h.done.exchanges x.exchanges
 
-    pub so_far_more : (c : S) (t : R) (piece left : List ℕ) (q : Option (List ℕ)) (sum k : ℕ) → gives s piece t → length piece ≤ MOST_PIECE → k ≡ turn + 1
+    so_far_more : (c : S) (t : R) (piece left : List ℕ) (q : Option (List ℕ)) (sum k : ℕ) → gives s piece t → length piece ≤ MOST_PIECE → k ≡ turn + 1
         → AreFrontsAnswered Frames answers b (inbox ++ piece) c left p q count (Ok sum) → SoFar answers gives a c r t left o q sum k
     so_far_more c t piece left q sum k one short next x = record {
       pieces = h.pieces ++ piece ∷ [];
@@ -355,7 +367,7 @@ module _ {S R : Type 0} (answers : S → MessageView → ReplyView → S → Typ
       ended = ended;
     }
 
-    pub ends_at_piece : (turns : ℕ) (c : S) (t : R) (i : Type 0) (piece left : List ℕ) (q : Option (List ℕ)) (e : FrameError) → turn < turns → gives s piece t → length piece ≤ MOST_PIECE
+    ends_at_piece : (turns : ℕ) (c : S) (t : R) (i : Type 0) (piece left : List ℕ) (q : Option (List ℕ)) (e : FrameError) → turn < turns → gives s piece t → length piece ≤ MOST_PIECE
         → AreFrontsAnswered Frames answers b (inbox ++ piece) c left p q count (Err e) → IsServed answers gives turns a c r t i o q (Err e)
     ends_at_piece turns c t i piece left q error.Length lt one short x = ends_within turns c t i piece left q (Err error.Length) lt one short x x.stops
     ends_at_piece turns c t i piece left q error.Kind lt one short x = ends_within turns c t i piece left q (Err error.Kind) lt one short x x.stops
@@ -363,3 +375,19 @@ module _ {S R : Type 0} (answers : S → MessageView → ReplyView → S → Typ
     ends_at_piece turns c t i piece left q error.Write lt one short x = ends_within turns c t i piece left q (Err error.Write) lt one short x tt
     ends_at_piece turns c t i piece left q error.Read lt one short x = absurd x.stops
     ends_at_piece turns c t i piece left q error.Turns lt one short x = absurd x.stops
+
+    -- ---- one more read
+
+    module _ (len : ℕ) (t : R) (mid : List ℕ) (x : TakesIn gives s inbox len t mid) where
+      piece_is_short : length x.piece ≤ MOST_PIECE
+      piece_is_short = omega (arith, x.len_is, x.short)
+
+      pub ends_at_read_piece : (turns : ℕ) (c : S) (i : Type 0) (left : List ℕ) (q : Option (List ℕ)) (e : FrameError) → turn < turns
+          → AreFrontsAnswered Frames answers b mid c left p q count (Err e) → IsServed answers gives turns a c r t i o q (Err e)
+      ends_at_read_piece turns c i left q e lt fronts =
+          ends_at_piece turns c t i x.piece left q e lt x.gave piece_is_short (subst (λ (bytes : List ℕ). AreFrontsAnswered Frames answers b bytes c left p q count (Err e)) x.joined fronts)
+
+      pub so_far_read : (c : S) (left : List ℕ) (q : Option (List ℕ)) (sum k : ℕ) → k ≡ turn + 1
+          → AreFrontsAnswered Frames answers b mid c left p q count (Ok sum) → SoFar answers gives a c r t left o q sum k
+      so_far_read c left q sum k next fronts =
+          so_far_more c t x.piece left q sum k x.gave piece_is_short next (subst (λ (bytes : List ℕ). AreFrontsAnswered Frames answers b bytes c left p q count (Ok sum)) x.joined fronts)

@@ -1,6 +1,6 @@
 //! Commands that were handed in and are not answered yet.
 
-ghost use Rattle.std.specs.Prelude.{◌≡◌, ◌≤◌, ◌<◌, ◌↔◌, [], ◌∷◌, ◌++◌, length, IfOk, IfErr, IsTrue, MatchOption};
+ghost use Rattle.std.specs.Prelude.{◌≡◌, ◌≤◌, ◌<◌, [], ◌∷◌, ◌++◌, length, IfOk, IfErr, MatchOption};
 ghost use Rattle.std.specs.VecDeque.{deque_capacity};
 ghost use Rattle.session_core.specs.declared.ahead.TheConstants.{MOST_AHEAD};
 ghost use Rattle.session_core.specs.declared.error.FrameError.TheVariants as error;
@@ -38,13 +38,6 @@ impl<U: Drop> Ahead<U> {
             Ok(queue) => Ok(Ahead { queue }),
             Err(_) => Err(FrameError::NoMemory),
         }
-    }
-
-    /// Whether there is no command.
-    pub(crate) fn is_empty(&self) -> bool
-        ensures { IsTrue result ↔ (self.now.queue.items ≡ []) }
-    {
-        self.queue.is_empty()
     }
 
     /// Adds a command. The call takes no memory.

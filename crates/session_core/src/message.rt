@@ -4,7 +4,7 @@ use crate::list_request::ListRequest;
 
 /// A message. The body of a registration or a lookup is owned by the caller of a `Framer`, or is a
 /// slice of the bytes that were read.
-#[derive(Debug, Drop, PartialEq)]
+#[derive(Clone, Copy, Debug, Drop, PartialEq)]
 pub enum Message<B = Vec<u8>> {
     /// Kind 1: a `SegmentsRegistrationRequest`.
     Register(B),

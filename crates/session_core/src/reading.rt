@@ -1,10 +1,9 @@
 //! Reading a source to its end.
 
-ghost use Rattle.std.specs.Prelude.{◌≡◌, length};
+ghost use Rattle.std.specs.Prelude.{◌≡◌, length, IfOk, IfErr};
 ghost use Rattle.session_core.specs.Source.{IsAllRead};
 
 use crate::error::FrameError;
-use crate::serving::new_piece;
 use crate::source::{MOST_PIECE, Source, read_once};
 use std::alloc::Global;
 
@@ -38,4 +37,12 @@ fn read_pieces<R: Source>(
         }
     }
     Err(FrameError::Turns)
+}
+
+/// A buffer for one read.
+fn new_piece(alloc: Global) -> Result<Vec<u8>, FrameError>
+    ensures ok { IfOk result (λ piece. length piece.items ≡ MOST_PIECE) }
+    ensures err { IfErr result (λ e. e ≡ FrameError.NoMemory) }
+{
+    Vec::from_elem(alloc, 0, MOST_PIECE).map_err(|_| FrameError::NoMemory)
 }

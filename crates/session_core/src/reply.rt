@@ -1,8 +1,6 @@
 //! Replies, and their frames.
 
 ghost use Rattle.std.specs.Prelude.{◌≡◌, ◌+◌, ◌≤◌, ◌<◌, ◌++◌, ◌∷◌, ℕ, List, length, IfOk};
-ghost use Rattle.seg_core.specs.Registration.{typed_segments};
-ghost use Rattle.seg_core.specs.Encoding.{response_encoding};
 ghost use Rattle.session_core.specs.Commands.{reply_to_kind};
 ghost use Rattle.session_core.specs.Frames.{frame_encoding};
 ghost use Rattle.session_core.specs.Reply.{ack_encoding, more_byte, reply_frame, HasReplySize, Found, Listed, Refused};
@@ -13,7 +11,7 @@ use crate::format::{ACK_FRAME, ACK_LENGTH, MOST_REPLY, REFUSAL_FRAME, REFUSAL_LE
 use crate::kinds::{FOUND, LISTED, PURGED, REFUSED, REGISTERED, REMOVED};
 use crate::service::{Ack, Code, Listing};
 use byteorder::{BigEndian, ByteOrder};
-use seg_core::{SegType, Segment, write_response_of};
+use seg_core::{SegType, Segment, write_response_of_type};
 use std::alloc::{AllocError, Global};
 
 /// How replies are written.
@@ -113,21 +111,6 @@ pub(crate) fn listed_head(more: bool, response: usize) -> [u8; 6]
     head
 }
 
-/// The response to a lookup or a list: a `SegmentsResponse` of segments of one type.
-pub(crate) fn response_of(
-    alloc: Global,
-    kind: SegType,
-    segments: &[Segment],
-) -> Result<Vec<u8>, AllocError>
-    ensures { IfOk result (λ response. response.items ≡ response_encoding (typed_segments kind segments.now)) }
-{
-    let mut rows = Vec::with_capacity(alloc, segments.len())?;
-    for segment in segments {
-        rows.push((kind, segment))?;
-    }
-    write_response_of(alloc, &rows)
-}
-
 /// The frame of a reply.
 #[tactic(auto, unfolding(crate::specs::Reply::reply_frame))]
 pub(crate) fn whole_frame(alloc: Global, reply: &Reply) -> Result<Vec<u8>, AllocError>
@@ -150,7 +133,7 @@ fn listed_frame(alloc: Global, listing: &Listing) -> Result<Vec<u8>, AllocError>
     requires { HasReplySize (Listed listing.now.more listing.now.kind listing.now.segments.items) }
     ensures { IfOk result (λ frame. frame.items ≡ reply_frame (Listed listing.now.more listing.now.kind listing.now.segments.items)) }
 {
-    let response = response_of(alloc, listing.kind, &listing.segments)?;
+    let response = write_response_of_type(alloc, listing.kind, &listing.segments)?;
     let mut frame = Vec::from_slice(alloc, &listed_head(listing.more, response.len()))?;
     frame.extend_from_slice(response.as_slice())?;
     Ok(frame)
@@ -162,7 +145,7 @@ fn found_frame(alloc: Global, kind: SegType, segments: &[Segment]) -> Result<Vec
     requires { HasReplySize (Found kind segments.now) }
     ensures { IfOk result (λ frame. frame.items ≡ reply_frame (Found kind segments.now)) }
 {
-    let response = response_of(alloc, kind, segments)?;
+    let response = write_response_of_type(alloc, kind, segments)?;
     let mut frame = Vec::from_slice(alloc, &found_head(response.len()))?;
     frame.extend_from_slice(response.as_slice())?;
     Ok(frame)

@@ -1,6 +1,6 @@
-//! The loop of a session, which alone uses a reader and a writer.
+//! The loop of a session over a reader and a writer.
 
-ghost use Rattle.std.specs.Prelude.{◌≡◌, ◌++◌, [], length, IfOk, IfErr, OnOk};
+ghost use Rattle.std.specs.Prelude.{◌≡◌, [], IfOk, IfErr, OnOk};
 ghost use Rattle.session_core.specs.Answered.{AreFrontsAnswered};
 ghost use Rattle.session_core.specs.Session.{IsServed, IsSentFor};
 
@@ -11,7 +11,7 @@ use crate::reply::Form;
 use crate::service::Service;
 use crate::session::Session;
 use crate::sink::Sink;
-use crate::source::{MOST_PIECE, Source, read_once};
+use crate::source::Source;
 use crate::writing::write_reply;
 use std::alloc::Global;
 
@@ -39,54 +39,35 @@ pub fn serve<R: Source, W: Sink, S: Service>(
         (R.is_at_end reader.new) (W.contents writer.old) (W.contents writer.new) result }
     ensures sent { W.is_sent writer.old → IsSentFor (W.is_sent writer.new) result }
 {
-    let mut piece = new_piece(alloc)?;
     let ahead = Ahead::new(alloc)?;
     let mut session = Session::new(service, Inbox::new(alloc), ahead);
-    let served = serve_session(
-        alloc,
-        reader,
-        writer,
-        &mut session,
-        piece.as_mut_slice(),
-        turns,
-    );
+    let served = serve_session(alloc, reader, writer, &mut session, turns);
     let _service = session.into_service();
     served
 }
 
-/// Answers the messages of a reader, in a session without input, with a buffer for one read.
+/// Answers the messages of a reader, in a session without input.
 fn serve_session<R: Source, W: Sink, S: Service>(
     alloc: Global,
     reader: &mut R,
     writer: &mut W,
     session: &mut Session<S>,
-    piece: &mut [u8],
     turns: u64,
 ) -> Result<u64, FrameError>
     requires fresh { session.old.inbox ≡ [] }
     requires none { session.old.ahead.queue.items ≡ [] }
-    requires room { length piece.old ≡ MOST_PIECE }
     ensures served { IsServed S.answers R.gives turns (S.state session.old.service) (S.state session.new.service) reader.old reader.new
         (R.is_at_end reader.new) (W.contents writer.old) (W.contents writer.new) result }
     ensures sent { W.is_sent writer.old → IsSentFor (W.is_sent writer.new) result }
 {
     let mut count = 0;
     for _turn in 0..turns {
-        let len = read_once(reader, piece)?;
-        if len == 0 {
+        if session.read_from(reader)? == 0 {
             return end(session, count);
         }
-        count = serve_piece(alloc, writer, session, piece.split_at(len).0, count)?;
+        count = answer_and_flush(alloc, writer, session, Form::Frames, count)?;
     }
     Err(FrameError::Turns)
-}
-
-/// A buffer for one read.
-pub(crate) fn new_piece(alloc: Global) -> Result<Vec<u8>, FrameError>
-    ensures ok { IfOk result (λ piece. length piece.items ≡ MOST_PIECE) }
-    ensures err { IfErr result (λ e. e ≡ FrameError.NoMemory) }
-{
-    Vec::from_elem(alloc, 0, MOST_PIECE).map_err(|_| FrameError::NoMemory)
 }
 
 /// The result of a session at the end of the input: an error where bytes are left over.
@@ -100,26 +81,6 @@ pub(crate) fn end<S: Service>(session: &Session<S>, count: u64) -> Result<u64, F
     } else {
         Err(FrameError::Read)
     }
-}
-
-/// Answers the messages whose frames are whole after this piece of input.
-fn serve_piece<W: Sink, S: Service>(
-    alloc: Global,
-    writer: &mut W,
-    session: &mut Session<S>,
-    piece: &[u8],
-    count: u64,
-) -> Result<u64, FrameError>
-    requires { session.old.ahead.queue.items ≡ [] }
-    ensures fronts { AreFrontsAnswered Form.Frames S.answers (S.state session.old.service) (session.old.inbox ++ piece.now)
-        (S.state session.new.service) session.new.inbox (W.contents writer.old) (W.contents writer.new) count result }
-    ensures none { OnOk result (session.new.ahead.queue.items ≡ []) }
-    ensures sent { W.is_sent writer.old → IsSentFor (W.is_sent writer.new) result }
-{
-    if session.feed(piece).is_err() {
-        return Err(FrameError::NoMemory);
-    }
-    answer_and_flush(alloc, writer, session, Form::Frames, count)
 }
 
 /// Answers the messages whose frames are whole, and sends the replies, unless a write failed.

@@ -1,12 +1,13 @@
-//! The core of a session, which neither reads nor writes: it takes pieces of input, and returns
-//! replies.
+//! The core of a session, which writes nothing: it reads pieces of input, and returns replies.
 
-ghost use Rattle.std.specs.Prelude.{◌≡◌, ◌+◌, ◌^◌, ◌++◌, ◌<◌, ◌≤◌, [], drop, length, IfSome, OnOk, OnErr, IsTrue, ◌↔◌};
+ghost use Rattle.std.specs.Prelude.{◌≡◌, ◌+◌, ◌^◌, ◌<◌, ◌≤◌, [], drop, length, Some, IfSome, IfOk, IfErr, OnErr, IsTrue, ◌↔◌};
 ghost use Rattle.session_core.specs.Ahead.{IsHandedIn, AreHandedIn};
 ghost use Rattle.session_core.specs.Answered.{IsFirstAnswered, IsNextReply, LeavesFewAhead};
+ghost use Rattle.session_core.specs.Commands.{command_kind};
 ghost use Rattle.session_core.specs.Front.{message_at};
 ghost use Rattle.session_core.specs.Reply.{HasReplySize};
 ghost use Rattle.session_core.specs.ReplyViews.{reply_view};
+ghost use Rattle.session_core.specs.Source.{TakesIn, FailsToTakeIn};
 
 use crate::ahead::{Ahead, Handed, MOST_AHEAD};
 use crate::command_kind::CommandKind;
@@ -15,7 +16,8 @@ use crate::inbox::Inbox;
 use crate::message::Message;
 use crate::reply::{Reply, reply_to};
 use crate::service::Service;
-use std::alloc::{AllocError, Global};
+use crate::source::Source;
+use std::alloc::Global;
 
 /// A service, and the input for it that is not answered yet. At the end of the session the service
 /// is taken out again.
@@ -41,14 +43,17 @@ impl<S: Service> Session<S> {
         }
     }
 
-    /// Takes the next piece of input. Where memory is refused, nothing changes.
-    pub(crate) fn feed(&mut self, piece: &[u8]) -> Result<(), AllocError>
+    /// Reads once, takes in what was read as the next piece of input, and returns the number of
+    /// bytes that were read. The number is 0 at the end of the source only.
+    pub(crate) fn read_from<R: Source>(&mut self, reader: &mut R) -> Result<usize, FrameError>
         ensures service { self.new.service ≡ self.old.service }
         ensures ahead { self.new.ahead ≡ self.old.ahead }
-        ensures ok { OnOk result (self.new.inbox ≡ self.old.inbox ++ piece.now) }
-        ensures err { OnErr result (self.new.inbox ≡ self.old.inbox) }
+        ensures ok { IfOk result (λ n. TakesIn R.gives reader.old self.old.inbox n reader.new self.new.inbox) }
+        ensures end { IfOk result (λ n. n ≡ 0 → R.is_at_end reader.new) }
+        ensures err { IfErr result (λ e. FailsToTakeIn R.gives reader.old e reader.new) }
+        ensures same { OnErr result (self.new.inbox ≡ self.old.inbox) }
     {
-        self.inbox.take_in(piece)
+        self.inbox.read_from(reader)
     }
 
     /// Answers the message whose frame is whole at the front. Where no command is under way, the
@@ -63,28 +68,34 @@ impl<S: Service> Session<S> {
         ensures ahead { AreHandedIn S.is_for (S.state self.new.service) self.new.ahead.queue.items self.new.inbox }
         ensures few { LeavesFewAhead result self.new.ahead.queue.items }
     {
-        self.hand_in(alloc);
-        match self.ahead.pop() {
-            Some(first) => Ok(Some(self.settle(first))),
-            None => self.answer_front(alloc),
+        if let Some(first) = self.ahead.pop() {
+            return Ok(Some(self.settle(first)));
         }
+        let Some((message, len)) = self.inbox.front()? else {
+            return Ok(None);
+        };
+        if let Some(first) = hand_in(alloc, &mut self.service, message, len) {
+            self.hand_in_after(alloc, len);
+            return Ok(Some(self.settle(first)));
+        }
+        let reply = answer(alloc, &mut self.service, message);
+        self.inbox.advance(len);
+        Ok(Some(reply))
     }
 
-    /// Where no command is under way, hands in those whose frames are whole at the front: at most
-    /// `MOST_AHEAD`, up to the first message that the service does not take ahead.
-    fn hand_in(&mut self, alloc: Global)
-        requires ahead { AreHandedIn S.is_for (S.state self.old.service) self.old.ahead.queue.items self.old.inbox }
-        requires few { length self.old.ahead.queue.items ≤ MOST_AHEAD }
+    /// Hands in the commands whose frames are whole after this number of bytes, the frame of the
+    /// command that was handed in first: with that one at most `MOST_AHEAD`, up to the first
+    /// message that the service does not take ahead.
+    fn hand_in_after(&mut self, alloc: Global, len: usize)
+        requires within { len ≤ length self.old.inbox }
+        requires none { self.old.ahead.queue.items ≡ [] }
         ensures state { S.state self.new.service ≡ S.state self.old.service }
         ensures inbox { self.new.inbox ≡ self.old.inbox }
-        ensures ahead { AreHandedIn S.is_for (S.state self.new.service) self.new.ahead.queue.items self.new.inbox }
-        ensures few { length self.new.ahead.queue.items ≤ MOST_AHEAD }
+        ensures ahead { AreHandedIn S.is_for (S.state self.new.service) self.new.ahead.queue.items (drop len self.new.inbox) }
+        ensures few { length self.new.ahead.queue.items < MOST_AHEAD }
     {
-        if !self.ahead.is_empty() {
-            return;
-        }
-        let mut at = 0;
-        for _turn in 0..MOST_AHEAD {
+        let mut at = len;
+        for _turn in 1..MOST_AHEAD {
             let Some(handed) = self.hand_in_at(alloc, at) else {
                 return;
             };
@@ -105,13 +116,7 @@ impl<S: Service> Session<S> {
         let Ok(Some((message, len))) = self.inbox.front_after(at) else {
             return None;
         };
-        let kind = CommandKind::of(&message)?;
-        let under_way = self.service.hand_in(alloc, message)?;
-        Some(Handed {
-            kind,
-            len,
-            under_way,
-        })
+        hand_in(alloc, &mut self.service, message, len)
     }
 
     /// Answers the first command that was handed in. The others are still ahead.
@@ -132,20 +137,6 @@ impl<S: Service> Session<S> {
         reply_to(kind, answered)
     }
 
-    /// Lets the service answer the message whose frame is whole at the front, which was not handed
-    /// in.
-    fn answer_front(&mut self, alloc: Global) -> Result<Option<Reply>, FrameError>
-        ensures next { IsNextReply S.answers (S.state self.old.service) self.old.inbox (S.state self.new.service) self.new.inbox result }
-        ensures ahead { self.new.ahead ≡ self.old.ahead }
-    {
-        let Some((message, len)) = self.inbox.front()? else {
-            return Ok(None);
-        };
-        let reply = answer(alloc, &mut self.service, message);
-        self.inbox.advance(len);
-        Ok(Some(reply))
-    }
-
     /// Whether all input is answered.
     pub(crate) fn is_done(&self) -> bool
         ensures { (IsTrue result) ↔ (self.now.inbox ≡ []) }
@@ -164,6 +155,28 @@ impl<S: Service> Session<S> {
         } = self;
         service
     }
+}
+
+/// Hands in the command in a frame of this many bytes. `None` means that the message is no command,
+/// or that the service does not take it ahead.
+fn hand_in<S: Service>(
+    alloc: Global,
+    service: &mut S,
+    message: Message<&[u8]>,
+    len: usize,
+) -> Option<Handed<S::UnderWay>>
+    ensures of_kind { IfSome result (λ handed. command_kind (message_at message.entry) ≡ Some handed.kind) }
+    ensures len { IfSome result (λ handed. handed.len ≡ len) }
+    ensures known { IfSome result (λ handed. S.is_for (S.state service.new) handed.under_way (message_at message.entry)) }
+    ensures same { S.state service.new ≡ S.state service.old }
+{
+    let kind = CommandKind::of(&message)?;
+    let under_way = service.hand_in(alloc, message)?;
+    Some(Handed {
+        kind,
+        len,
+        under_way,
+    })
 }
 
 /// Answers one message.

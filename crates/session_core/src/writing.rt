@@ -8,12 +8,10 @@ ghost use Rattle.session_core.specs.Answered.{FailsToWrite, ReplyWriteFails};
 
 use crate::error::FrameError;
 use crate::kinds::{PURGED, REGISTERED, REMOVED};
-use crate::reply::{
-    Form, Reply, ack_frame, found_head, listed_head, refusal_frame, response_of, whole_frame,
-};
+use crate::reply::{Form, Reply, ack_frame, found_head, listed_head, refusal_frame, whole_frame};
 use crate::service::Listing;
 use crate::sink::Sink;
-use seg_core::{SegType, Segment};
+use seg_core::{SegType, Segment, write_response_of_type};
 use std::alloc::{AllocError, Global};
 use whole_writes::WriteFailed;
 
@@ -87,7 +85,7 @@ fn write_found<W: Sink>(
     ensures ok { OnOk result (Appends (W.contents writer.old) (W.contents writer.new) (reply_frame (Found kind segments.now))) }
     ensures err { IfErr result (FailsToWrite (W.contents writer.old) (W.contents writer.new) (reply_frame (Found kind segments.now))) }
 {
-    let Ok(response) = response_of(alloc, kind, segments) else {
+    let Ok(response) = write_response_of_type(alloc, kind, segments) else {
         return Err(FrameError::NoMemory);
     };
     write_both(writer, &found_head(response.len()), response.as_slice())
@@ -100,7 +98,7 @@ fn write_listed<W: Sink>(alloc: Global, writer: &mut W, listing: &Listing) -> Re
     ensures ok { OnOk result (Appends (W.contents writer.old) (W.contents writer.new) (reply_frame (Listed listing.now.more listing.now.kind listing.now.segments.items))) }
     ensures err { IfErr result (FailsToWrite (W.contents writer.old) (W.contents writer.new) (reply_frame (Listed listing.now.more listing.now.kind listing.now.segments.items))) }
 {
-    let Ok(response) = response_of(alloc, listing.kind, &listing.segments) else {
+    let Ok(response) = write_response_of_type(alloc, listing.kind, &listing.segments) else {
         return Err(FrameError::NoMemory);
     };
     let head = listed_head(listing.more, response.len());

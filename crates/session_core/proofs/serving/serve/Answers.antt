@@ -4,23 +4,15 @@ use Rattle.session_core.proofs.SessionLemmas.{ends_at_once, sent_for}
 use Rattle.session_core.proofs.Behind.{served_behind}
 use Rattle.session_core.proofs.serving.serve.Goals as goal
 
-pub returns-in_err-piece-clause-served : goal.returns-in_err-piece-clause-served
-returns-in_err-piece-clause-served g c =
-    let p = err_from_is_err_and c.from_residual.result c.from_residual.ensures.1 in
-    rw (p.1, p.2) (ends_at_once _ _ _ _ _ _ _ _ c.in_err-piece.ensures.err)
-
 pub returns-in_err-ahead-clause-served : goal.returns-in_err-ahead-clause-served
 returns-in_err-ahead-clause-served g c =
-    let p = err_from_is_err_and c.from_residual-in_err-ahead.result c.from_residual-in_err-ahead.ensures.1 in
+    let p = err_from_is_err_and c.from_residual.result c.from_residual.ensures.1 in
     rw (p.1, p.2) (ends_at_once _ _ _ _ _ _ _ _ c.in_err-ahead.ensures.err)
 
 pub returns-clause-served : goal.returns-clause-served
 returns-clause-served g c =
     let served = rw (c.new-session.ensures.service, ← c.into_service-service.ensures) at c.serve_session-served.ensures.served in
     served_behind _ _ _ _ _ _ _ _ _ _ _ _ (λ same. ap g.S.Service.state (search rules)) served
-
-pub returns-in_err-piece-clause-sent : goal.returns-in_err-piece-clause-sent
-returns-in_err-piece-clause-sent g c before = sent_for _ _ before
 
 pub returns-in_err-ahead-clause-sent : goal.returns-in_err-ahead-clause-sent
 returns-in_err-ahead-clause-sent g c before = sent_for _ _ before

@@ -1,10 +1,9 @@
-use Rattle.std.proofs.Common.{◌≡◌, [], length}
+use Rattle.std.proofs.Common.{◌≡◌, []}
 use Rattle.session_core.proofs.SessionLemmas.{SoFar}
 use Rattle.session_core.proofs.serving.serve_session.Given as goal
 
 abbrev pub invariant-loop-turn : goal.invariant-loop-turn
 invariant-loop-turn g l = record {
-  piece : length l.piece ≡ 65536;
   none : l.session.ahead.queue.items ≡ [];
   so_far : SoFar g.S.Service.answers g.R.Source.gives (g.S.Service.state l.fn.session.service) (g.S.Service.state l.session.service) l.fn.reader l.reader l.session.inbox
       (g.W.Sink.contents l.fn.writer) (g.W.Sink.contents l.writer) l.count l._turn;

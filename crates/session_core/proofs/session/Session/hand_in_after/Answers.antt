@@ -1,7 +1,7 @@
-use Rattle.std.proofs.Common.{◌≡◌, ℕ, ◌+◌, [], ◌∷◌, ◌++◌, length, sym, ap, ◌∙◌, arith}
+use Rattle.std.proofs.Common.{◌≡◌, [], ◌∷◌, ◌++◌, length, ap, ◌∙◌, arith}
 use Rattle.std.proofs.lemmas.List.{length-append}
 use Rattle.session_core.proofs.AheadLemmas.{frames_len, frames_len-push, handed_in-next, within}
-use Rattle.session_core.proofs.session.Session.hand_in.Goals as goal
+use Rattle.session_core.proofs.session.Session.hand_in_after.Goals as goal
 
 pub loop-turn-preserved : goal.loop-turn-preserved
 loop-turn-preserved g c =
@@ -12,8 +12,8 @@ loop-turn-preserved g c =
     record {
       state = c.hand_in_at.ensures.state ∙ c.loop-turn.invariant.state;
       inbox = c.hand_in_at.ensures.inbox ∙ c.loop-turn.invariant.inbox;
-      ahead = handed_in-next g.S.Service.is_for _ _ _ _ _ _ _ _ c.hand_in_at.ensures.state c.hand_in_at.ensures.inbox c.loop-turn.invariant.at_is pushed c.loop-turn.invariant.ahead one;
+      ahead = handed_in-next g.S.Service.is_for _ _ _ _ _ _ _ _ _ c.hand_in_at.ensures.state c.hand_in_at.ensures.inbox c.loop-turn.invariant.at_is pushed c.loop-turn.invariant.ahead one;
       count = omega (arith, ap length pushed, length-append hs (h ∷ []), c.loop-turn.invariant.count);
-      at_is = ap (λ (n : ℕ). n + h.len) c.loop-turn.invariant.at_is ∙ sym (frames_len-push hs h) ∙ ap frames_len (sym pushed);
+      at_is = omega (arith, c.loop-turn.invariant.at_is, frames_len-push hs h, ap frames_len pushed);
       within = within g.S.Service.is_for _ h c.hand_in_at.new.self.inbox c.loop-turn.at (omega (arith, ap length c.hand_in_at.ensures.inbox, c.loop-turn.invariant.within)) one;
     }

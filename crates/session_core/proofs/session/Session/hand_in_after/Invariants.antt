@@ -1,0 +1,14 @@
+use Rattle.std.proofs.Common.{◌≡◌, ◌+◌, ◌≤◌, length, drop}
+use Rattle.session_core.specs.Ahead.{AreHandedIn}
+use Rattle.session_core.proofs.AheadLemmas.{frames_len}
+use Rattle.session_core.proofs.session.Session.hand_in_after.Given as goal
+
+abbrev pub invariant-loop-turn : goal.invariant-loop-turn
+invariant-loop-turn g l = record {
+  state : g.S.Service.state l.self.service ≡ g.S.Service.state l.fn.self.service;
+  inbox : l.self.inbox ≡ l.fn.self.inbox;
+  ahead : AreHandedIn g.S.Service.is_for (g.S.Service.state l.self.service) l.self.ahead.queue.items (drop l.len l.self.inbox);
+  count : 1 + length l.self.ahead.queue.items ≡ l._turn;
+  at_is : l.at ≡ l.len + frames_len l.self.ahead.queue.items;
+  within : l.at ≤ length l.self.inbox;
+}
