@@ -6,14 +6,12 @@ use Rattle.std.proofs.Crossing.{crosses}
 use Rattle.atomic_table.proofs.shared.Seat.TheSendSync as seat
 use Rattle.atomic_table.proofs.shared.Shared.TheSendSync as shared
 use Rattle.atomic_table.proofs.send_lease.SendLease.TheSendSync as lease
-use Rattle.log_history.proofs.Sent.{history_send, past_send, past_sync}
 use Rattle.command_log.specs.declared.name.LogName.{Ghosts}
 use Rattle.command_log.specs.contracts.claims.Accepted as Accepted
 use Rattle.command_log.specs.contracts.claims.Logged as Logged
 use Rattle.command_log.specs.contracts.log.CommandLog as CommandLog
 use Rattle.command_log.specs.contracts.gathering.ClaimCollector as ClaimCollector
 use Rattle.command_log.specs.contracts.gathering.LoggedList as LoggedList
-use Rattle.command_log.specs.contracts.past.LogPast as LogPast
 
 module _ (N : RattleType) (l : Ghosts N.Denot) (n : IsSend N) where
   pub accepted_send : IsSend (Accepted.the_row N l)
@@ -26,15 +24,9 @@ module _ (N : RattleType) (l : Ghosts N.Denot) (n : IsSend N) where
   list_send = search (sendable, crosses, seat.the_send) depth 30 fits 20000
 
   pub log_send : IsSend (CommandLog.the_row N l)
-  log_send = search (sendable, crosses, history_send, seat.the_send, shared.the_send, shared.the_sync, lease.the_send, lease.the_sync) depth 60 fits 20000
-
-  pub past_is_send : IsSend (LogPast.the_row N l)
-  past_is_send = search (sendable, crosses, past_send) depth 30 fits 20000
+  log_send = search (sendable, crosses, seat.the_send, shared.the_send, shared.the_sync, lease.the_send, lease.the_sync) depth 60 fits 20000
 
 module _ (N : RattleType) (l : Ghosts N.Denot) (m : IsSync N) where
-  pub past_is_sync : IsSync (LogPast.the_row N l)
-  past_is_sync = search (sendable, crosses, past_sync) depth 30 fits 20000
-
   pub collector_sync : IsSync (ClaimCollector.the_row N l)
   collector_sync =
       recorded_sync _ _ _ (ClaimCollector.the_type N l).to_one (struct_sync (shape (ClaimCollector.the_type N l))

@@ -23,7 +23,7 @@ impl<B: LogName> Model for Accepted<B> {
 
     ghost view = { λ a. claim_in a.pass.me.0 };
 
-    ghost invariant = { λ a. (a.pass.table_id ≡ B.table.passes) × (a.pass.me ≡ (claim_view false (claim_in a.pass.me.0), [])) };
+    ghost invariant = { λ a. (a.pass.table_id ≡ B.table) × (a.pass.me ≡ (claim_view false (claim_in a.pass.me.0), [])) };
 }
 
 /// The claim that a command was accepted, at its index in the log, and is committed. A claim has no
@@ -43,13 +43,13 @@ impl<B: LogName> Model for Logged<B> {
 
     ghost view = { λ a. claim_in a.pass.me.0 };
 
-    ghost invariant = { λ a. (a.pass.table_id ≡ B.table.passes) × (a.pass.me ≡ (claim_view true (claim_in a.pass.me.0), [])) };
+    ghost invariant = { λ a. (a.pass.table_id ≡ B.table) × (a.pass.me ≡ (claim_view true (claim_in a.pass.me.0), [])) };
 }
 
 impl<B: LogName> Logged<B> {
     /// Takes the name off the claim.
     pub fn unnamed(self) -> UnnamedClaim
-        ensures { result ≡ record { table = B.table.passes; claim = self } }
+        ensures { result ≡ record { table = B.table; claim = self } }
     {
         let Logged { pass, name: _ } = self;
         UnnamedClaim { pass }

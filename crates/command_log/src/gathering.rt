@@ -30,7 +30,7 @@ impl<B: LogName> Model for LoggedList<B> {
 
     ghost view = { λ a. known_in a.pass.me.0 };
 
-    ghost invariant = { λ a. (a.pass.table_id ≡ B.table.passes) × (a.pass.me.1 ≡ []) };
+    ghost invariant = { λ a. (a.pass.table_id ≡ B.table) × (a.pass.me.1 ≡ []) };
 }
 
 /// Puts claims together, for any number of threads beside each other. No call waits or takes
@@ -40,7 +40,7 @@ pub struct ClaimCollector<B: LogName> {
     pub(crate) table: Arc<LogTable, Global>,
     pub(crate) name: PhantomData<B>,
     ghost one_word: { (arc_value table).shared.table_id.words ≡ 1 },
-    ghost of_name: { (arc_value table).shared.table_id ≡ B.table.passes },
+    ghost of_name: { (arc_value table).shared.table_id ≡ B.table },
 }
 
 impl<B: LogName> ClaimCollector<B> {

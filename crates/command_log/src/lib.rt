@@ -6,15 +6,13 @@
 //! `CommandLog::redeem` exchanges the claim of a committed command for one that also says that the
 //! command is committed. `CommandLog::prove_committed` says that the log has the command of such a
 //! claim at its index, among the committed ones. Claims are handed from thread to thread, any
-//! number of them may be dropped, and no call compares anything at run time. `CommandLog::past` returns
-//! the log as it is then, which any thread may copy; the log proves later that it begins with it.
+//! number of them may be dropped, and no call compares anything at run time.
 #![tactic(auto)]
 
 mod claims;
 mod gathering;
 mod log;
 mod name;
-mod past;
 mod rule;
 mod steps;
 mod unnamed;
@@ -23,6 +21,5 @@ pub use claims::{Accepted, Logged};
 pub use gathering::{ClaimCollector, LoggedList};
 pub use log::CommandLog;
 pub use name::LogName;
-pub use past::{LogPast, UnnamedPast};
 pub use rule::{Claim, CommitMoment, LogPass, LogRule, LogTable, LogView};
 pub use unnamed::{UnnamedClaim, UnnamedList, UnnamedLog};

@@ -2,13 +2,13 @@
 
 use std::marker::Brand;
 
-/// Names one log by the table of its passes and the book of its history. The call that makes a log picks the name, so no two logs have one
-/// name, and a claim of one log is refused by the types of another.
+/// Names one log by the table of its passes. The call that makes a log picks the name, so no two
+/// logs have one name, and a claim of one log is refused by the types of another.
 pub trait LogName {
-    ghost use Rattle.command_log.specs.Log.{LogId};
+    ghost use Rattle.atomic_table.specs.Seated.{TableId};
 
-    /// The log's table and book.
-    ghost table: { LogId };
+    /// The log's table.
+    ghost table: { TableId };
 }
 
 impl LogName for Brand {

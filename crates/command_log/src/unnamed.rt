@@ -5,14 +5,12 @@
 
 ghost use Rattle.std.specs.Prelude.{◌≡◌, IfOk};
 ghost use Rattle.std.specs.List.{AllByRecursion};
-ghost use Rattle.command_log.specs.Log.{empty_log, IsCommitted, WasOnce};
+ghost use Rattle.command_log.specs.Log.{empty_log, IsCommitted};
 
 use crate::gathering::ClaimCollector;
 use crate::name::LogName;
-use crate::past::UnnamedPast;
 use crate::rule::{LogPass, LogTable};
 use crate::steps;
-use log_history::LogHistory;
 use std::alloc::{AllocError, Global};
 use std::marker::{Model, PhantomData};
 use std::sync::Arc;
@@ -22,20 +20,19 @@ use std::sync::Arc;
 pub struct UnnamedLog {
     pub(crate) table: Arc<LogTable, Global>,
     pub(crate) owner: LogPass,
-    pub(crate) history: LogHistory,
 }
 
 impl Model for UnnamedLog {
     ghost use Rattle.std.specs.Prelude.{◌≡◌, ◌≤◌, length};
     ghost use Rattle.std.specs.Arc.{arc_value};
-    ghost use Rattle.command_log.specs.Log.{LogOfTable, moment_of};
+    ghost use Rattle.command_log.specs.Log.{LogOfTable};
     ghost use Rattle.command_log.specs.Passes.{log_in, IsOwner};
 
     ghost Value = { LogOfTable };
 
-    ghost view = { λ l. record { table = record { passes = (arc_value l.table).shared.table_id; history = l.history.book }; log = log_in l.owner.me.0 } };
+    ghost view = { λ l. record { table = (arc_value l.table).shared.table_id; log = log_in l.owner.me.0 } };
 
-    ghost invariant = { λ l. ((arc_value l.table).shared.table_id.words ≡ 1) × (l.owner.table_id ≡ (arc_value l.table).shared.table_id) × (l.history ≡ moment_of l.history.book (log_in l.owner.me.0)) × IsOwner l.owner.me.0 × (l.owner.me.0.committed ≤ length l.owner.me.0.commands) };
+    ghost invariant = { λ l. ((arc_value l.table).shared.table_id.words ≡ 1) × (l.owner.table_id ≡ (arc_value l.table).shared.table_id) × IsOwner l.owner.me.0 × (l.owner.me.0.committed ≤ length l.owner.me.0.commands) };
 }
 
 impl UnnamedLog {
@@ -46,17 +43,12 @@ impl UnnamedLog {
     {
         let (table, owner) = LogTable::of_words(alloc, &[0], &())?;
         let table = Arc::new(alloc, table)?;
-        let history = LogHistory::new()?;
-        Ok(UnnamedLog {
-            table,
-            owner,
-            history,
-        })
+        Ok(UnnamedLog { table, owner })
     }
 
     /// A collector of claims of this log. The call is refused where the log has 2^63 collectors.
     pub fn collector<B: LogName>(&self) -> Result<ClaimCollector<B>, AllocError>
-        requires { self.now.table.passes ≡ B.table.passes }
+        requires { self.now.table ≡ B.table }
     {
         Ok(ClaimCollector {
             table: Arc::try_clone(&self.table)?,
@@ -67,7 +59,7 @@ impl UnnamedLog {
     /// The command of a claim of this log is among the committed ones, at its index. The call
     /// compares nothing.
     pub fn prove_committed(&mut self, logged: UnnamedClaim)
-        requires { logged.table ≡ self.old.table.passes }
+        requires { logged.table ≡ self.old.table }
         ensures same { self.new ≡ self.old }
         ensures found { IsCommitted self.old.log logged.claim }
     {
@@ -75,20 +67,10 @@ impl UnnamedLog {
         steps::check_claim(&self.table, &mut self.owner, pass);
     }
 
-    /// The log begins with the commands of a past log of it, and no fewer of them are committed. The
-    /// call compares nothing.
-    pub fn prove_past(&mut self, past: &UnnamedPast)
-        requires { past.now.history ≡ self.old.table.history }
-        ensures same { self.new ≡ self.old }
-        ensures past { WasOnce self.old.log past.now.past }
-    {
-        self.history.prove_past(&past.past);
-    }
-
     /// The commands of all claims of a list of this log are among the committed ones, each at its
     /// index. The call compares nothing.
     pub fn prove_all(&mut self, list: &mut UnnamedList)
-        requires { list.old.table ≡ self.old.table.passes }
+        requires { list.old.table ≡ self.old.table }
         ensures same { (self.new ≡ self.old) × (list.new ≡ list.old) }
         ensures found { AllByRecursion (IsCommitted self.old.log) list.old.claims }
     {

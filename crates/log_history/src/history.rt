@@ -139,6 +139,18 @@ impl PastLog {
         let mut both = self.seen.again();
         both.learn(&other.seen);
     }
+
+    /// A past log that has what two past logs of one log have: each of them is a past log of it.
+    pub fn joined(&self, other: &PastLog) -> PastLog
+        requires { other.now.book ≡ self.now.book }
+        ensures book { result.book ≡ self.now.book }
+        ensures mine { IsPastOf self.now result }
+        ensures other { IsPastOf other.now result }
+    {
+        let mut seen = self.seen.again();
+        seen.learn(&other.seen);
+        PastLog { seen }
+    }
 }
 
 /// Makes a new right to append, which is not in use yet.

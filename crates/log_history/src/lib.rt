@@ -6,7 +6,7 @@
 //! bytes, can be copied from behind a shared reference, and goes to any thread. The owner of the log
 //! shows by `LogHistory::prove_past` that its log begins with the commands of a past log, and that
 //! no fewer of them are committed. Of two past logs one is no longer than the other and begins it,
-//! which `PastLog::compare` shows.
+//! which `PastLog::compare` shows, and `PastLog::joined` returns one that both are past logs of.
 #![tactic(auto)]
 
 mod history;
