@@ -182,6 +182,7 @@ module _ (old : StateView) (hidden : PrivateState) (has : IsState old hidden) (d
       known = has.shape.known;
       taken = has.shape.taken;
       owed = has.shape.owed;
+      paid = has.shape.paid;
       rests = has.shape.rests;
       load = has.shape.load;
       staged = has.shape.staged;
@@ -229,6 +230,7 @@ module _ (old : StateView) (hidden : PrivateState) (has : IsState old hidden) (d
         known = has.shape.known;
         taken = has.shape.taken;
         owed = has.shape.owed;
+        paid = has.shape.paid;
         rests = has.shape.rests;
         load = has.shape.load;
         staged = has.shape.staged;

@@ -135,6 +135,7 @@ module _ (old : StateView) (hidden : PrivateState) (has : IsState old hidden) wh
       known = has.shape.known;
       taken = has.shape.taken;
       owed = has.shape.owed;
+      paid = has.shape.paid;
       rests = has.shape.rests;
       load = has.shape.load;
       staged = has.shape.staged;
@@ -255,6 +256,7 @@ module _ (old : StateView) (hidden : PrivateState) (has : IsState old hidden) wh
             known = omega arith;
             taken = has.shape.taken;
             owed = has.shape.owed;
+            paid = has.shape.paid;
             rests = has.shape.rests;
             load = load_larger old.version latest has.shape.known old.geometry old.value.place old.gate (load_of (commit_state_of old)) has.shape.load;
             staged = has.shape.staged;

@@ -1,5 +1,5 @@
 -- The flusher's steps on a state.
-use Rattle.std.proofs.Common.{◌≡◌, ◌≢◌, inl, ℕ, ◌+◌, ◌*◌, ◌≤◌, Bool, true, false, List, length, Result, Ok, Err, refl, sym, ◌∙◌, ap, subst, arith}
+use Rattle.std.proofs.Common.{◌≡◌, ◌≢◌, ◌⊎◌, inl, inr, ℕ, ◌+◌, ◌*◌, ◌≤◌, Bool, true, false, List, [], length, Result, Ok, Err, refl, sym, ◌∙◌, ap, subst, arith}
 use Rattle.row_map.specs.Database.{RowView}
 use Rattle.path_db.specs.declared.command.Command.{Command}
 use Rattle.sector_dev.specs.Disk.{Disk, IsHonest}
@@ -23,6 +23,7 @@ use Rattle.group_core.specs.StepCalls.{DeviceCall, Write, StepCall}
 use Rattle.group_core.specs.StateView.{StateView}
 use Rattle.group_core.specs.Stops.{config_of, commit_state_of}
 use Rattle.group_core.specs.Steps.{TakesGroupTurn}
+use Rattle.group_core.specs.Ending.{IsDurableAt}
 use Rattle.group_core.specs.Invariant.{PrivateState, IsFollowerMade, StateInvariant, DeviceInvariant, IsState}
 use Rattle.group_core.proofs.Regions.{load_inside}
 use Rattle.group_core.proofs.Soundness.{sound_at_work, either_stays}
@@ -50,10 +51,19 @@ module _ (old : StateView) (hidden : PrivateState) (has : IsState old hidden) wh
     pub rests : flush ≡ Resting → old.flush ≡ Resting
     pub going : stopped ≡ false → old.stopped ≡ false
     pub follower : IsFollowerMade flush (limits_of old.version) old.geometry old.value.place old.gate old.pending old.taken old.following hidden.staged_next
+    pub paid : hidden.owed ≡ [] ⊎ IsDurableAt flush
 
   -- something is in flight
   in_flight : (phase : Flush) → old.flush ≡ phase → phase ≢ Resting → old.flush ≢ Resting
   in_flight phase turn other = subst (λ (p : Flush). p ≢ Resting) (sym turn) other
+
+  -- nothing is owed while what is in flight is not durable
+  pub none_owed : (phase : Flush) → old.flush ≡ phase → ¬ IsDurableAt phase → hidden.owed ≡ []
+  none_owed phase turn other = by (subst (λ (p : Flush). hidden.owed ≡ [] ⊎ IsDurableAt p) turn has.shape.paid)
+    where
+      by : hidden.owed ≡ [] ⊎ IsDurableAt phase → hidden.owed ≡ []
+      by (inl none) = none
+      by (inr durable) = absurd (other durable)
 
   -- what is staged ends within the store
   pub staged_inside : (sector : ℕ) (given : List ℕ) → old.flush ≡ Staged → sector ≡ journal_at old.geometry old.half + (old.gate + 1) → given ≡ hidden.staged
@@ -82,6 +92,7 @@ module _ (old : StateView) (hidden : PrivateState) (has : IsState old hidden) wh
       known = has.shape.known;
       taken = has.shape.taken;
       owed = has.shape.owed;
+      paid = later.paid;
       rests = λ rests. has.shape.rests (later.rests rests);
       load = has.shape.load;
       staged = λ staged. has.shape.staged (later.staged staged);
@@ -112,7 +123,7 @@ module _ (old : StateView) (hidden : PrivateState) (has : IsState old hidden) wh
   -- the value is spent, and no call is made
   pub value_spent : (group : Turn) → IsState (record old { group = group }) hidden
   value_spent group = record {
-    shape = flushed_shape old.disk old.flush group old.stopped (record { staged = λ is. is; rests = λ is. is; going = λ is. is; follower = has.shape.follower }) refl;
+    shape = flushed_shape old.disk old.flush group old.stopped (record { staged = λ is. is; rests = λ is. is; going = λ is. is; follower = has.shape.follower; paid = has.shape.paid }) refl;
     sound = λ honest. either_stays hidden.merge hidden.preparation old (record old { group = group })
         (λ with. record { sound = record { behind = with.sound.behind; held = with.sound.held; counts = with.sound.counts; fits = with.sound.fits }; streams = with.streams; prepared = with.prepared })
         (λ broken. record { stopped = broken.stopped; rests = broken.rests; ready = broken.ready; images = broken.images }) (has.sound honest);
@@ -128,12 +139,12 @@ module _ (old : StateView) (hidden : PrivateState) (has : IsState old hidden) wh
 
       pub load_written : {T : Type 0} (E : Type 0) (v : T) → WriteCall sector given (success E v) old.disk disk → IsState (flushed old disk Written old.group old.stopped) hidden
       load_written {T} E v call =
-          flushed_state disk Written old.group old.stopped (record { staged = λ _. in_flight Staged turn (λ (is : Staged ≡ Resting). cc); rests = λ (is : Written ≡ Resting). cc; going = λ is. is; follower = tt }) (in_flight Staged turn (λ (is : Staged ≡ Resting). cc)) call.keeps
+          flushed_state disk Written old.group old.stopped (record { staged = λ _. in_flight Staged turn (λ (is : Staged ≡ Resting). cc); rests = λ (is : Written ≡ Resting). cc; going = λ is. is; follower = tt; paid = inl (none_owed Staged turn (λ is. is)) }) (in_flight Staged turn (λ (is : Staged ≡ Resting). cc)) call.keeps
           (λ sound honest. held_while_load_is_written T E (List RowView) Command (config_of old) (commit_state_of old) sound.behind (success E v) old.disk disk turn (call_so (success E v) call) honest sound.held)
 
       pub load_not_written : {E : Type 0} (T : Type 0) (e : E) (group : Turn) (stopped : Bool) → stopped ≡ true → WriteCall sector given (failure T e) old.disk disk → IsState (flushed old disk old.flush group stopped) hidden
       load_not_written {E} T e group stopped stops call =
-          flushed_state disk old.flush group stopped (record { staged = λ is. is; rests = λ is. is; going = λ (is : stopped ≡ false). cc; follower = has.shape.follower }) (in_flight Staged turn (λ (is : Staged ≡ Resting). cc)) call.keeps
+          flushed_state disk old.flush group stopped (record { staged = λ is. is; rests = λ is. is; going = λ (is : stopped ≡ false). cc; follower = has.shape.follower; paid = has.shape.paid }) (in_flight Staged turn (λ (is : Staged ≡ Resting). cc)) call.keeps
           (λ sound honest. subst (λ (p : Flush). IsHeldBy (config_of old) (held.flushed (commit_state_of old) p) sound.behind disk.history.now) (sym turn)
           (held_while_load_is_written T E (List RowView) Command (config_of old) (commit_state_of old) sound.behind (failure T e) old.disk disk turn (call_so (failure T e) call) honest sound.held))
 
@@ -144,34 +155,34 @@ module _ (old : StateView) (hidden : PrivateState) (has : IsState old hidden) wh
 
       pub gate_opened : {T : Type 0} (E : Type 0) (v : T) → WriteCall sector given (success E v) old.disk disk → IsState (flushed old disk Opened old.group old.stopped) hidden
       gate_opened {T} E v call =
-          flushed_state disk Opened old.group old.stopped (record { staged = λ _. in_flight Stable turn (λ (is : Stable ≡ Resting). cc); rests = λ (is : Opened ≡ Resting). cc; going = λ is. is; follower = tt }) (in_flight Stable turn (λ (is : Stable ≡ Resting). cc)) call.keeps
+          flushed_state disk Opened old.group old.stopped (record { staged = λ _. in_flight Stable turn (λ (is : Stable ≡ Resting). cc); rests = λ (is : Opened ≡ Resting). cc; going = λ is. is; follower = tt; paid = inl (none_owed Stable turn (λ is. is)) }) (in_flight Stable turn (λ (is : Stable ≡ Resting). cc)) call.keeps
           (λ sound honest. held_while_gate_is_opened T E (List RowView) Command (config_of old) (commit_state_of old) sound.behind (success E v) old.disk disk turn (gate_so (success E v) call) honest sound.held)
 
       pub gate_doubtful : {E : Type 0} (T : Type 0) (e : E) (group : Turn) (stopped : Bool) → stopped ≡ true → WriteCall sector given (failure T e) old.disk disk → IsState (flushed old disk Doubtful group stopped) hidden
       gate_doubtful {E} T e group stopped stops call =
-          flushed_state disk Doubtful group stopped (record { staged = λ _. in_flight Stable turn (λ (is : Stable ≡ Resting). cc); rests = λ (is : Doubtful ≡ Resting). cc; going = λ (is : stopped ≡ false). cc; follower = tt }) (in_flight Stable turn (λ (is : Stable ≡ Resting). cc)) call.keeps
+          flushed_state disk Doubtful group stopped (record { staged = λ _. in_flight Stable turn (λ (is : Stable ≡ Resting). cc); rests = λ (is : Doubtful ≡ Resting). cc; going = λ (is : stopped ≡ false). cc; follower = tt; paid = inl (none_owed Stable turn (λ is. is)) }) (in_flight Stable turn (λ (is : Stable ≡ Resting). cc)) call.keeps
           (λ sound honest. held_while_gate_is_opened T E (List RowView) Command (config_of old) (commit_state_of old) sound.behind (failure T e) old.disk disk turn (gate_so (failure T e) call) honest sound.held)
 
   module _ (disk : Disk) where
     pub load_synced : {T : Type 0} (E : Type 0) (v : T) → old.flush ≡ Written → SyncCall (success E v) old.disk disk → IsState (flushed old disk Stable old.group old.stopped) hidden
     load_synced {T} E v turn call =
-        flushed_state disk Stable old.group old.stopped (record { staged = λ _. in_flight Written turn (λ (is : Written ≡ Resting). cc); rests = λ (is : Stable ≡ Resting). cc; going = λ is. is; follower = tt }) (in_flight Written turn (λ (is : Written ≡ Resting). cc)) call.keeps
+        flushed_state disk Stable old.group old.stopped (record { staged = λ _. in_flight Written turn (λ (is : Written ≡ Resting). cc); rests = λ (is : Stable ≡ Resting). cc; going = λ is. is; follower = tt; paid = inl (none_owed Written turn (λ is. is)) }) (in_flight Written turn (λ (is : Written ≡ Resting). cc)) call.keeps
         (λ sound honest. held_while_load_is_synced T E (List RowView) Command (config_of old) (commit_state_of old) sound.behind (success E v) old.disk disk turn call honest sound.held)
 
     pub gate_synced : {T : Type 0} (E : Type 0) (v : T) → old.flush ≡ Opened → SyncCall (success E v) old.disk disk → IsState (flushed old disk Durable old.group old.stopped) hidden
     gate_synced {T} E v turn call =
-        flushed_state disk Durable old.group old.stopped (record { staged = λ _. in_flight Opened turn (λ (is : Opened ≡ Resting). cc); rests = λ (is : Durable ≡ Resting). cc; going = λ is. is; follower = tt }) (in_flight Opened turn (λ (is : Opened ≡ Resting). cc)) call.keeps
+        flushed_state disk Durable old.group old.stopped (record { staged = λ _. in_flight Opened turn (λ (is : Opened ≡ Resting). cc); rests = λ (is : Durable ≡ Resting). cc; going = λ is. is; follower = tt; paid = inl (none_owed Opened turn (λ is. is)) }) (in_flight Opened turn (λ (is : Opened ≡ Resting). cc)) call.keeps
         (λ sound honest. held_while_gate_is_synced T E (List RowView) Command (config_of old) (commit_state_of old) sound.behind (success E v) old.disk disk turn call honest sound.held)
 
     pub load_not_synced : {E : Type 0} (T : Type 0) (e : E) (group : Turn) (stopped : Bool) → stopped ≡ true → old.flush ≡ Written → SyncCall (failure T e) old.disk disk → IsState (flushed old disk old.flush group stopped) hidden
     load_not_synced {E} T e group stopped stops turn call =
-        flushed_state disk old.flush group stopped (record { staged = λ is. is; rests = λ is. is; going = λ (is : stopped ≡ false). cc; follower = has.shape.follower }) (in_flight Written turn (λ (is : Written ≡ Resting). cc)) call.keeps
+        flushed_state disk old.flush group stopped (record { staged = λ is. is; rests = λ is. is; going = λ (is : stopped ≡ false). cc; follower = has.shape.follower; paid = has.shape.paid }) (in_flight Written turn (λ (is : Written ≡ Resting). cc)) call.keeps
         (λ sound honest. subst (λ (p : Flush). IsHeldBy (config_of old) (held.flushed (commit_state_of old) p) sound.behind disk.history.now) (sym turn)
         (held_while_load_is_synced T E (List RowView) Command (config_of old) (commit_state_of old) sound.behind (failure T e) old.disk disk turn call honest sound.held))
 
     pub gate_not_synced : {E : Type 0} (T : Type 0) (e : E) (group : Turn) (stopped : Bool) → stopped ≡ true → old.flush ≡ Opened → SyncCall (failure T e) old.disk disk → IsState (flushed old disk old.flush group stopped) hidden
     gate_not_synced {E} T e group stopped stops turn call =
-        flushed_state disk old.flush group stopped (record { staged = λ is. is; rests = λ is. is; going = λ (is : stopped ≡ false). cc; follower = has.shape.follower }) (in_flight Opened turn (λ (is : Opened ≡ Resting). cc)) call.keeps
+        flushed_state disk old.flush group stopped (record { staged = λ is. is; rests = λ is. is; going = λ (is : stopped ≡ false). cc; follower = has.shape.follower; paid = has.shape.paid }) (in_flight Opened turn (λ (is : Opened ≡ Resting). cc)) call.keeps
         (λ sound honest. subst (λ (p : Flush). IsHeldBy (config_of old) (held.flushed (commit_state_of old) p) sound.behind disk.history.now) (sym turn)
         (held_while_gate_is_synced T E (List RowView) Command (config_of old) (commit_state_of old) sound.behind (failure T e) old.disk disk turn call honest sound.held))
 

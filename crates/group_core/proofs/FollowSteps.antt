@@ -1,5 +1,5 @@
 -- A group that follows the one in flight, on a state.
-use Rattle.std.proofs.Common.{◌≡◌, ◌≢◌, inl, ℕ, ◌+◌, ◌-◌, ◌*◌, ◌/◌, ◌≤◌, Bool, true, false, List, [], length, take, drop, Result, refl, sym, ◌∙◌, ap, subst, arith, length-take, length-drop}
+use Rattle.std.proofs.Common.{◌≡◌, ◌≢◌, inl, ℕ, ◌+◌, ◌-◌, ◌*◌, ◌/◌, ◌≤◌, Bool, true, false, List, [], ◌++◌, length, take, drop, Result, refl, sym, ◌∙◌, ap, subst, arith, length-take, length-drop}
 use Rattle.std.proofs.lemmas.List.{take_all}
 use Rattle.row_map.specs.Database.{RowView}
 use Rattle.path_db.specs.declared.command.Command.{Command}
@@ -33,7 +33,7 @@ use Rattle.group_core.specs.Invariant.{PrivateState, HasFollowerBytes, IsFollowe
 use Rattle.group_core.proofs.Soundness.{sound_at_work}
 use Rattle.group_core.proofs.Regions.{load_inside}
 use Rattle.group_core.proofs.KeptOutcomes.{take_more, committed_kept}
-use Rattle.group_core.proofs.FlushSteps.{success, failure, flushed, flushed_state}
+use Rattle.group_core.proofs.FlushSteps.{success, failure, flushed, flushed_state, none_owed}
 use Rattle.group_core.proofs.Publish.{load_some, take_drop, all_drop}
 use Rattle.group_core.proofs.Stage.{pending_allowed, all_take}
 
@@ -49,6 +49,7 @@ later_front_so taken n list given same =
 -- what publishing shows, and how it changes the bytes
 record Shown : Type 0 where
   value : StoreValue (List RowView)
+  list : List Command
   pending : List Command
   gate : ℕ
   place : ℕ
@@ -130,12 +131,12 @@ module _ (old : StateView) (hidden : PrivateState) (has : IsState old hidden) wh
 
       pub follower_written : {T : Type 0} (E : Type 0) (v : T) → WriteCall sector given (success E v) old.disk disk → IsState (flushed old disk Followed old.group old.stopped) hidden
       follower_written {T} E v call =
-          flushed_state old hidden has disk Followed old.group old.stopped (record { staged = λ _. busy; rests = λ (is : Followed ≡ Resting). cc; going = λ is. is; follower = made_now }) busy call.keeps
+          flushed_state old hidden has disk Followed old.group old.stopped (record { staged = λ _. busy; rests = λ (is : Followed ≡ Resting). cc; going = λ is. is; follower = made_now; paid = inl (none_owed old hidden has Following turn (λ is. is)) }) busy call.keeps
           (λ sound honest. held_while_follower_is_written T E (List RowView) Command (config_of old) (commit_state_of old) sound.behind (success E v) old.disk disk turn (call_so (success E v) call) honest sound.held)
 
       pub follower_not_written : {E : Type 0} (T : Type 0) (e : E) (group : Turn) (stopped : Bool) → stopped ≡ true → WriteCall sector given (failure T e) old.disk disk → IsState (flushed old disk old.flush group stopped) hidden
       follower_not_written {E} T e group stopped stops call =
-          flushed_state old hidden has disk old.flush group stopped (record { staged = λ is. is; rests = λ is. is; going = λ (is : stopped ≡ false). cc; follower = has.shape.follower }) busy call.keeps
+          flushed_state old hidden has disk old.flush group stopped (record { staged = λ is. is; rests = λ is. is; going = λ (is : stopped ≡ false). cc; follower = has.shape.follower; paid = has.shape.paid }) busy call.keeps
           (λ sound honest. subst (λ (p : Flush). IsHeldBy (config_of old) (held.flushed (commit_state_of old) p) sound.behind disk.history.now) (sym turn)
           (held_while_follower_is_written T E (List RowView) Command (config_of old) (commit_state_of old) sound.behind (failure T e) old.disk disk turn (call_so (failure T e) call) honest sound.held))
 
@@ -146,12 +147,12 @@ module _ (old : StateView) (hidden : PrivateState) (has : IsState old hidden) wh
     pub followed_synced : {T : Type 0} (E : Type 0) (v : T) → SyncCall (success E v) old.disk disk → IsState (flushed old disk DurableFollowed old.group old.stopped) hidden
     followed_synced {T} E v call =
         flushed_state old hidden has disk DurableFollowed old.group old.stopped
-        (record { staged = λ _. synced_busy; rests = λ (is : DurableFollowed ≡ Resting). cc; going = λ is. is; follower = made_at Followed turn }) synced_busy call.keeps
+        (record { staged = λ _. synced_busy; rests = λ (is : DurableFollowed ≡ Resting). cc; going = λ is. is; follower = made_at Followed turn; paid = inl (none_owed old hidden has Followed turn (λ is. is)) }) synced_busy call.keeps
         (λ sound honest. held_while_followed_is_synced T E (List RowView) Command (config_of old) (commit_state_of old) sound.behind (success E v) old.disk disk turn call honest sound.held)
 
     pub followed_not_synced : {E : Type 0} (T : Type 0) (e : E) (group : Turn) (stopped : Bool) → stopped ≡ true → SyncCall (failure T e) old.disk disk → IsState (flushed old disk old.flush group stopped) hidden
     followed_not_synced {E} T e group stopped stops call =
-        flushed_state old hidden has disk old.flush group stopped (record { staged = λ is. is; rests = λ is. is; going = λ (is : stopped ≡ false). cc; follower = has.shape.follower }) synced_busy call.keeps
+        flushed_state old hidden has disk old.flush group stopped (record { staged = λ is. is; rests = λ is. is; going = λ (is : stopped ≡ false). cc; follower = has.shape.follower; paid = has.shape.paid }) synced_busy call.keeps
         (λ sound honest. subst (λ (p : Flush). IsHeldBy (config_of old) (held.flushed (commit_state_of old) p) sound.behind disk.history.now) (sym turn)
         (held_while_followed_is_synced T E (List RowView) Command (config_of old) (commit_state_of old) sound.behind (failure T e) old.disk disk turn call honest sound.held))
 
@@ -190,6 +191,7 @@ module _ (old : StateView) (hidden : PrivateState) (has : IsState old hidden) wh
         known = has.shape.known;
         taken = has.shape.taken;
         owed = has.shape.owed;
+        paid = inl (none_owed old hidden has Opened may.turn.at (λ is. is));
         rests = λ (is : Following ≡ Resting). cc;
         load = has.shape.load;
         staged = λ _. has.shape.staged opened;
@@ -289,6 +291,7 @@ module _ (old : StateView) (hidden : PrivateState) (has : IsState old hidden) wh
         known = has.shape.known;
         taken = omega (arith, following_now.inside, length-drop old.taken old.pending);
         owed = refl;
+        paid = inl refl;
         rests = λ (is : Stable ≡ Resting). cc;
         load = subst (FitsLoad (limits_of old.version) old.geometry (old.value.place + length front) (next_gate old)) (sym next_is) following_now.load;
         staged = λ _. following_now.made ∙ ap (load_bytes command_format (old.value.place + length front)) (sym next_is);
@@ -316,6 +319,7 @@ module _ (old : StateView) (hidden : PrivateState) (has : IsState old hidden) wh
     abbrev shown_exactly : Shown
     shown_exactly = record {
       value = value_after store_format old.value front;
+      list = old.shown ++ front;
       pending = later_commands old;
       gate = next_gate old;
       place = hidden.place + old.taken;
@@ -325,19 +329,21 @@ module _ (old : StateView) (hidden : PrivateState) (has : IsState old hidden) wh
     }
 
     abbrev shown_view : Shown → StateView
-    shown_view shown = record old { value = shown.value; pending = shown.pending; taken = old.following; following = 0; flush = Stable; gate = shown.gate }
+    shown_view shown = record old { value = shown.value; shown = shown.list; pending = shown.pending; taken = old.following; following = 0; flush = Stable; gate = shown.gate }
 
     abbrev shown_hidden : Shown → PrivateState
     shown_hidden shown = record hidden { place = shown.place; owed = shown.owed; staged = shown.staged; staged_next = shown.staged_next }
 
-    pub followed_state_so : (value : StoreValue (List RowView)) (pending owed : List Command) (staged staged_next : List ℕ) (gate place : ℕ) → value ≡ value_after store_format old.value front → pending ≡ later_commands old
+    pub followed_state_so : (value : StoreValue (List RowView)) (list pending owed : List Command) (staged staged_next : List ℕ) (gate place : ℕ) → value ≡ value_after store_format old.value front → list ≡ old.shown ++ front
+        → pending ≡ later_commands old
         → gate ≡ old.gate + length hidden.staged / 512 → place ≡ hidden.place + old.taken → owed ≡ [] → staged ≡ hidden.staged_next → staged_next ≡ hidden.staged
-        → IsState (shown_view (record { value = value; pending = pending; gate = gate; place = place; owed = owed; staged = staged; staged_next = staged_next }))
-        (shown_hidden (record { value = value; pending = pending; gate = gate; place = place; owed = owed; staged = staged; staged_next = staged_next }))
-    followed_state_so value pending owed staged staged_next gate place value_is pending_is gate_is place_is owed_is staged_is next_staged_is =
+        → IsState (shown_view (record { value = value; list = list; pending = pending; gate = gate; place = place; owed = owed; staged = staged; staged_next = staged_next }))
+        (shown_hidden (record { value = value; list = list; pending = pending; gate = gate; place = place; owed = owed; staged = staged; staged_next = staged_next }))
+    followed_state_so value list pending owed staged staged_next gate place value_is list_is pending_is gate_is place_is owed_is staged_is next_staged_is =
         subst (λ (shown : Shown). IsState (shown_view shown) (shown_hidden shown))
         (λ i. record {
           value = sym value_is i;
+          list = sym list_is i;
           pending = sym pending_is i;
           gate = sym gate_so i;
           place = sym place_is i;

@@ -30,6 +30,7 @@ use Rattle.group_core.specs.StateView.{StateView}
 use Rattle.group_core.specs.Stops.{config_of, commit_state_of}
 use Rattle.group_core.specs.Steps.{spent}
 use Rattle.group_core.specs.Publishing.{group_committed}
+use Rattle.group_core.specs.Showing.{IsFrontOf}
 use Rattle.group_core.specs.Invariant.{PrivateState, FitsLoad, MayBePending, FitArea, CountsAt, StateInvariant, DeviceInvariant, IsState}
 use Rattle.group_core.proofs.Soundness.{sound_at_work}
 use Rattle.group_core.proofs.KeptOutcomes.{take_more, committed_kept}
@@ -49,9 +50,15 @@ pub load_some : (taken : ℕ) (pending : List Command) → 1 ≤ taken → load_
 load_some zero pending some = absurd (omega arith)
 load_some (suc n) pending some = refl
 
+-- behind no command nothing is owed
+pub owed_none : (owed commands : List Command) → IsFrontOf owed (take 0 commands) → owed ≡ []
+owed_none [] commands is = refl
+owed_none (command ∷ owed) commands is = absurd cc
+
 -- what a published group brings
 record Shown : Type 0 where
   value : StoreValue (List RowView)
+  list : List Command
   pending : List Command
   gate : ℕ
   place : ℕ
@@ -82,11 +89,12 @@ module _ (old : StateView) (hidden : PrivateState) (has : IsState old hidden) (t
     gate_inside = omega (arith, sectors_staged, fits_load.1)
 
     abbrev published : Shown → StateView
-    published shown = record old { value = shown.value; pending = shown.pending; taken = 0; flush = Resting; group = group; gate = shown.gate }
+    published shown = record old { value = shown.value; shown = shown.list; pending = shown.pending; taken = 0; flush = Resting; group = group; gate = shown.gate }
 
     abbrev shown_exactly : Shown
     shown_exactly = record {
       value = value_after store_format old.value front;
+      list = old.shown ++ front;
       pending = rest;
       gate = gate_behind command_format old.gate front;
       place = hidden.place + old.taken;
@@ -115,6 +123,7 @@ module _ (old : StateView) (hidden : PrivateState) (has : IsState old hidden) (t
       known = has.shape.known;
       taken = omega arith;
       owed = refl;
+      paid = inl refl;
       rests = λ _. refl;
       load = tt;
       staged = λ (other : Resting ≢ Resting). absurd (other refl);
@@ -143,24 +152,25 @@ module _ (old : StateView) (hidden : PrivateState) (has : IsState old hidden) (t
           });
     }
 
-    pub group_state_so : (value : StoreValue (List RowView)) (pending owed : List Command) (gate place : ℕ) → value ≡ value_after store_format old.value front → pending ≡ rest
+    pub group_state_so : (value : StoreValue (List RowView)) (list pending owed : List Command) (gate place : ℕ) → value ≡ value_after store_format old.value front → list ≡ old.shown ++ front → pending ≡ rest
         → gate ≡ old.gate + length hidden.staged / 512 → place ≡ hidden.place + old.taken → owed ≡ []
-        → IsState (published (record { value = value; pending = pending; gate = gate; place = place })) (record hidden { place = place; owed = owed })
-    group_state_so value pending owed gate place value_is pending_is gate_is place_is owed_is =
-        subst (λ (list : List Command). IsState (published (record { value = value; pending = pending; gate = gate; place = place })) (record hidden { place = place; owed = list }))
+        → IsState (published (record { value = value; list = list; pending = pending; gate = gate; place = place })) (record hidden { place = place; owed = owed })
+    group_state_so value list pending owed gate place value_is list_is pending_is gate_is place_is owed_is =
+        subst (λ (l : List Command). IsState (published (record { value = value; list = list; pending = pending; gate = gate; place = place })) (record hidden { place = place; owed = l }))
         (sym owed_is)
         (subst (λ (shown : Shown). IsState (published shown) (record hidden { place = shown.place; owed = [] }))
-        (λ i. record { value = sym value_is i; pending = sym pending_is i; gate = sym gate_so i; place = sym place_is i }) group_state)
+        (λ i. record { value = sym value_is i; list = sym list_is i; pending = sym pending_is i; gate = sym gate_so i; place = sym place_is i }) group_state)
       where
         gate_so : gate ≡ gate_behind command_format old.gate front
         gate_so = omega (arith, gate_is, sectors_staged)
 
     -- which is what the definition says
-    pub published_is : (value : StoreValue (List RowView)) (pending : List Command) (gate : ℕ) → value ≡ value_after store_format old.value front → pending ≡ rest
+    pub published_is : (value : StoreValue (List RowView)) (list pending : List Command) (gate : ℕ) → value ≡ value_after store_format old.value front → list ≡ old.shown ++ front → pending ≡ rest
         → gate ≡ old.gate + length hidden.staged / 512
-        → record old { value = value; pending = pending; taken = 0; flush = Resting; group = spent old.group; gate = gate } ≡ group_committed old
-    published_is value pending gate value_is pending_is gate_is = λ i. record old {
+        → record old { value = value; shown = list; pending = pending; taken = 0; flush = Resting; group = spent old.group; gate = gate } ≡ group_committed old
+    published_is value list pending gate value_is list_is pending_is gate_is = λ i. record old {
       value = value_is i;
+      shown = list_is i;
       pending = pending_is i;
       taken = 0;
       flush = Resting;
@@ -226,6 +236,7 @@ module _ (old : StateView) (hidden : PrivateState) (has : IsState old hidden) (t
         known = has.shape.known;
         taken = has.shape.taken;
         owed = has.shape.owed;
+        paid = inl (owed_none hidden.owed old.pending (subst (λ (n : ℕ). IsFrontOf hidden.owed (take n old.pending)) none has.shape.owed));
         rests = λ _. none;
         load = subst (FitsLoad (limits_of old.version) old.geometry old.value.place 0) (sym load_none) tt;
         staged = λ (not_resting : Resting ≢ Resting). absurd (not_resting refl);

@@ -22,7 +22,7 @@ use Rattle.group_core.specs.Staging.{FitOneGroup, IsLongestFront, MayStage, Take
 use Rattle.group_core.specs.Invariant.{PrivateState, FitsLoad, MayBePending, StateInvariant, DeviceInvariant, IsState}
 use Rattle.group_core.specs.Showing.{IsFrontOf}
 use Rattle.group_core.proofs.Soundness.{sound_going}
-use Rattle.group_core.proofs.Publish.{load_some}
+use Rattle.group_core.proofs.Publish.{load_some, owed_none}
 
 -- ---- the longest front
 
@@ -90,11 +90,6 @@ pub takes_seal : (view : StateView) (taken : ℕ) → Takes view taken → taken
 takes_seal view taken (inl takes) none = absurd (omega (arith, takes.some, none))
 takes_seal view taken (inr takes) none = takes
 
--- behind no command nothing is owed
-owed_none : (owed commands : List Command) → IsFrontOf owed (take 0 commands) → owed ≡ []
-owed_none [] commands is = refl
-owed_none (command ∷ owed) commands is = absurd cc
-
 module _ (old : StateView) (hidden : PrivateState) (has : IsState old hidden) (may : MayStage old) where
   owed : hidden.owed ≡ []
   owed = owed_none hidden.owed old.pending (subst (λ (n : ℕ). IsFrontOf hidden.owed (take n old.pending)) (has.shape.rests may.rests) has.shape.owed)
@@ -124,6 +119,7 @@ module _ (old : StateView) (hidden : PrivateState) (has : IsState old hidden) (m
       known = has.shape.known;
       taken = inside;
       owed = subst (λ (list : List Command). IsFrontOf list (take taken old.pending)) (sym owed) refl;
+      paid = inl owed;
       rests = λ (is : Staged ≡ Resting). cc;
       load = load;
       staged = λ _. same;

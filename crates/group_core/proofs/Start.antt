@@ -79,6 +79,7 @@ module _ (store : StoreView) (whole : IsStoreWhole store) (device : IsHonest sto
     known = whole.within.known;
     taken = omega arith;
     owed = refl;
+    paid = inl refl;
     rests = λ _. refl;
     load = tt;
     staged = λ (flying : Resting ≢ Resting). absurd (flying refl);

@@ -139,6 +139,7 @@ module _ (old : StateView) (hidden : PrivateState) (has : IsState old hidden) wh
       known = has.shape.known;
       taken = omega (arith, has.shape.taken, one_more);
       owed = subst (IsFrontOf hidden.owed) (sym (take-append-le old.taken old.pending (command ∷ []) has.shape.taken)) has.shape.owed;
+      paid = has.shape.paid;
       rests = has.shape.rests;
       load = subst (FitsLoad (limits_of old.version) old.geometry old.value.place old.gate) (sym load_is) has.shape.load;
       staged = λ flying. has.shape.staged flying ∙ ap (load_bytes command_format old.value.place) (sym load_is);

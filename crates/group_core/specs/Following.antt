@@ -1,5 +1,5 @@
 -- What a group that follows the group in flight does to a state.
-use Rattle.std.specs.Prelude.{◌≡◌, ℕ, ◌+◌, ◌≤◌, false, true, List, [], length, take, drop, Result, Ok, Err}
+use Rattle.std.specs.Prelude.{◌≡◌, ℕ, ◌+◌, ◌≤◌, false, true, List, [], ◌++◌, length, take, drop, Result, Ok, Err}
 use Rattle.store_layout.specs.Limits.{limits_of}
 use Rattle.store_layout.specs.Group.{group_sectors, JournalHasRoom}
 use Rattle.store_layout.specs.Journal.{gate_behind}
@@ -35,6 +35,7 @@ next_gate view = gate_behind command_format view.gate (take view.taken view.pend
 abbrev pub with_follower_in_flight : StateView → StateView
 with_follower_in_flight old = record old {
   value = value_after store_format old.value (take old.taken old.pending);
+  shown = old.shown ++ take old.taken old.pending;
   pending = later_commands old;
   taken = old.following;
   following = 0;

@@ -1,5 +1,5 @@
 -- The invariant of every state.
-use Rattle.std.specs.Prelude.{◌≡◌, ◌≢◌, ℕ, ◌+◌, ◌*◌, ◌^◌, ◌<◌, ◌≤◌, ◌⊎◌, true, false, List, length, take, drop, Option}
+use Rattle.std.specs.Prelude.{◌≡◌, ◌≢◌, ℕ, ◌+◌, ◌*◌, ◌^◌, ◌<◌, ◌≤◌, ◌⊎◌, true, false, List, [], length, take, drop, Option}
 use Rattle.std.specs.List.{AllByRecursion}
 use Rattle.byte_lists.specs.declared.format.TheConstants.{SECTOR}
 use Rattle.row_map.specs.Database.{RowView}
@@ -32,6 +32,7 @@ use Rattle.group_core.specs.Keeping.{KeepsOutcomes}
 use Rattle.group_core.specs.Merging.{HasMerge, IsUnderWay, Streams}
 use Rattle.group_core.specs.Preparing.{IsPreparedOf}
 use Rattle.group_core.specs.Showing.{IsFrontOf}
+use Rattle.group_core.specs.Ending.{IsDurableAt}
 
 -- The fields of a state that no clause sees.
 pub record PrivateState : Type 0 where
@@ -145,6 +146,8 @@ pub record StateInvariant (view : StateView) (hidden : PrivateState) : Type 0 wh
   pub taken : view.taken ≤ length view.pending
   -- What the showcase has is a front of what is in flight.
   pub owed : IsFrontOf hidden.owed (take view.taken view.pending)
+  -- It has something of it only where that is durable.
+  pub paid : hidden.owed ≡ [] ⊎ IsDurableAt view.flush
   -- No command is in flight while the flusher rests.
   pub rests : view.flush ≡ Resting → view.taken ≡ 0
   -- What is in flight may be after the tail's gate.

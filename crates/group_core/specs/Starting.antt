@@ -41,6 +41,7 @@ started store home stopped = record {
   geometry = store.geometry;
   home = home;
   value = value_of_store store;
+  shown = [];
   pending = [];
   kept = [];
   taken = 0;

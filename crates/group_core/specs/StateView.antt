@@ -23,6 +23,8 @@ pub record StateView : Type 0 where
   -- The rows that are committed, and the number of commands that are, which is the place of the
   -- first pending command.
   pub value : StoreValue (List RowView)
+  -- The commands that were committed since the state was made, in their order.
+  pub shown : List Command
   -- The commands that are accepted and not committed yet, in the order of their places.
   pub pending : List Command
   -- The outcome of each accepted command whose ticket is not redeemed yet, by the command's place.

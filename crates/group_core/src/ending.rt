@@ -2,9 +2,10 @@
 
 ghost use Rattle.sector_dev.specs.Disk.{IsHonest};
 ghost use Rattle.sector_dev.specs.Image.{EveryImage};
-ghost use Rattle.std.specs.Prelude.{◌≡◌, [], IfOk, OnOk};
+ghost use Rattle.std.specs.Prelude.{◌≡◌, [], IfOk, OnOk, take};
 ghost use Rattle.group_core.specs.Stops.{MayOpen, StepLeaves};
-ghost use Rattle.group_core.specs.Ending.{Abandons, HandsOut, HoldsStoreOf};
+ghost use Rattle.group_core.specs.Showing.{IsFrontOf};
+ghost use Rattle.group_core.specs.Ending.{Abandons, HandsOut, HoldsStoreOf, durable_of};
 
 use crate::showcase::Showcase;
 use crate::state::State;
@@ -51,6 +52,10 @@ impl<D: Device, S: Showcase> State<D, S> {
     pub fn into_parts(self) -> (D, S)
         ensures device { D.disk result.0 ≡ self.disk }
         ensures show { S.value result.1 ≡ self.value }
+        ensures list { S.list result.1 ≡ self.shown }
+
+        // Memory was refused to the showcase only for commands that are durable.
+        ensures owed { IsFrontOf (S.owed result.1) (take (durable_of self) self.pending) }
     {
         let State {
             alloc: _alloc,

@@ -31,6 +31,7 @@ impl<D: Device, S: Showcase> State<D, S> {
     /// room in a checkpoint area. The call takes no memory.
     pub fn new(alloc: Global, store: Store<D>, show: S, home: u64) -> State<D, S>
         requires shown { S.value show ≡ value_of_store store }
+        requires unshown { S.list show ≡ [] }
         requires paid { S.owed show ≡ [] }
         ensures started { IsStarted store home result }
         ensures left { IsHonest store.disk → EveryImage store.disk.history.now (MayOpen result) }

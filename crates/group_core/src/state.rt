@@ -88,6 +88,7 @@ impl<D: Device, S: Showcase> Model for State<D, S> {
       geometry = geometry_view s.geometry;
       home = s.home;
       value = S.value s.show;
+      shown = S.list s.show;
       pending = s.pending.items;
       kept = s.kept;
       taken = s.taken;
@@ -111,6 +112,7 @@ impl<D: Device, S: Showcase> Model for State<D, S> {
       geometry = geometry_view s.geometry;
       home = s.home;
       value = S.value s.show;
+      shown = S.list s.show;
       pending = s.pending.items;
       kept = s.kept;
       taken = s.taken;

@@ -18,6 +18,7 @@ invariant_of-result g c =
       geometry = c.geometry-geometry.ensures i;
       home = c.args.home;
       value = c.requires.shown i;
+      shown = c.requires.unshown i;
       pending = c.new.ensures.items i;
       kept = c.new-2.ensures i;
       taken = 0;
