@@ -2,6 +2,8 @@ pub mod LogCommits
 pub mod LogStops
 pub mod Receipts
 pub mod Moments
-pub mod Fronts
+pub mod LogFronts
 pub mod LogKeeps
 pub mod ClaimsKept
+pub mod LogEnds
+pub mod LooksKept

@@ -17,11 +17,11 @@ use Rattle.command_log.specs.Log.{Log, empty_log, log_with, with_committed, sinc
 use Rattle.logged_state.specs.LoggedView.{IsLogOf, moment_number}
 use Rattle.logged_state.specs.Left.{OpensToFrontOf}
 use Rattle.logged_state.specs.Kept.{IsKeptSince, IsKeptFrom, IsTied}
-use Rattle.logged_state.proofs.Fronts.{front_of_fewer, front_of_longer}
+use Rattle.logged_state.proofs.LogFronts.{front_of_fewer, front_of_longer}
 use Rattle.logged_state.proofs.LogStops.{opens_to_log}
 use Rattle.logged_state.proofs.Moments.{since_then, since_now, since_weaker, number_then}
 
-below_or_from : (k n : ℕ) → (k < n) ⊎ (n ≤ k)
+pub below_or_from : (k n : ℕ) → (k < n) ⊎ (n ≤ k)
 below_or_from k zero = inr (omega arith)
 below_or_from zero (suc n) = inl (omega arith)
 below_or_from (suc k) (suc n) = ⊎_elim (λ (below : k < n). inl (omega arith)) (λ (from : n ≤ k). inr (omega arith)) (below_or_from k n)
@@ -129,16 +129,17 @@ tied_new start opening view same is leaves = record {
 }
 
 -- the tie of a new log, and of one more accepted command
-pub log_new : (opening : StoreValue (List RowView)) (view : StateView) → view.value ≡ opening → view.pending ≡ [] → IsLogOf opening empty_log view
-log_new opening view value pending =
+pub log_new : (opening : StoreValue (List RowView)) (view : StateView) → view.value ≡ opening → view.shown ≡ [] → view.pending ≡ [] → IsLogOf opening empty_log view
+log_new opening view value shown pending =
     let same : opening.place ≡ opening.place + 0 = omega arith in
-    record { value = value ∙ (λ i. record { db = opening.db; place = same i }); pending = pending; inside = omega arith }
+    record { value = value ∙ (λ i. record { db = opening.db; place = same i }); shown = shown; pending = pending; inside = omega arith }
 
-pub log_pushed : (opening : StoreValue (List RowView)) (log : Log) (old new : StateView) (command : Command) → IsLogOf opening log old → new.value ≡ old.value → new.pending ≡ old.pending ++ command ∷ [] → IsLogOf opening (log_with command log) new
-log_pushed opening log old new command h value pending =
+pub log_pushed : (opening : StoreValue (List RowView)) (log : Log) (old new : StateView) (command : Command) → IsLogOf opening log old → new.value ≡ old.value → new.shown ≡ old.shown → new.pending ≡ old.pending ++ command ∷ [] → IsLogOf opening (log_with command log) new
+log_pushed opening log old new command h value shown pending =
     let inside = h.inside in
     record {
       value = value ∙ h.value ∙ ap (λ (l : List Command). value_after store_format opening l) (sym (take-append-le log.committed log.commands (command ∷ []) inside));
+      shown = shown ∙ h.shown ∙ sym (take-append-le log.committed log.commands (command ∷ []) inside);
       pending = pending ∙ ap (λ (l : List Command). l ++ command ∷ []) h.pending ∙ sym (drop-append-le log.committed log.commands (command ∷ []) inside);
       inside = omega (arith, inside, length-append log.commands (command ∷ []));
     }

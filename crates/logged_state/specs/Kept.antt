@@ -1,6 +1,8 @@
 -- What a stop at any moment leaves, by the log.
-use Rattle.std.specs.Prelude.{◌≡◌, ℕ, zero, suc, ◌+◌, ◌<◌, ◌≤◌, List, length}
+use Rattle.std.specs.Prelude.{◌≡◌, ℕ, zero, suc, ◌+◌, ◌<◌, ◌≤◌, List, length, take}
 use Rattle.std.specs.List.{AllByRecursion}
+use mathlib.Core.List.{IsPrefix}
+use Rattle.path_db.specs.declared.command.Command.{Command}
 use Rattle.row_map.specs.Database.{RowView}
 use Rattle.sector_dev.specs.Disk.{History, Disk, IsHonest}
 use Rattle.sector_dev.specs.Image.{EveryImageSince}
@@ -28,6 +30,17 @@ AllKept opening log history = (index : ℕ) → index < log.committed → IsKept
 abbrev pub IsFrontKept : StoreValue (List RowView) → Log → History → ℕ → Type 0
 IsFrontKept opening log history zero = Unit {0}
 IsFrontKept opening log history (suc index) = IsKeptSince opening log history index
+
+-- What was shown after these commands: they are the first committed ones of the log, and from the
+-- moment at which the last of them was committed, each image opens to a front of the log that has
+-- them.
+pub record IsShownKept (opening : StoreValue (List RowView)) (log : Log) (history : History) (front : List Command) : Type 0 where
+  pub committed : IsPrefix front (take log.committed log.commands)
+  pub kept : IsFrontKept opening log history (length front)
+
+-- The same of each of these lists.
+abbrev pub AllShownKept : StoreValue (List RowView) → Log → History → List (List Command) → Type 0
+AllShownKept opening log history fronts = AllByRecursion (IsShownKept opening log history) fronts
 
 -- What a log says of the device of a state that was made with it.
 pub record IsKeptFrom (start : Disk) (opening : StoreValue (List RowView)) (log : Log) (disk : Disk) : Type 0 where

@@ -1,15 +1,18 @@
 //! The log that a state leaves.
 
-ghost use Rattle.std.specs.Prelude.{◌≡◌, ◌+◌, ℕ, List};
+ghost use Rattle.std.specs.Prelude.{◌≡◌, ◌+◌, ℕ, List, take};
 ghost use Rattle.std.specs.List.{AllByRecursion};
 ghost use Rattle.row_map.specs.Database.{RowView};
 ghost use Rattle.store_layout.specs.Opening.{StoreValue};
-ghost use Rattle.command_log.specs.Log.{IsCommitted, WasOnce};
+ghost use Rattle.command_log.specs.Log.{IsCommitted};
+ghost use Rattle.path_db.specs.declared.command.Command.{Command};
 ghost use Rattle.sector_dev.specs.Disk.{History};
 ghost use Rattle.logged_state.specs.Left.{OpensToLog, OpensWith, OpensWithAll};
-ghost use Rattle.logged_state.specs.Kept.{AllKept, AllClaimsKept, IsFrontKept};
+ghost use Rattle.logged_state.specs.Kept.{AllKept, AllClaimsKept, AllShownKept};
+ghost use mathlib.Core.List.{IsPrefix};
 
-use command_log::{UnnamedClaim, UnnamedList, UnnamedLog, UnnamedPast};
+use crate::fronts::FrontsNote;
+use command_log::{UnnamedClaim, UnnamedList, UnnamedLog};
 use std::marker::Model;
 
 /// The log of a state that has ended, with the claims of commands that were acknowledged. Contracts
@@ -18,6 +21,7 @@ use std::marker::Model;
 pub struct Left {
     log: UnnamedLog,
     acknowledged: UnnamedList,
+    looked: FrontsNote,
 }
 
 impl Model for Left {
@@ -30,19 +34,35 @@ impl Model for Left {
       table = left.log.table;
       log = left.log.log;
       acknowledged = left.acknowledged.claims;
+      looked = left.looked.value;
     } };
 
-    ghost invariant = { λ left. left.acknowledged.table ≡ left.log.table.passes };
+    ghost invariant = { λ left. left.acknowledged.table ≡ left.log.table };
 }
 
 impl Left {
-    /// What is left of a state of this log, and of who acknowledged its commands.
-    pub fn of(log: UnnamedLog, acknowledged: UnnamedList) -> Left
-        requires { acknowledged.table ≡ log.table.passes }
-        ensures { result ≡ record { table = log.table; log = log.log; acknowledged = acknowledged.claims } }
+    /// What is left of a state of this log, and of who acknowledged its commands, and looked at what
+    /// it showed.
+    pub fn of(log: UnnamedLog, acknowledged: UnnamedList, looked: FrontsNote) -> Left
+        requires { acknowledged.table ≡ log.table }
+        ensures { result ≡ record { table = log.table; log = log.log; acknowledged = acknowledged.claims; looked = looked.value } }
     {
-        Left { log, acknowledged }
+        Left {
+            log,
+            acknowledged,
+            looked,
+        }
     }
+
+    /// A law. Where each session looked after a front of what was shown, and that is a front of the
+    /// committed commands, each image since the moment at which the last command of a session's
+    /// front was committed opens to a front of the log that has all of them.
+    pub fn looks_are_kept(&self)
+        ensures { (opening : StoreValue (List RowView)) (history : History) (shown : List Command)
+            → AllByRecursion (λ front. IsPrefix front shown) self.now.looked
+            → IsPrefix shown (take self.now.log.committed self.now.log.commands)
+            → AllKept opening self.now.log history → AllShownKept opening self.now.log history self.now.looked }
+    {}
 
     /// Each command that was acknowledged is among the committed ones, at its index. So each image
     /// that opens to this log opens with each of these commands at its place. The call compares
@@ -61,25 +81,12 @@ impl Left {
     /// The command of a claim of this log is among the committed ones, at its index. So each image
     /// that opens to this log opens with the command at its place. The call compares nothing.
     pub fn prove_committed(&mut self, claim: UnnamedClaim)
-        requires { claim.table ≡ self.old.table.passes }
+        requires { claim.table ≡ self.old.table }
         ensures same { self.new ≡ self.old }
         ensures found { IsCommitted self.old.log claim.claim }
         ensures opens { (opening : StoreValue (List RowView)) (image : List ℕ) → OpensToLog opening self.old.log image
             → OpensWith opening (opening.place + claim.claim.index) claim.claim.command image }
     {
         self.log.prove_committed(claim);
-    }
-
-    /// The log begins with the commands of a past log of it, and has those that were committed then
-    /// among the committed ones. So each image since the moment at which the last of these was
-    /// committed opens to a front of the log that has them. The call compares nothing.
-    pub fn prove_past(&mut self, past: &UnnamedPast)
-        requires { past.now.history ≡ self.old.table.history }
-        ensures same { self.new ≡ self.old }
-        ensures found { WasOnce self.old.log past.now.past }
-        ensures since { (opening : StoreValue (List RowView)) (history : History)
-            → AllKept opening self.old.log history → IsFrontKept opening self.old.log history past.now.past.committed }
-    {
-        self.log.prove_past(past);
     }
 }

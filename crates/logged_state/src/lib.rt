@@ -13,6 +13,7 @@ mod checkpointer;
 mod ending;
 mod flusher;
 mod following;
+mod fronts;
 mod halting;
 mod left;
 mod name;
@@ -25,9 +26,10 @@ mod state;
 mod submitting;
 
 pub use command_log::{
-    Accepted, ClaimCollector, CommandLog, LogName, LogPast, Logged, LoggedList, UnnamedClaim,
-    UnnamedList, UnnamedLog, UnnamedPast,
+    Accepted, ClaimCollector, CommandLog, LogName, Logged, LoggedList, UnnamedClaim, UnnamedList,
+    UnnamedLog,
 };
+pub use fronts::{Fronts, FrontsNote, no_fronts};
 pub use left::Left;
 pub use name::StateName;
 pub use receipt::{LoggedReceipt, LoggedRedeemed};

@@ -50,7 +50,11 @@ impl<D: Device, S: Showcase, B: StateName> LoggedState<D, S, B> {
 }
 
 /// Notes in the log that more commands are committed, at the present moment of a device.
-fn note_committed<D: Device, B: StateName>(log: &mut CommandLog<B>, more: u64, device: &D)
+pub(crate) fn note_committed<D: Device, B: StateName>(
+    log: &mut CommandLog<B>,
+    more: u64,
+    device: &D,
+)
     requires { log.old.committed + more ≤ length log.old.commands }
     ensures { log.new ≡ with_committed more (moment_number (D.disk device.now)) log.old }
 {
