@@ -5,15 +5,17 @@ use mathlib.Core.List.{IsPrefix}
 use lib.ListN.{get_elem?}
 use Rattle.crossbeam_utils.specs.Register.{Admits, TurnsAt, Turns}
 use Rattle.atomic_table.proofs.Lists.{at_set, at_snoc}
+use Rattle.logbook.specs.Pages.{Book}
 use Rattle.row_map.specs.Database.{RowView}
 use Rattle.path_db.specs.declared.command.Command.{Command}
 use Rattle.store_layout.specs.Opening.{StoreValue}
 use Rattle.store_layout.specs.StoreValues.{value_after}
 use Rattle.store_open.specs.PathStores.{store_format}
+use Rattle.hub_readers.specs.declared.published.ShownCommand.{ShownCommand}
 use Rattle.hub_readers.specs.declared.rule.SeenGroups.{SeenGroups}
-use Rattle.hub_readers.specs.Shown.{value_with_command, newcomer, shown_after, IsShownAfter, KeepsRule, IsSeen, HasSeenGroup}
-use Rattle.hub_readers.specs.Showcase.{Publishes}
-use Rattle.hub_readers.proofs.Groups.{prefix_whole, prefix_more, commands_lead, same_groups, shown_more}
+use Rattle.hub_readers.specs.Shown.{PublishedView, shown_log, published_with, commands_of, newcomer, shown_after, IsShownAfter, KeepsRule, IsSeen, HasSeenGroup}
+use Rattle.hub_readers.specs.Showcase.{AreNext, Publishes}
+use Rattle.hub_readers.proofs.Groups.{prefix_whole, prefix_more, commands_long, same_groups, shown_more, next_is}
 
 -- each seat has still seen a beginning, where one has come to see another
 seats_set : (groups now : List (List Command)) (views : List SeenGroups) (by : ℕ) (w : SeenGroups)
@@ -30,19 +32,15 @@ seats_snoc : (groups : List (List Command)) (views : List SeenGroups)
 seats_snoc groups views seats seat v at =
     ⊎_elim (seats seat v) (λ (t : newcomer ≡ v). subst (λ (u : SeenGroups). IsPrefix u.groups groups) t (groups, refl)) (at_snoc views newcomer v seat at)
 
-module _ (opening : StoreValue (List RowView)) where
+module _ (opening : StoreValue (List RowView)) (book : Book) where
   -- nothing is published yet, and only the writer has a seat
-  pub begins : (value : StoreValue (List RowView)) → value ≡ opening → KeepsRule opening value (newcomer ∷ [])
-  begins value is = record {
-    groups = [];
-    shown = record { is = is; whole = tt };
-    seats = seats_snoc [] [] (λ seat v at. absurd (cc));
-  }
+  pub begins : (x : PublishedView) → IsShownAfter opening book x [] → KeepsRule opening book x (newcomer ∷ [])
+  begins x shown = record { groups = []; shown = shown; seats = seats_snoc [] [] (λ seat v at. absurd (cc)) }
 
-  pub admits : Admits (KeepsRule opening) newcomer
+  pub admits : Admits (KeepsRule opening book) newcomer
   admits x views h = record { groups = h.groups; shown = h.shown; seats = seats_snoc h.groups views h.seats }
 
-  pub sees : (seat : ℕ) (v : SeenGroups) → Turns (KeepsRule opening) seat v (λ x. x) (IsSeen opening)
+  pub sees : (seat : ℕ) (v : SeenGroups) → Turns (KeepsRule opening book) seat v (λ x. x) (IsSeen opening book)
   sees seat v x views h at =
       let w : SeenGroups = record { groups = h.groups } in (
         w,
@@ -50,39 +48,45 @@ module _ (opening : StoreValue (List RowView)) where
         record { shown = h.shown; later = h.seats seat v at },
       )
 
-  pub grows : (seat : ℕ) (v : SeenGroups) (x next : StoreValue (List RowView)) (group : List Command) → IsShownAfter opening x v.groups → 1 ≤ length group
-      → next ≡ fold value_with_command x group → TurnsAt (KeepsRule opening) seat v x next (HasSeenGroup group)
-  grows seat v x next group mine full is views h at =
+  -- what is published after the pending commands
+  after_next : (x : PublishedView) (groups : List (List Command)) (pending : List ShownCommand) → IsShownAfter opening book x groups → AreNext book groups pending → 1 ≤ length pending
+      → IsShownAfter opening book (fold published_with x pending) (groups ++ commands_of pending ∷ [])
+  after_next x groups pending shown next full =
+      let long : 1 ≤ length (commands_of pending) = omega (arith, full, commands_long pending) in
+      subst (λ (y : PublishedView). IsShownAfter opening book y (groups ++ commands_of pending ∷ [])) (sym (next_is opening book x groups pending shown next)) (shown_more opening book x groups (commands_of pending) shown long)
+
+  pub grows : (seat : ℕ) (v : SeenGroups) (x new : PublishedView) (pending : List ShownCommand) → IsShownAfter opening book x v.groups → AreNext book v.groups pending → 1 ≤ length pending
+      → new ≡ fold published_with x pending → TurnsAt (KeepsRule opening book) seat v x new (HasSeenGroup (commands_of pending))
+  grows seat v x new pending mine next full is views h at =
       let places : (shown_after opening h.groups).place ≡ (shown_after opening v.groups).place = ap (λ s. s.place) (sym h.shown.is ∙ mine.is) in
       let same : v.groups ≡ h.groups = same_groups opening v.groups h.groups (h.seats seat v at) h.shown.whole (omega (arith, places)) in
+      let group = commands_of pending in
       let now = h.groups ++ group ∷ [] in
       let w : SeenGroups = record { groups = now } in (
         w,
         record {
           groups = now;
-          shown = subst (λ (y : StoreValue (List RowView)). IsShownAfter opening y now) (sym (is ∙ commands_lead x group)) (shown_more opening x h.groups group h.shown full);
+          shown = subst (λ (y : PublishedView). IsShownAfter opening book y now) (sym is) (after_next x h.groups pending h.shown (subst (λ (l : List (List Command)). AreNext book l pending) same next) full);
           seats = seats_set h.groups now views seat w h.seats (λ front p. prefix_more front h.groups (group ∷ []) p) (prefix_whole now);
         },
         ap (λ l. l ++ group ∷ []) (sym same),
       )
 
   -- what a step of the writer gives, put together
-  pub publishes : {E : Type 0} (x y : StoreValue (List RowView)) (group before left : List Command) (v w : SeenGroups) (r : Result (Unit {0}) E)
-      → IsShownAfter opening x v.groups → 1 ≤ length before → before ≡ group
-      → MatchResult r (λ _. (y ≡ fold value_with_command x before) × (left ≡ [])) (λ _. (y ≡ x) × (left ≡ before))
-      → MatchResult r (λ _. w.groups ≡ v.groups ++ group ∷ []) (λ _. w ≡ v)
-      → Publishes opening r before x v.groups left y w.groups
-  publishes x y group before left v w (Ok u) shown full same values rule =
-      let is = values.0 ∙ commands_lead x before in
-      let grown = rule ∙ ap (λ g. v.groups ++ g ∷ []) (sym same) in (
-        values.1,
-        is,
-        grown,
-        subst (λ (z : StoreValue (List RowView)). IsShownAfter opening z w.groups) (sym is) (subst (IsShownAfter opening (value_after store_format x before)) (sym grown) (shown_more opening x v.groups before shown full)),
-      )
-  publishes x y group before left v w (Err e) shown full same values rule = (
+  pub publishes : {E : Type 0} (x y : PublishedView) (before left : List ShownCommand) (v w : SeenGroups) (r : Result (Unit {0}) E)
+      → IsShownAfter opening book x v.groups → AreNext book v.groups before → 1 ≤ length before
+      → MatchResult r (λ _. (y ≡ fold published_with x before) × (left ≡ [])) (λ _. (y ≡ x) × (left ≡ before))
+      → MatchResult r (λ _. w.groups ≡ v.groups ++ commands_of before ∷ []) (λ _. w ≡ v)
+      → Publishes opening book r before x v.groups left y w.groups
+  publishes x y before left v w (Ok u) shown next full values rule = (
+    values.1,
+    ap (λ (p : PublishedView). p.value) (values.0 ∙ next_is opening book x v.groups before shown next),
+    rule,
+    subst (λ (z : PublishedView). IsShownAfter opening book z w.groups) (sym values.0) (subst (IsShownAfter opening book (fold published_with x before)) (sym rule) (after_next x v.groups before shown next full)),
+  )
+  publishes x y before left v w (Err e) shown next full values rule = (
     values.1,
     values.0,
     ap (λ u. u.groups) rule,
-    subst (λ (z : StoreValue (List RowView)). IsShownAfter opening z w.groups) (sym values.0) (subst (IsShownAfter opening x) (sym (ap (λ u. u.groups) rule)) shown),
+    subst (λ (z : PublishedView). IsShownAfter opening book z w.groups) (sym values.0) (subst (IsShownAfter opening book x) (sym (ap (λ u. u.groups) rule)) shown),
   )

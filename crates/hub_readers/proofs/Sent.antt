@@ -1,6 +1,7 @@
 -- What a hub's readers and its showcase share between threads.
 use denote.RattleType.{RattleType}
-use denote.Param.Send.{IsSend, IsSync, sendable}
+use denote.Param.Send.{IsSend, IsSync, sendable, recorded_send, struct_send}
+use denote.Struct.Declared.{shape}
 use Rattle.std.proofs.Crossing.{crosses}
 use Rattle.std.proofs.MapsCrossing.{crosses as maps_cross}
 use Rattle.std.proofs.MapsCrossingOver.{crosses as sets_cross}
@@ -11,10 +12,16 @@ use Rattle.atomic_table.proofs.shared.Shared.TheSendSync as shared
 use Rattle.atomic_table.proofs.send_lease.SendLease.TheSendSync as lease
 use Rattle.command_log.specs.declared.name.LogName as named
 use Rattle.command_log.proofs.Sent.{logged_send}
+use Rattle.log_history.proofs.Sent.{history_send, past_send, past_sync}
+use Rattle.ghost_note.proofs.note.Note.TheSendSync as ghost_note
 use Rattle.logged_state.specs.declared.name.StateName as opened
 use Rattle.logged_state.specs.contracts.receipt.LoggedReceipt as LoggedReceipt
+use Rattle.hub_readers.specs.declared.name.ReaderName as reader
+use Rattle.hub_readers.specs.contracts.look.Look as Look
+use Rattle.hub_readers.specs.contracts.look.Looks as Looks
 use Rattle.hub_readers.specs.contracts.note.HubNote as HubNote
 use Rattle.hub_readers.specs.contracts.published.Published as Published
+use Rattle.hub_readers.specs.contracts.published.ShownCommand as ShownCommand
 use Rattle.hub_readers.specs.contracts.reader.HubReader as HubReader
 use Rattle.hub_readers.specs.contracts.show.HubShow as HubShow
 use Rattle.seg_core.specs.contracts.segment.Segment as Segment
@@ -48,10 +55,10 @@ db_sync : IsSync PathDb.the_row
 db_sync = search (sendable, crosses, maps_cross, index_sync, row_sync) depth 30 fits 20000
 
 published_send : IsSend Published.the_row
-published_send = search (sendable, crosses, db_send) depth 20
+published_send = search (sendable, crosses, db_send, past_send) depth 20
 
 published_sync : IsSync Published.the_row
-published_sync = search (sendable, crosses, db_sync) depth 20
+published_sync = search (sendable, crosses, db_sync, past_sync) depth 20
 
 pub command_send : IsSend Command.the_row
 command_send = search (sendable, crosses, segment_send) depth 30 fits 20000
@@ -63,10 +70,23 @@ module _ (N : RattleType) (s : opened.Ghosts N.Denot) (l : named.Ghosts N.Denot)
   pub receipt_send : IsSend (LoggedReceipt.the_row N (HubNote.the_row N s l) s l)
   receipt_send = search (sendable, crosses, note_send, logged_send) depth 30 fits 20000
 
-module _ (N : RattleType) (s : opened.Ghosts N.Denot) (l : named.Ghosts N.Denot) (n : IsSend N) (m : IsSync N) where
-  pub reader_send : IsSend (HubReader.the_row N s l)
-  reader_send = search (sendable, crosses, published_send, published_sync, part.the_send, part.the_sync, deed.the_send, seat.the_send, shared.the_send, shared.the_sync, lease.the_send, lease.the_sync) depth 80 fits 50000
+command_field_send : IsSend (Command.the_field).row
+command_field_send = search (sendable, crosses, segment_send) depth 60 fits 20000
 
-module _ (N R : RattleType) (s : opened.Ghosts N.Denot) (l : named.Ghosts N.Denot) (n : IsSend N) (m : IsSync N) (r : IsSend R) where
-  pub show_send : IsSend (HubShow.the_row N R s l)
-  show_send = search (sendable, crosses, published_send, published_sync, command_send, part.the_send, part.the_sync, deed.the_send, seat.the_send, shared.the_send, shared.the_sync, lease.the_send, lease.the_sync) depth 80 fits 50000
+shown_send : IsSend ShownCommand.the_row
+shown_send = recorded_send _ _ _ ShownCommand.the_type.to_one (struct_send (shape ShownCommand.the_type) (command_field_send, (search (sendable, crosses, past_send) depth 20, tt)))
+
+module _ (N : RattleType) (b : reader.Ghosts N.Denot) (s : opened.Ghosts N.Denot) (l : named.Ghosts N.Denot) (n : IsSend N) where
+  pub look_send : IsSend (Look.the_row N b s l)
+  look_send = search (sendable, crosses, past_send) depth 20
+
+  pub looks_send : IsSend (Looks.the_row N b s l)
+  looks_send = search (sendable, crosses, past_send, ghost_note.the_send) depth 30
+
+module _ (N : RattleType) (b : reader.Ghosts N.Denot) (s : opened.Ghosts N.Denot) (l : named.Ghosts N.Denot) (n : IsSend N) (m : IsSync N) where
+  pub reader_send : IsSend (HubReader.the_row N b s l)
+  reader_send = search (sendable, crosses, past_send, published_send, published_sync, part.the_send, part.the_sync, deed.the_send, seat.the_send, shared.the_send, shared.the_sync, lease.the_send, lease.the_sync) depth 80 fits 50000
+
+module _ (N R : RattleType) (b : reader.Ghosts N.Denot) (s : opened.Ghosts N.Denot) (l : named.Ghosts N.Denot) (n : IsSend N) (m : IsSync N) (r : IsSend R) where
+  pub show_send : IsSend (HubShow.the_row N R b s l)
+  show_send = search (sendable, crosses, history_send, published_send, published_sync, shown_send, part.the_send, part.the_sync, deed.the_send, seat.the_send, shared.the_send, shared.the_sync, lease.the_send, lease.the_sync) depth 80 fits 50000

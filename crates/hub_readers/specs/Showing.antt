@@ -10,5 +10,5 @@ pub record Showing : Type 0 where
   pub groups : List (List Command)
   -- The rows and the place after those groups.
   pub value : StoreValue (List RowView)
-  -- The commands of the next group that the writer already has.
+  -- The commands of the next group that are already noted in the history of what is shown.
   pub owed : List Command

@@ -5,10 +5,14 @@
 //!
 //! To the layer above: `open_readers` makes the showcase of a hub, which publishes groups, and its
 //! 64 readers. `HubReader::lookup` and `HubReader::page` answer from what is published, which is
-//! never older than what this reader was shown or has learnt.
+//! never older than what this reader was shown or has learnt. `HubReader::last_look` gives a token
+//! of the commands that a reader was shown. Who ends the showcase by `HubShow::close` hands in such
+//! tokens, and learns that each is of a front of the commands that the showcase was given.
 #![tactic(auto)]
 
 mod error;
+mod look;
+mod name;
 mod note;
 mod opening;
 mod published;
@@ -17,9 +21,11 @@ mod rule;
 mod show;
 
 pub use error::ReaderError;
+pub use look::{Look, Looks};
+pub use name::ReaderName;
 pub use note::{HubNote, HubReceipt};
 pub use opening::{READERS, open_readers};
-pub use published::Published;
+pub use published::{Published, ShownCommand};
 pub use reader::HubReader;
 pub use rule::{ReaderRule, SeenGroups, SeesAll};
 pub use show::HubShow;

@@ -6,18 +6,22 @@ ghost use Rattle.std.specs.Option.{option_copied};
 ghost use mathlib.Core.List.{IsPrefix};
 ghost use Rattle.seg_core.specs.Encoding.{IsSegment};
 ghost use Rattle.path_db.specs.Answer.{segments_of};
+ghost use Rattle.store_layout.specs.Journal.{all_of};
 ghost use Rattle.left_right.specs.Sides.{view};
 ghost use Rattle.hub_readers.specs.declared.error.ReaderError.TheVariants.{NoMemory, NoReader};
 ghost use Rattle.hub_readers.specs.Sight.{answer_after, shown_within, page_shown, more_shown, place_after};
 ghost use Rattle.hub_readers.specs.Learnt.{learnt};
+ghost use Rattle.hub_readers.specs.Shown.{shown_log};
 
 use crate::error::ReaderError;
+use crate::look::Look;
+use crate::name::ReaderName;
 use crate::note::{HubNote, HubReceipt};
 use crate::published::Published;
 use crate::rule::{ReaderRule, SeenGroups, SeesAll};
 use core::mem::replace_with;
 use left_right::reader::Reader;
-use logged_state::StateName;
+use log_history::PastLog;
 use seg_core::Segment;
 use seg_lookup::{ANSWER_LIMIT, Page, Query, first_after};
 use std::alloc::AllocError;
@@ -29,27 +33,39 @@ pub(crate) type HubSeat<N> = Reader<Published, SeenGroups, ReaderRule<N>>;
 /// A reader of the hub of this name. Contracts see the groups after which its last lookup was
 /// answered, and the greatest place that a lookup or a receipt has shown it.
 #[derive(Drop)]
-pub struct HubReader<N: StateName> {
+pub struct HubReader<N: ReaderName> {
     seat: HubSeat<N>,
     seen: u64,
+    /// The past log of what its last lookup was answered from.
+    past: PastLog,
 }
 
-impl<N: StateName> Model for HubReader<N> {
+impl<N: ReaderName> Model for HubReader<N> {
+    ghost use Rattle.std.specs.Prelude.{◌≡◌};
     ghost use Rattle.left_right.specs.Sides.{view as seat_view};
+    ghost use Rattle.store_layout.specs.Journal.{all_of};
+    ghost use Rattle.hub_readers.specs.Shown.{shown_log};
     ghost use Rattle.hub_readers.specs.Sight.{Sight};
 
     ghost Value = { Sight };
 
     ghost view = { λ r. record { groups = (seat_view r.seat.place).groups; seen = r.seen } };
+
+    ghost invariant = { λ r. r.past ≡ shown_log N.shown (all_of (seat_view r.seat.place).groups) };
 }
 
-impl<N: StateName> HubReader<N> {
+impl<N: ReaderName> HubReader<N> {
     /// A reader at this seat, which has been shown nothing.
-    pub(crate) fn over(seat: HubSeat<N>) -> HubReader<N>
+    pub(crate) fn over(seat: HubSeat<N>, past: PastLog) -> HubReader<N>
+        requires { past ≡ shown_log N.shown (all_of (view seat.place).groups) }
         ensures groups { result.groups ≡ (view seat.place).groups }
         ensures seen { result.seen ≡ 0 }
     {
-        HubReader { seat, seen: 0 }
+        HubReader {
+            seat,
+            seen: 0,
+            past,
+        }
     }
 
     /// The segments that a query asks for, at a moment in half seconds since 1970. The answer is
@@ -146,11 +162,19 @@ impl<N: StateName> HubReader<N> {
         let Some(sight) = look_in(&mut self.seat, query, after, now, limit) else {
             return Err(ReaderError::NoReader);
         };
+        self.past = sight.past;
         if sight.place < self.seen {
             return Err(ReaderError::NoReader);
         }
         self.seen = sight.place;
         Ok(sight.found?)
+    }
+
+    /// The look of the last lookup that was answered, or of no command where there was none.
+    pub fn last_look(&self) -> Look<N>
+        ensures { result ≡ all_of self.now.groups }
+    {
+        Look::of(self.past.again())
     }
 
     /// Takes the note out of a receipt: from then on this reader is shown nothing older than the
@@ -179,10 +203,11 @@ impl<N: StateName> HubReader<N> {
 struct Found {
     found: Result<Vec<Segment>, AllocError>,
     place: u64,
+    past: PastLog,
 }
 
 /// Looks at what is published, once.
-fn look_in<N: StateName>(
+fn look_in<N: ReaderName>(
     seat: &mut HubSeat<N>,
     query: &Query,
     after: Option<&[u8; 32]>,
@@ -191,6 +216,7 @@ fn look_in<N: StateName>(
 ) -> Option<Found>
     ensures later { IsPrefix (view seat.old.place).groups (view seat.new.place).groups }
     ensures place { IfSome result (λ f. f.place ≡ place_after N.opening (view seat.new.place).groups) }
+    ensures past { IfSome result (λ f. f.past ≡ shown_log N.shown (all_of (view seat.new.place).groups)) }
     ensures found { IfSome result (λ f. IfOk f.found (λ found. found.items
         ≡ segments_of (shown_within limit N.opening (view seat.new.place).groups query.now (option_copied after.entry) now))) }
     ensures few { IfSome result (λ f. IfOk f.found (λ found. length found.items ≤ limit)) }
@@ -207,7 +233,7 @@ fn look_in<N: StateName>(
 }
 
 /// Looks at what is published from a seat, and returns the seat.
-fn look<N: StateName>(
+fn look<N: ReaderName>(
     seat: HubSeat<N>,
     query: &Query,
     after: Option<&[u8; 32]>,
@@ -216,6 +242,7 @@ fn look<N: StateName>(
 ) -> (HubSeat<N>, Option<Found>)
     ensures later { IsPrefix (view seat.place).groups (view result.0.place).groups }
     ensures place { IfSome result.1 (λ f. f.place ≡ place_after N.opening (view result.0.place).groups) }
+    ensures past { IfSome result.1 (λ f. f.past ≡ shown_log N.shown (all_of (view result.0.place).groups)) }
     ensures found { IfSome result.1 (λ f. IfOk f.found (λ found. found.items
         ≡ segments_of (shown_within limit N.opening (view result.0.place).groups query.now (option_copied after.entry) now))) }
     ensures few { IfSome result.1 (λ f. IfOk f.found (λ found. length found.items ≤ limit)) }
@@ -229,7 +256,8 @@ fn look<N: StateName>(
             let published = reading.get();
             let found = first_after(published.db(), query, after, now, limit);
             let place = published.place();
-            (reading.leave(), Some(Found { found, place }))
+            let past = published.past();
+            (reading.leave(), Some(Found { found, place, past }))
         }
         Err(seat) => (seat, None),
     }

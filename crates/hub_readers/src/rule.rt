@@ -1,8 +1,8 @@
 //! The rule over what is published and what each seat has seen of it.
 
+use crate::name::ReaderName;
 use crate::published::Published;
 use crossbeam_utils::rule::{Outcome, Protocol};
-use logged_state::StateName;
 use path_db::Command;
 use std::collections::LinkedList;
 use std::marker::{Brand, PhantomData};
@@ -14,15 +14,15 @@ pub struct SeenGroups {
 }
 
 /// The readers' rule: what is published is what the hub opened with after a list of whole groups,
-/// and every seat has seen a front of that list.
+/// with the past log of their commands, and every seat has seen a front of that list.
 pub struct ReaderRule<N> {
     of: PhantomData<N>,
 }
 
-impl<N: StateName> Protocol<Published, SeenGroups> for ReaderRule<N> {
+impl<N: ReaderName> Protocol<Published, SeenGroups> for ReaderRule<N> {
     ghost use Rattle.hub_readers.specs.Shown.{KeepsRule, newcomer};
 
-    ghost holds = { KeepsRule N.opening };
+    ghost holds = { KeepsRule N.opening N.shown };
 
     ghost first = { newcomer };
 }
@@ -32,10 +32,10 @@ pub struct SeesAll<N> {
     of: PhantomData<N>,
 }
 
-impl<N: StateName> Outcome<Published, SeenGroups> for SeesAll<N> {
+impl<N: ReaderName> Outcome<Published, SeenGroups> for SeesAll<N> {
     ghost use Rattle.hub_readers.specs.Shown.{IsSeen};
 
-    ghost then = { IsSeen N.opening };
+    ghost then = { IsSeen N.opening N.shown };
 }
 
 /// Names the group that one step of the writer publishes. The call that publishes picks it.

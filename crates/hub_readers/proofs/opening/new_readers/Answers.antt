@@ -2,4 +2,4 @@ use Rattle.hub_readers.proofs.Keeping.{admits}
 use Rattle.hub_readers.proofs.opening.new_readers.Goals as goal
 
 pub reader-requires : goal.reader-requires
-reader-requires g c = admits g.N.StateName.opening
+reader-requires g c = admits g.N.StateName.opening g.N.ReaderName.shown
