@@ -25,8 +25,10 @@ use Rattle.command_log.specs.contracts.gathering.ClaimCollector as ClaimCollecto
 use Rattle.command_log.proofs.Sent.{accepted_send, list_send, log_send}
 use Rattle.logged_state.specs.declared.name.StateName as opened
 use Rattle.logged_state.specs.contracts.state.LoggedState as LoggedState
+use Rattle.hub_readers.specs.declared.name.ReaderName as reader
+use Rattle.hub_readers.specs.contracts.look.Looks as Looks
 use Rattle.hub_readers.specs.contracts.reader.HubReader as HubReader
-use Rattle.hub_readers.proofs.Sent.{row_send, db_send, command_send, receipt_send, reader_send, show_send}
+use Rattle.hub_readers.proofs.Sent.{row_send, db_send, command_send, receipt_send, looks_send, reader_send, show_send}
 use Rattle.path_hub.specs.contracts.answer.Answer as Answer
 use Rattle.path_hub.specs.contracts.answer.Slot as Slot
 use Rattle.path_hub.specs.contracts.guarded.Locked as Locked
@@ -61,30 +63,30 @@ collector_sync N l m = struct_sync (shape (ClaimCollector.the_type N l))
 acknowledged_sync : (N : RattleType) (l : named.Ghosts N.Denot) → IsSend N → IsSync (Mutex.the_row (LoggedList.the_row N l))
 acknowledged_sync N l n = search (crosses, list_send) depth 12
 
-module _ (N : RattleType) (s : opened.Ghosts N.Denot) (l : named.Ghosts N.Denot) (q : queue.Ghosts N.Denot) (n : IsSend N) where
-  answer_send : IsSend (Answer.the_row N s l q)
-  answer_send = recorded_send _ _ _ (Answer.the_type N s l q).to_one (struct_send (shape (Answer.the_type N s l q)) (claim_send N q n, (search (sendable, crosses, receipt_send) depth 30 fits 20000, tt)))
+module _ (N : RattleType) (b : reader.Ghosts N.Denot) (s : opened.Ghosts N.Denot) (l : named.Ghosts N.Denot) (q : queue.Ghosts N.Denot) (n : IsSend N) where
+  answer_send : IsSend (Answer.the_row N b s l q)
+  answer_send = recorded_send _ _ _ (Answer.the_type N b s l q).to_one (struct_send (shape (Answer.the_type N b s l q)) (claim_send N q n, (search (sendable, crosses, receipt_send) depth 30 fits 20000, tt)))
 
-  slot_send : IsSend (Slot.the_row N s l q)
-  slot_send = recorded_send _ _ _ (Slot.the_type N s l q).to_one (struct_send (shape (Slot.the_type N s l q)) (search (sendable, crosses, answer_send) depth 12, tt))
+  slot_send : IsSend (Slot.the_row N b s l q)
+  slot_send = recorded_send _ _ _ (Slot.the_type N b s l q).to_one (struct_send (shape (Slot.the_type N b s l q)) (search (sendable, crosses, answer_send) depth 12, tt))
 
-  slot_sync : IsSync (Slot.the_row N s l q)
-  slot_sync = recorded_sync _ _ _ (Slot.the_type N s l q).to_one (struct_sync (shape (Slot.the_type N s l q)) (search (sendable, crosses, answer_send) depth 12, tt))
+  slot_sync : IsSync (Slot.the_row N b s l q)
+  slot_sync = recorded_sync _ _ _ (Slot.the_type N b s l q).to_one (struct_sync (shape (Slot.the_type N b s l q)) (search (sendable, crosses, answer_send) depth 12, tt))
 
-  slots_send : IsSend (Arc.the_row (Slot.the_row N s l q) Global.the_row heap.ghosts)
-  slots_send = Arc-send (Slot.the_row N s l q) slot_send slot_sync
+  slots_send : IsSend (Arc.the_row (Slot.the_row N b s l q) Global.the_row heap.ghosts)
+  slots_send = Arc-send (Slot.the_row N b s l q) slot_send slot_sync
 
-  under_way_send : IsSend (UnderWay.the_row N s l q)
+  under_way_send : IsSend (UnderWay.the_row N b s l q)
   under_way_send =
-      recorded_send _ _ _ (UnderWay.the_type N s l q).to_one (struct_send (shape (UnderWay.the_type N s l q)) (search (sendable, crosses) depth 30 fits 20000, (claim_send N q n, (accepted_send N l n, (slots_send, tt)))))
+      recorded_send _ _ _ (UnderWay.the_type N b s l q).to_one (struct_send (shape (UnderWay.the_type N b s l q)) (search (sendable, crosses) depth 30 fits 20000, (claim_send N q n, (accepted_send N l n, (slots_send, tt)))))
 
-  pub queue_sync : IsSync (Mutex.the_row (CommandQueue.the_row N (Arc.the_row (Slot.the_row N s l q) Global.the_row heap.ghosts) q))
+  pub queue_sync : IsSync (Mutex.the_row (CommandQueue.the_row N (Arc.the_row (Slot.the_row N b s l q) Global.the_row heap.ghosts) q))
   queue_sync =
-      let slots = Arc.the_row (Slot.the_row N s l q) Global.the_row heap.ghosts in
+      let slots = Arc.the_row (Slot.the_row N b s l q) Global.the_row heap.ghosts in
       let queue : IsSend (CommandQueue.the_row N slots q) = recorded_send _ _ _ (CommandQueue.the_type N slots q).to_one (queue_send N slots q n slots_send) in search crosses
 
-  all_under_way_send : IsSend (VecDeque.the_row (UnderWay.the_row N s l q) Global.the_row heap.ghosts)
-  all_under_way_send = Deque-send (UnderWay.the_row N s l q) under_way_send
+  all_under_way_send : IsSend (VecDeque.the_row (UnderWay.the_row N b s l q) Global.the_row heap.ghosts)
+  all_under_way_send = Deque-send (UnderWay.the_row N b s l q) under_way_send
 
 kept_send : (V : RattleType) → IsSend V → IsSend (RisingMap.the_row V)
 kept_send V v = search (sendable, crosses) depth 20
@@ -151,20 +153,24 @@ module _ (D S N M : RattleType) (d : device.Ghosts D.Denot) (g : show.Ghosts S.D
   with_log_send = search (sendable, crosses, state_send, log_send) depth 30 fits 20000
 
 -- the readers that no one has, under a lock
-readers_sync : (N : RattleType) (s : opened.Ghosts N.Denot) (l : named.Ghosts N.Denot) → IsSend N → IsSync N → IsSync (Mutex.the_row (Vec.the_row (HubReader.the_row N s l) Global.the_row heap.ghosts))
-readers_sync N s l n m = search (sendable, crosses, reader_send) depth 12
+readers_sync : (N : RattleType) (b : reader.Ghosts N.Denot) (s : opened.Ghosts N.Denot) (l : named.Ghosts N.Denot) → IsSend N → IsSync N → IsSync (Mutex.the_row (Vec.the_row (HubReader.the_row N b s l) Global.the_row heap.ghosts))
+readers_sync N b s l n m = search (sendable, crosses, reader_send) depth 12
 
-module _ (D N R : RattleType) (s : opened.Ghosts N.Denot) (l : named.Ghosts N.Denot) (q : queue.Ghosts N.Denot) (d : device.Ghosts D.Denot) (w : wait.Ghosts R.Denot) (e : IsSend D) (n : IsSend N) (m : IsSync N) (r : IsSend R) where
-  locked_send : IsSend (Locked.the_row D N R s l q d w)
+-- what sessions were shown last, under a lock
+looks_sync : (N : RattleType) (b : reader.Ghosts N.Denot) (s : opened.Ghosts N.Denot) (l : named.Ghosts N.Denot) → IsSend N → IsSync (Mutex.the_row (Looks.the_row N b s l))
+looks_sync N b s l n = search (crosses, looks_send) depth 12
+
+module _ (D N R : RattleType) (b : reader.Ghosts N.Denot) (s : opened.Ghosts N.Denot) (l : named.Ghosts N.Denot) (q : queue.Ghosts N.Denot) (d : device.Ghosts D.Denot) (w : wait.Ghosts R.Denot) (e : IsSend D) (n : IsSend N) (m : IsSync N) (r : IsSend R) where
+  locked_send : IsSend (Locked.the_row D N R b s l q d w)
   locked_send =
-      recorded_send _ _ _ (Locked.the_type D N R s l q d w).to_one (struct_send (shape (Locked.the_type D N R s l q d w)) (search (crosses, with_log_send, show_send) depth 12, (all_under_way_send N s l q n, tt)))
+      recorded_send _ _ _ (Locked.the_type D N R b s l q d w).to_one (struct_send (shape (Locked.the_type D N R b s l q d w)) (search (crosses, with_log_send, show_send) depth 12, (all_under_way_send N b s l q n, tt)))
 
-  state_sync : IsSync (Mutex.the_row (Locked.the_row D N R s l q d w))
+  state_sync : IsSync (Mutex.the_row (Locked.the_row D N R b s l q d w))
   state_sync = search (crosses, locked_send) depth 12
 
 status_sync : IsSync (HubStatus.the_field).row
 status_sync = search (sendable, crosses) depth 80 fits 50000
 
-module _ (D N R : RattleType) (s : opened.Ghosts N.Denot) (l : named.Ghosts N.Denot) (q : queue.Ghosts N.Denot) (d : device.Ghosts D.Denot) (w : wait.Ghosts R.Denot) (e : IsSend D) (n : IsSend N) (m : IsSync N) (r : IsSend R) (t : IsSync R) where
-  pub hub_sync : IsSync (Hub.the_row D N R s l q d w)
-  hub_sync = recorded_sync _ _ _ (Hub.the_type D N R s l q d w).to_one (struct_sync (shape (Hub.the_type D N R s l q d w)) (t, (search (sendable, crosses), (queue_sync N s l q n, (search (sendable, crosses), (state_sync D N R s l q d w e n m r, (search (sendable, crosses) depth 20 fits 5000, (status_sync, (search (sendable, crosses), (readers_sync N s l n m, (collector_sync N l m, (acknowledged_sync N l n, (senders_sync N m, tt)))))))))))))
+module _ (D N R : RattleType) (b : reader.Ghosts N.Denot) (s : opened.Ghosts N.Denot) (l : named.Ghosts N.Denot) (q : queue.Ghosts N.Denot) (d : device.Ghosts D.Denot) (w : wait.Ghosts R.Denot) (e : IsSend D) (n : IsSend N) (m : IsSync N) (r : IsSend R) (t : IsSync R) where
+  pub hub_sync : IsSync (Hub.the_row D N R b s l q d w)
+  hub_sync = recorded_sync _ _ _ (Hub.the_type D N R b s l q d w).to_one (struct_sync (shape (Hub.the_type D N R b s l q d w)) (t, (search (sendable, crosses), (queue_sync N b s l q n, (search (sendable, crosses), (state_sync D N R b s l q d w e n m r, (search (sendable, crosses) depth 20 fits 5000, (status_sync, (search (sendable, crosses), (readers_sync N b s l n m, (collector_sync N l m, (acknowledged_sync N l n, (looks_sync N b s l n, (senders_sync N m, tt))))))))))))))

@@ -15,7 +15,7 @@ use crate::name::HubName;
 use crate::waiter::{Patient, Waiter};
 use command_queue::{CommandQueue, NotQueued, Sender, Senders};
 use group_core::{Numbers, SubmitError};
-use hub_readers::{HubReader, HubReceipt};
+use hub_readers::{HubReader, HubReceipt, Look, Looks};
 use hub_status::{Changes, Completed, HubStatus, LONGEST_REST};
 use logged_state::{ClaimCollector, LoggedList};
 use path_db::Command;
@@ -47,6 +47,8 @@ pub struct Hub<D: Device, N: HubName, R: Wait + Clock> {
     pub(crate) collector: ClaimCollector<N>,
     /// The claims of the commands that sessions which have ended had acknowledged.
     pub(crate) acknowledged: Mutex<LoggedList<N>>,
+    /// What sessions that have ended were shown last.
+    pub(crate) looks: Mutex<Looks<N>>,
     /// What begins the senders of the queue. Another crate gets it from its job or its workload
     /// alone.
     pub(crate) senders: Senders<N>,
@@ -86,6 +88,12 @@ impl<D: Device, N: HubName, R: Wait + Clock> Hub<D, N, R> {
     pub fn keep_acknowledged(&self, acknowledged: LoggedList<N>) {
         let mut all = self.acknowledged.lock(&self.rt);
         self.collector.append(&mut all, acknowledged);
+    }
+
+    /// Takes what a session was shown last. When the hub ends, that is a front of its log. A look
+    /// cannot be dropped, so who has one hands it in.
+    pub fn keep_look(&self, look: Look<N>) {
+        self.looks.lock(&self.rt).add(look);
     }
 
     /// Submits a command of a sender, and waits until it is committed. The receipt shows the

@@ -9,7 +9,7 @@ ghost use Rattle.path_db.specs.declared.command.Command.{Command};
 ghost use Rattle.path_hub.specs.declared.error.HubError.TheVariants.{NoMemory, NoReader};
 ghost use Rattle.sector_dev.specs.Stretch.{Stretch};
 ghost use Rattle.logged_state.specs.Left.{OpensToFrontOf, OpensToLog, OpensWithAll};
-ghost use Rattle.logged_state.specs.Kept.{AllClaimsKept};
+ghost use Rattle.logged_state.specs.Kept.{AllClaimsKept, AllShownKept};
 
 use crate::error::HubError;
 use crate::guarded::Locked;
@@ -31,14 +31,14 @@ use store_open::Store;
 
 /// A job with a hub. A job cannot name a hub itself, so all that it gets is of this hub.
 pub trait HubJob<D: Device, R: Wait + Clock> {
-    ghost use Rattle.command_log.specs.Log.{LogId};
+    ghost use Rattle.atomic_table.specs.Seated.{TableId};
 
     /// The result of the job.
     type Out;
 
     /// Results that the job may give, by the table of the log of the hub's state. A claim that the
     /// job returns is of that table, and so is the log that is left.
-    ghost does: { Self → Self.Out → LogId → Type 0 } = { λ _ _ _. Unit {0} };
+    ghost does: { Self → Self.Out → TableId → Type 0 } = { λ _ _ _. Unit {0} };
 
     /// Does the job with a hub. What is handed in is a sender's, which the job begins.
     fn run<N: HubName + Send + Sync>(self, hub: &Hub<D, N, R>, senders: &Senders<N>) -> Self::Out
@@ -65,6 +65,8 @@ pub fn with_hub<D: Device, J: HubJob<D, R>, R: Wait + Clock + Copy>(
         Stretch store.disk (D.disk done.1) (OpensToFrontOf (value_of_store store) done.2.log.commands 0)) }
     ensures since { IfOk result (λ done. IsHonest store.disk
         → AllClaimsKept (value_of_store store) done.2.log (D.disk done.1).history done.2.acknowledged) }
+    ensures looked { IfOk result (λ done. IsHonest store.disk
+        → AllShownKept (value_of_store store) done.2.log (D.disk done.1).history done.2.looked) }
     ensures back { IfErr result (λ back. (back.0 ≡ store) × (back.1 ≡ job)) }
     ensures why { IfErr result (λ back. (back.2 ≡ NoMemory) ⊎ (back.2 ≡ NoReader)) }
 {
@@ -87,6 +89,7 @@ fn do_with<N: HubName + Send + Sync, D: Device, J: HubJob<D, R>, R: Wait + Clock
     requires start { store.disk ≡ N.start }
     requires log { name.log.table ≡ N.table }
     requires history { name.history.seen.book ≡ N.history }
+    requires shown { name.shown.book ≡ N.shown }
     requires refusals { (command : Command) (why : Option SubmitError) → N.refused command why ≡ true }
     ensures done { IfOk result (λ done. J.does job done.0 done.2.table) }
     ensures left { IfOk result (λ done. IsHonest (D.disk done.1) → EveryImage (D.disk done.1).history.now (OpensToLog N.opening done.2.log)) }
@@ -96,6 +99,8 @@ fn do_with<N: HubName + Send + Sync, D: Device, J: HubJob<D, R>, R: Wait + Clock
         Stretch N.start (D.disk done.1) (OpensToFrontOf N.opening done.2.log.commands 0)) }
     ensures since { IfOk result (λ done. IsHonest N.start
         → AllClaimsKept N.opening done.2.log (D.disk done.1).history done.2.acknowledged) }
+    ensures looked { IfOk result (λ done. IsHonest N.start
+        → AllShownKept N.opening done.2.log (D.disk done.1).history done.2.looked) }
     ensures back { IfErr result (λ back. (back.0 ≡ store) × (back.1 ≡ job)) }
     ensures why { IfErr result (λ back. (back.2 ≡ NoMemory) ⊎ (back.2 ≡ NoReader)) }
 {
@@ -124,6 +129,7 @@ impl<D: Device, N: HubName, R: Wait + Clock> Hub<D, N, R> {
         requires start { store.disk ≡ N.start }
         requires log { name.log.table ≡ N.table }
         requires history { name.history.seen.book ≡ N.history }
+        requires shown { name.shown.book ≡ N.shown }
         requires refusals { (command : Command) (why : Option SubmitError) → N.refused command why ≡ true }
         ensures back { IfErr result (λ back. back.0 ≡ store) }
         ensures why { IfErr result (λ back. (back.1 ≡ NoMemory) ⊎ (back.1 ≡ NoReader)) }
@@ -131,16 +137,22 @@ impl<D: Device, N: HubName, R: Wait + Clock> Hub<D, N, R> {
         let Ok(collector) = name.log.collector::<N>() else {
             return Err((store, HubError::NoMemory));
         };
-        let (show, readers) = match open_readers::<N, R>(rt, alloc, store.db(), store.place()) {
+        let NewName {
+            history,
+            log,
+            shown,
+        } = name;
+        let opened = open_readers::<N, R>(rt, alloc, shown, store.db(), store.place());
+        let (show, readers) = match opened {
             Ok(made) => made,
             Err(ReaderError::NoMemory) => return Err((store, HubError::NoMemory)),
             Err(ReaderError::NoReader) => return Err((store, HubError::NoReader)),
         };
+        let looks = show.no_looks();
         let Ok(under_way) = AllUnderWay::with_capacity(alloc, MOST_UNDER_WAY) else {
-            show.close();
+            show.close(looks);
             return Err((store, HubError::NoMemory));
         };
-        let NewName { history, log } = name;
         let state = LoggedState::new(State::new(alloc, store, show, home), log);
         let status = HubStatus::new(state.numbers());
         let (queue, senders) = CommandQueue::new(alloc, history);
@@ -155,6 +167,7 @@ impl<D: Device, N: HubName, R: Wait + Clock> Hub<D, N, R> {
             has_stranger: AtomicBool::new(false),
             readers: Mutex::new(readers),
             acknowledged: Mutex::new(collector.empty_list()),
+            looks: Mutex::new(looks),
             collector,
             senders,
         })
@@ -162,8 +175,9 @@ impl<D: Device, N: HubName, R: Wait + Clock> Hub<D, N, R> {
 
     /// Ends the hub, which no one else has, and returns its device with the log of all commands
     /// that its state accepted. An honest device opens to that log, with each command at its place
-    /// whose claim was handed in as acknowledged. The call waits for readers that
-    /// are within a lookup.
+    /// whose claim was handed in as acknowledged. What each session was shown last, if it handed that
+    /// in, is a front of the log that no stop since its commit has lost. The call waits for readers
+    /// that are within a lookup.
     pub(crate) fn close(self) -> (D, Left)
     where
         R: Drop,
@@ -171,6 +185,7 @@ impl<D: Device, N: HubName, R: Wait + Clock> Hub<D, N, R> {
         ensures acknowledged { IsHonest (D.disk result.0) → EveryImage (D.disk result.0).history.now (OpensWithAll N.opening result.1.acknowledged) }
         ensures moments { Stretch N.start (D.disk result.0) (OpensToFrontOf N.opening result.1.log.commands 0) }
         ensures since { IsHonest N.start → AllClaimsKept N.opening result.1.log (D.disk result.0).history result.1.acknowledged }
+        ensures looked { IsHonest N.start → AllShownKept N.opening result.1.log (D.disk result.0).history result.1.looked }
         ensures table { result.1.table ≡ N.table }
     {
         let Hub {
@@ -185,6 +200,7 @@ impl<D: Device, N: HubName, R: Wait + Clock> Hub<D, N, R> {
             readers: _readers,
             collector: _collector,
             acknowledged,
+            looks,
             senders: _senders,
         } = self;
         let Locked {
@@ -193,10 +209,11 @@ impl<D: Device, N: HubName, R: Wait + Clock> Hub<D, N, R> {
         } = state.into_inner();
         give_up_all(&mut state, under_way);
         let (device, show, log) = state.into_parts();
-        show.close();
+        let looked = show.close(looks.into_inner());
         let (log, acknowledged) = log.unnamed_with(acknowledged.into_inner());
-        let mut left = Left::of(log, acknowledged);
+        let mut left = Left::of(log, acknowledged, looked);
         left.prove_acknowledged();
+        left.looks_are_kept();
         (device, left)
     }
 }

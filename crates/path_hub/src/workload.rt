@@ -9,7 +9,7 @@ ghost use Rattle.path_db.specs.declared.command.Command.{Command};
 ghost use Rattle.path_hub.specs.declared.error.HubError.TheVariants.{NoMemory, NoReader};
 ghost use Rattle.sector_dev.specs.Stretch.{Stretch};
 ghost use Rattle.logged_state.specs.Left.{OpensToFrontOf, OpensToLog, OpensWithAll};
-ghost use Rattle.logged_state.specs.Kept.{AllClaimsKept};
+ghost use Rattle.logged_state.specs.Kept.{AllClaimsKept, AllShownKept};
 
 use crate::error::HubError;
 use crate::hub::Hub;
@@ -109,6 +109,12 @@ pub fn with_workload<
     // It has each of these commands at its place from the moment on at which it was committed.
     ensures since { IfSome result.1 (λ left. IsHonest store.disk
         → AllClaimsKept (value_of_store store) left.log (D.disk result.0).history left.acknowledged) }
+
+    // What a session was shown last, if it handed that in, is a front of the log that is committed.
+    // From the moment on at which its last command was committed, a stop leaves a front of the log
+    // that has it.
+    ensures looked { IfSome result.1 (λ left. IsHonest store.disk
+        → AllShownKept (value_of_store store) left.log (D.disk result.0).history left.looked) }
     ensures unmade { IfNone result.1 (D.disk result.0 ≡ store.disk) }
     ensures made { OnOk result.2 (IsSome result.1) }
     ensures why { IfErr result.2 (λ e. (e ≡ NoMemory) ⊎ (e ≡ NoReader)) }
@@ -137,6 +143,7 @@ fn named_workload<
     requires start { store.disk ≡ N.start }
     requires log { name.log.table ≡ N.table }
     requires history { name.history.seen.book ≡ N.history }
+    requires shown { name.shown.book ≡ N.shown }
     requires refusals { (command : Command) (why : Option SubmitError) → N.refused command why ≡ true }
     ensures left { IfSome result.1 (λ left. IsHonest (D.disk result.0) → EveryImage (D.disk result.0).history.now (OpensToLog N.opening left.log)) }
     ensures acknowledged { IfSome result.1 (λ left. IsHonest (D.disk result.0)
@@ -145,6 +152,8 @@ fn named_workload<
         Stretch N.start (D.disk result.0) (OpensToFrontOf N.opening left.log.commands 0)) }
     ensures since { IfSome result.1 (λ left. IsHonest N.start
         → AllClaimsKept N.opening left.log (D.disk result.0).history left.acknowledged) }
+    ensures looked { IfSome result.1 (λ left. IsHonest N.start
+        → AllShownKept N.opening left.log (D.disk result.0).history left.looked) }
     ensures unmade { IfNone result.1 (D.disk result.0 ≡ store.disk) }
     ensures made { OnOk result.2 (IsSome result.1) }
     ensures why { IfErr result.2 (λ e. (e ≡ NoMemory) ⊎ (e ≡ NoReader)) }

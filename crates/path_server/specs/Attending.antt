@@ -1,7 +1,8 @@
 -- What a session of a hub has read, answered and sent when it ends.
-use Rattle.std.specs.Prelude.{ℕ, Bool, List, Option, Result}
+use Rattle.std.specs.Prelude.{◌≡◌, ℕ, Bool, List, Option, Result}
 use Rattle.path_db.specs.declared.command.Command.{Command}
 use Rattle.row_map.specs.Database.{RowView}
+use Rattle.store_layout.specs.Journal.{all_of}
 use Rattle.store_layout.specs.Opening.{StoreValue}
 use Rattle.group_core.specs.declared.submit_error.SubmitError.{SubmitError}
 use Rattle.command_log.specs.declared.rule.Claim.{Claim}
@@ -23,7 +24,7 @@ limited_beginning future shares commands serving = record { future = future; sha
 -- A limited service over a hub served a session over a connection. The hub opened with this value,
 -- and of its commands it is known for which reasons they were refused.
 pub record IsHubServed {T : Type 0} (opening : StoreValue (List RowView)) (refused : Command → Option SubmitError → Bool) (given taken : T → List ℕ) (is_at_end : T → Type 0) (future : Option ℕ) (shares commands : Bool) (roster : RosterView) (verifies : Verdicts) (left : Bool)
-    (input input_left output output_left : T) (result : Result ℕ FrameError) (claims : List Claim) : Type 0 where
+    (input input_left output output_left : T) (result : Result ℕ FrameError) (claims : List Claim) (look : List Command) : Type 0 where
   -- The reader by which the service began.
   pub reader : Sight
   -- The service after the last message.
@@ -34,3 +35,5 @@ pub record IsHubServed {T : Type 0} (opening : StoreValue (List RowView)) (refus
   -- The claims are those of the acknowledgements among the replies: each is of its message's
   -- command, at its place.
   pub acknowledged : AreClaimed opening connection.served.exchanges claims
+  -- The look is at all commands after which the last lookup or list was answered.
+  pub looked : look ≡ all_of last.inner.groups

@@ -13,6 +13,7 @@ use crate::role::Role;
 use crate::server::Server;
 use crate::task::Seat;
 use crate::turning_away::turn_away;
+use hub_readers::Look;
 use paced_stream::{Ended, StreamCalls, SystemStream, serve_connection};
 use path_hub::{Hub, HubName, LoggedList, Sender, Waiter};
 use path_session::{HubService, SystemNow};
@@ -29,8 +30,8 @@ use std::time::Clock;
 const MOST_DRAINS: u64 = 64;
 
 impl<L: Listener + Drop, V: Verifier, O: Reports> Server<'_, L, V, O> {
-    /// Serves the peer of a seat, hands in the claims of the commands that were acknowledged, frees
-    /// the seat, and closes the connection.
+    /// Serves the peer of a seat, hands in the claims of the commands that were acknowledged and what
+    /// was shown last, frees the seat, and closes the connection.
     pub(crate) fn attend_session<D: Device, N: HubName, R: Wait + Clock>(
         &self,
         hub: &Hub<D, N, R>,
@@ -48,8 +49,9 @@ impl<L: Listener + Drop, V: Verifier, O: Reports> Server<'_, L, V, O> {
         let output = SystemStream::new(&peer.stream);
         let waiter = PeerSocket::new(rt, &peer.stream);
         match self.serve(hub, sender, role, waiter, input, output) {
-            Some((ended, claims)) => {
+            Some((ended, claims, look)) => {
                 hub.keep_acknowledged(claims);
+                hub.keep_look(look);
                 seats.leave(rt, number);
                 self.note_end(rt, &peer.stream, peer.address, &ended);
             }
@@ -61,8 +63,8 @@ impl<L: Listener + Drop, V: Verifier, O: Reports> Server<'_, L, V, O> {
     }
 
     /// Serves a peer by a reader of the hub, as its role allows, and returns with the end the
-    /// claims of all commands that were acknowledged. The result is `None` where there is no
-    /// reader.
+    /// claims of all commands that were acknowledged, and all commands after which the last lookup
+    /// or list was answered. The result is `None` where there is no reader.
     fn serve<D: Device, N: HubName, R: Wait + Clock, P: Waiter + Drop, T: StreamCalls + Drop>(
         &self,
         hub: &Hub<D, N, R>,
@@ -71,10 +73,10 @@ impl<L: Listener + Drop, V: Verifier, O: Reports> Server<'_, L, V, O> {
         peer: P,
         input: T,
         output: T,
-    ) -> Option<(Ended<T>, LoggedList<N>)>
+    ) -> Option<(Ended<T>, LoggedList<N>, Look<N>)>
         ensures served { IfSome result (λ served. IsHubServed N.opening N.refused T.given T.taken T.is_at_end
             self.now.options.now.future (shares_room role (is_some self.now.rooms)) (takes_commands role) self.now.options.now.cores (V.verifies self.now.verifier.now) (P.has_left peer)
-            input served.0.input output served.0.output served.0.replies served.1) }
+            input served.0.input output served.0.output served.0.replies served.1 served.2) }
         ensures nothing { takes_commands role ≡ false → IfSome result (λ served. served.1 ≡ []) }
     {
         let reader = hub.reader().ok()?;
@@ -87,9 +89,9 @@ impl<L: Listener + Drop, V: Verifier, O: Reports> Server<'_, L, V, O> {
         let mut counted = Counted::new(limited, &self.replies, rt);
         let idle = self.options.idle;
         let ended = serve_connection(rt, self.alloc, input, output, &mut counted, idle);
-        let (reader, acknowledged) = counted.into_service().into_service().into_parts();
+        let (reader, acknowledged, look) = counted.into_service().into_service().into_parts();
         hub.give_back(reader);
-        Some((ended, acknowledged))
+        Some((ended, acknowledged, look))
     }
 
     /// Counts the end of a session, reports it if it ended by a fault and a report is due, and

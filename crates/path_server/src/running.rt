@@ -6,7 +6,7 @@ ghost use Rattle.sector_dev.specs.Image.{EveryImage};
 ghost use Rattle.group_core.specs.Starting.{value_of_store};
 ghost use Rattle.sector_dev.specs.Stretch.{Stretch};
 ghost use Rattle.logged_state.specs.Left.{OpensToFrontOf, OpensToLog, OpensWithAll};
-ghost use Rattle.logged_state.specs.Kept.{AllClaimsKept};
+ghost use Rattle.logged_state.specs.Kept.{AllClaimsKept, AllShownKept};
 
 use crate::error::RunError;
 use crate::listeners::{Listener, Listeners};
@@ -59,6 +59,8 @@ pub fn serve_store<R: System, L: Listener + Drop + Send, D: Device + Send, O: Re
         Stretch store.disk (D.disk result.0) (OpensToFrontOf (value_of_store store) left.log.commands 0)) }
     ensures since { IfSome result.1 (λ left. IsHonest store.disk
         → AllClaimsKept (value_of_store store) left.log (D.disk result.0).history left.acknowledged) }
+    ensures looked { IfSome result.1 (λ left. IsHonest store.disk
+        → AllShownKept (value_of_store store) left.log (D.disk result.0).history left.looked) }
     ensures unmade { IfNone result.1 (D.disk result.0 ≡ store.disk) }
     ensures made { OnOk result.2 (IsSome result.1) }
 {
@@ -92,6 +94,8 @@ fn serve_checked<
         Stretch store.disk (D.disk result.0) (OpensToFrontOf (value_of_store store) left.log.commands 0)) }
     ensures since { IfSome result.1 (λ left. IsHonest store.disk
         → AllClaimsKept (value_of_store store) left.log (D.disk result.0).history left.acknowledged) }
+    ensures looked { IfSome result.1 (λ left. IsHonest store.disk
+        → AllShownKept (value_of_store store) left.log (D.disk result.0).history left.looked) }
     ensures unmade { IfNone result.1 (D.disk result.0 ≡ store.disk) }
     ensures made { OnOk result.2 (IsSome result.1) }
 {

@@ -10,6 +10,7 @@ ghost use Rattle.session_core.specs.Service.{reply_to_register, reply_to_lookup,
 ghost use Rattle.session_core.specs.Frames.{MessageView};
 ghost use Rattle.session_core.specs.declared.command_kind.CommandKind.{CommandKind};
 ghost use Rattle.session_core.specs.Front.{message_at};
+ghost use Rattle.store_layout.specs.Journal.{all_of};
 ghost use Rattle.reply_codes.specs.Replies.{reply_to_query, reply_to_page};
 ghost use Rattle.path_session.specs.Serving.{beginning};
 ghost use Rattle.path_session.specs.Answered.{HubAnswers};
@@ -21,7 +22,7 @@ ghost use Rattle.path_session.specs.Sending.{HandsIn, HandsInAtMost};
 
 use crate::refused::{coded, reader_refusal_of, refusal_of};
 use crate::under_way::HubUnderWay;
-use hub_readers::{HubReader, HubReceipt};
+use hub_readers::{HubReader, HubReceipt, Look};
 use isd_as::IsdAs;
 use path_db::{Command, Registration};
 use path_hub::{Hub, HubClaim, HubName, LoggedList, Sender, Waiter};
@@ -100,8 +101,8 @@ impl<'a, D: Device, N: HubName, R: Wait + Clock, V: Verifier, C: Now, P: Waiter>
         }
     }
 
-    /// Ends the service, and returns its reader. The claims of the commands that were acknowledged
-    /// are handed in to the hub.
+    /// Ends the service, and returns its reader. The claims of the commands that were acknowledged,
+    /// and what was shown last, are handed in to the hub.
     pub fn into_reader(self) -> HubReader<N>
     where
         C: Drop,
@@ -110,20 +111,22 @@ impl<'a, D: Device, N: HubName, R: Wait + Clock, V: Verifier, C: Now, P: Waiter>
         ensures seen { result.seen ≡ (serving V.verifies P.has_left self.entry).seen }
     {
         let hub = self.hub;
-        let (reader, claims) = self.into_parts();
+        let (reader, claims, look) = self.into_parts();
         hub.keep_acknowledged(claims);
+        hub.keep_look(look);
         reader
     }
 
-    /// Ends the service, and returns its reader, and the claims of all commands that were
-    /// acknowledged.
-    pub fn into_parts(self) -> (HubReader<N>, LoggedList<N>)
+    /// Ends the service, and returns its reader, the claims of all commands that were acknowledged,
+    /// and all commands after which the last lookup or list was answered.
+    pub fn into_parts(self) -> (HubReader<N>, LoggedList<N>, Look<N>)
     where
         C: Drop,
         P: Drop,
         ensures groups { result.0.groups ≡ (serving V.verifies P.has_left self.entry).groups }
         ensures seen { result.0.seen ≡ (serving V.verifies P.has_left self.entry).seen }
         ensures acknowledged { result.1 ≡ (serving V.verifies P.has_left self.entry).acknowledged }
+        ensures looked { result.2 ≡ all_of (serving V.verifies P.has_left self.entry).groups }
     {
         let HubService {
             hub: _,
@@ -137,7 +140,8 @@ impl<'a, D: Device, N: HubName, R: Wait + Clock, V: Verifier, C: Now, P: Waiter>
             acknowledged,
             sender: _sender,
         } = self;
-        (reader, acknowledged)
+        let look = reader.last_look();
+        (reader, acknowledged, look)
     }
 
     // ---- taking messages

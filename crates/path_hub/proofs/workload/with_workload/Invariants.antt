@@ -10,6 +10,10 @@ ghosts-named_workload-N-LogName g a = record { table = a.name.log.table }
 abbrev pub ghosts-named_workload-N-StateName : goal.ghosts-named_workload-N-StateName
 ghosts-named_workload-N-StateName g a = record { opening = value_of_store a.store; start = a.store.disk }
 
+-- by the history of what is shown
+abbrev pub ghosts-named_workload-N-ReaderName : goal.ghosts-named_workload-N-ReaderName
+ghosts-named_workload-N-ReaderName g a = record { shown = a.name.shown.book }
+
 -- and by the history that its queue begins with; any command may be refused
 abbrev pub ghosts-named_workload-N-QueueName : goal.ghosts-named_workload-N-QueueName
 ghosts-named_workload-N-QueueName g a = record { history = a.name.history.seen.book; refused = λ _ _. true }

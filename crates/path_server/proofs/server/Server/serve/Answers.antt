@@ -1,5 +1,6 @@
 use Rattle.std.proofs.Common.{refl, sym, ap, subst, ◌∙◌, List}
 use Rattle.command_log.specs.declared.rule.Claim.{Claim}
+use Rattle.store_layout.specs.Journal.{all_of}
 use Rattle.path_session.specs.Answered.{HubAnswers}
 use Rattle.path_session.specs.Acknowledged.{AreClaimed}
 use Rattle.path_session.specs.Serving.{Serving}
@@ -27,6 +28,7 @@ returns-clause-served g c =
       acknowledged = subst (AreClaimed opening connection.served.exchanges)
           (ap (λ limits. (state limits.inner).acknowledged) (sym c.into_service.ensures) ∙ ap (λ service. (state service).acknowledged) (sym c.into_service-2.ensures) ∙ sym c.into_parts-reader.ensures.acknowledged)
           (are_claimed opening (LimitedAnswers (HubAnswers opening refused)) (λ (s : LimitedView Serving). s.inner.acknowledged) (limited_keeps opening refused) _ connection.served.exchanges last refl connection.served.answered);
+      looked = c.into_parts-reader.ensures.looked ∙ ap (λ service. all_of (state service).groups) c.into_service-2.ensures ∙ ap (λ limits. all_of (state limits.inner).groups) c.into_service.ensures;
     }
 
 pub returns-clause-nothing : goal.returns-clause-nothing
