@@ -13,7 +13,7 @@ use Rattle.store_open.specs.Open.{IsOpened, OpensAlike}
 use Rattle.store_open.specs.PathStores.{store_format}
 use Rattle.store_open.specs.Store.{StoreView}
 use Rattle.group_core.specs.Starting.{value_of_store}
-use Rattle.logged_state.specs.Kept.{AllClaimsKept}
+use Rattle.logged_state.specs.Kept.{AllClaimsKept, AllShownKept}
 use Rattle.logged_state.specs.Left.{OpensToFrontOf, OpensToLog}
 use Rattle.logged_state.specs.LeftView.{LeftView}
 use Rattle.cli_program.specs.Serving.{ServesFile}
@@ -27,17 +27,19 @@ pub serves_file : (start : Disk) (store : StoreView) (left : LeftView) (file : F
     → Stretch start store.disk (IsFromImage start.history.now OpensAlike)
     → Stretch store.disk end (OpensToFrontOf (value_of_store store) left.log.commands 0)
     → (IsHonest store.disk → AllClaimsKept (value_of_store store) left.log end.history left.acknowledged)
+    → (IsHonest store.disk → AllShownKept (value_of_store store) left.log end.history left.looked)
     → (IsHonest end → EveryImage end.history.now (OpensToLog (value_of_store store) left.log))
     → end.is_honest ≡ file.is_honest
     → CoversImages file end
     → ServesFile start left file end
-serves_file start store left file end opened alike moments since now same covers = record {
+serves_file start store left file end opened alike moments since looked now same covers = record {
   opening = value_of_store store;
   opens = λ honest. opens_to (reads_of start) store (opened honest);
   opened = store.disk;
   alike = alike;
   moments = moments;
   since = λ honest. since (honest_after _ _ alike.keeps honest);
+  looked = λ honest. looked (honest_after _ _ alike.keeps honest);
   leaves = λ honest content is. now (subst (λ (b : Bool). IsTrue b) (sym same) honest) (front end.sectors content) (covers honest content is);
 }
 
@@ -48,13 +50,15 @@ pub serves_some : (start : Disk) (store : StoreView) (found : Option LeftView) (
     → Stretch start store.disk (IsFromImage start.history.now OpensAlike)
     → IfSome found (λ left. Stretch store.disk end (OpensToFrontOf (value_of_store store) left.log.commands 0))
     → IfSome found (λ left. IsHonest store.disk → AllClaimsKept (value_of_store store) left.log end.history left.acknowledged)
+    → IfSome found (λ left. IsHonest store.disk → AllShownKept (value_of_store store) left.log end.history left.looked)
     → IfSome found (λ left. IsHonest end → EveryImage end.history.now (OpensToLog (value_of_store store) left.log))
     → end.is_honest ≡ file.is_honest
     → CoversImages file end
     → ServesFile start left file end
-serves_some start store found left file end is opened alike moments since now same covers =
+serves_some start store found left file end is opened alike moments since looked now same covers =
     serves_file start store left file end opened alike
     (subst (λ (it : Option LeftView). IfSome it (λ left. Stretch store.disk end (OpensToFrontOf (value_of_store store) left.log.commands 0))) is moments)
     (subst (λ (it : Option LeftView). IfSome it (λ left. IsHonest store.disk → AllClaimsKept (value_of_store store) left.log end.history left.acknowledged)) is since)
+    (subst (λ (it : Option LeftView). IfSome it (λ left. IsHonest store.disk → AllShownKept (value_of_store store) left.log end.history left.looked)) is looked)
     (subst (λ (it : Option LeftView). IfSome it (λ left. IsHonest end → EveryImage end.history.now (OpensToLog (value_of_store store) left.log))) is now)
     same covers

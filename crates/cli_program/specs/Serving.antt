@@ -10,7 +10,7 @@ use Rattle.store_layout.specs.Opening.{StoreValue, OpensTo}
 use Rattle.store_layout.specs.Limits.{latest}
 use Rattle.store_open.specs.Open.{OpensAlike}
 use Rattle.store_open.specs.PathStores.{store_format}
-use Rattle.logged_state.specs.Kept.{AllClaimsKept}
+use Rattle.logged_state.specs.Kept.{AllClaimsKept, AllShownKept}
 use Rattle.logged_state.specs.Left.{OpensToFrontOf, OpensToLog}
 use Rattle.logged_state.specs.LeftView.{LeftView}
 
@@ -28,6 +28,9 @@ pub record ServesFile (start : Disk) (left : LeftView) (file : FileState) (end :
   pub moments : Stretch opened end (OpensToFrontOf opening left.log.commands 0)
   -- It has each acknowledged command from the moment on at which it was committed.
   pub since : IsHonest start → AllClaimsKept opening left.log end.history left.acknowledged
+  -- What each session was shown last, if it handed that in, is committed, and each such image has
+  -- it from the moment on at which its last command was committed.
+  pub looked : IsHonest start → AllShownKept opening left.log end.history left.looked
   -- So does each content that a stop may leave of the file at the end, in the device's sectors: it
   -- opens to these rows after a front of the log with all committed commands.
   pub leaves : IsHonestFile file → (content : List ℕ) → IsImage (file_moment file) content
