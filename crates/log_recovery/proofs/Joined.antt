@@ -1,6 +1,7 @@
 -- Two servers, one after the other.
-use Rattle.std.proofs.Common.{◌≡◌, ℕ, ◌+◌, ◌≤◌, List, [], ◌∷◌, ◌++◌, length, take, get_or, Some, slice_get, sym, ◌∙◌, ap, subst, arith, length-append}
+use Rattle.std.proofs.Common.{◌≡◌, ℕ, ◌+◌, ◌≤◌, List, [], ◌∷◌, ◌++◌, length, take, get_or, Some, slice_get, sym, ◌∙◌, ap, subst, arith, append_assoc, length-append}
 use Rattle.std.specs.List.{AllByRecursion}
+use mathlib.Core.List.{IsPrefix}
 use Rattle.std.proofs.lemmas.List.{length-take-le, get_or_append_left, get_or-append-add}
 use Rattle.std.proofs.lemmas.Option.{slice_get_within, slice_get-get_or, get_or_from_slice_get}
 use Rattle.row_map.specs.Database.{RowView}
@@ -10,7 +11,7 @@ use Rattle.command_log.specs.declared.rule.Claim.{Claim}
 use Rattle.prefix_recovery.specs.Survival.{IsAfterFront}
 use Rattle.prefix_recovery.proofs.Fronts.{split, front_then, place_rises}
 use Rattle.log_recovery.specs.Survival.{Survives}
-use Rattle.log_recovery.specs.Composition.{claims_after}
+use Rattle.log_recovery.specs.Composition.{claims_after, looked_after}
 
 -- a list and another, at an index of the first and of the second
 at_first : (front behind : List Command) (i : ℕ) (x : Command) → slice_get front i ≡ Some x → slice_get (front ++ behind) i ≡ Some x
@@ -39,20 +40,47 @@ module _ (front behind : List Command) (n : ℕ) (long : length front ≡ n) whe
   both_claims [] more all others = later_claims more others
   both_claims (claim ∷ claims) more all others = (at_first front behind claim.index claim.command all.0, both_claims claims more all.1 others)
 
-module _ (start middle last : StoreValue (List RowView)) (order later : List Command) (claims more : List Claim) (first : Survives start order claims middle) (second : Survives middle later more last) where
+-- what begins a list begins more than the list
+begins_first : (front behind list : List Command) → IsPrefix list front → IsPrefix list (front ++ behind)
+begins_first front behind list a = (a.0 ++ behind, sym (append_assoc list a.0 behind) ∙ ap (λ (l : List Command). l ++ behind) a.1)
+
+-- what begins a list, after others, begins that list after them
+begins_second : (front behind list : List Command) → IsPrefix list behind → IsPrefix (front ++ list) (front ++ behind)
+begins_second front behind list a = (a.0, append_assoc front list a.0 ∙ ap (λ (l : List Command). front ++ l) a.1)
+
+module _ (front behind : List Command) where
+  later_looks : (seen : List (List Command)) → AllByRecursion (λ list. IsPrefix list behind) seen → AllByRecursion (λ list. IsPrefix list (front ++ behind)) (looked_after front seen)
+  later_looks [] all = tt
+  later_looks (list ∷ seen) all = (begins_second front behind list all.0, later_looks seen all.1)
+
+  pub both_looks : (looked seen : List (List Command)) → AllByRecursion (λ list. IsPrefix list front) looked → AllByRecursion (λ list. IsPrefix list behind) seen
+      → AllByRecursion (λ list. IsPrefix list (front ++ behind)) (looked ++ looked_after front seen)
+  both_looks [] seen all others = later_looks seen others
+  both_looks (list ∷ looked) seen all others = (begins_first front behind list all.0, both_looks looked seen all.1 others)
+
+module _ (start middle last : StoreValue (List RowView)) (order later : List Command) (claims more : List Claim) (looked seen : List (List Command))
+    (first : Survives start order claims looked middle) (second : Survives middle later more seen last) where
   both : IsAfterFront start (take first.front.kept order ++ later) last
   both = front_then start middle last order later first.front second.front
 
   both_kept : both.kept ≡ first.front.kept + second.front.kept
   both_kept = omega (arith, both.place, first.front.place, second.front.place)
 
-  pub servers_joined : Survives start (take first.front.kept order ++ later) (claims ++ claims_after first.front.kept more) last
+  both_is : take both.kept (take first.front.kept order ++ later) ≡ take first.front.kept order ++ take second.front.kept later
+  both_is = ap (λ (n : ℕ). take n (take first.front.kept order ++ later)) both_kept ∙ split start middle last order later first.front second.front
+
+  pub servers_joined : Survives start (take first.front.kept order ++ later) (claims ++ claims_after first.front.kept more)
+      (looked ++ looked_after (take first.front.kept order) seen) last
   servers_joined = record {
     front = both;
     claimed =
         subst (λ (list : List Command). AllByRecursion (λ claim. slice_get list claim.index ≡ Some claim.command) (claims ++ claims_after first.front.kept more))
-        (sym (ap (λ (n : ℕ). take n (take first.front.kept order ++ later)) both_kept ∙ split start middle last order later first.front second.front))
+        (sym both_is)
         (both_claims (take first.front.kept order) (take second.front.kept later) first.front.kept (length-take-le first.front.kept order first.front.inside) claims more first.claimed second.claimed);
+    shown =
+        subst (λ (list : List Command). AllByRecursion (λ front. IsPrefix front list) (looked ++ looked_after (take first.front.kept order) seen))
+        (sym both_is)
+        (both_looks (take first.front.kept order) (take second.front.kept later) looked seen first.shown second.shown);
   }
 
   pub place_joined : middle.place ≤ last.place

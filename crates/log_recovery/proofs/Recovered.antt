@@ -1,6 +1,7 @@
 -- What is opened after a stop of a server.
-use Rattle.std.proofs.Common.{◌≡◌, ℕ, ◌+◌, ◌-◌, ◌<◌, ◌≤◌, Bool, true, false, cond, leb, List, [], ◌∷◌, length, take, drop, get_or, filter, Some, slice_get, refl, sym, ◌∙◌, ap, subst, arith, All, Contains}
+use Rattle.std.proofs.Common.{◌≡◌, ℕ, zero, suc, ◌+◌, ◌-◌, ◌<◌, ◌≤◌, Bool, true, false, cond, leb, List, [], ◌∷◌, ◌++◌, length, take, drop, get_or, filter, Some, slice_get, refl, sym, ◌∙◌, ap, subst, arith, All, Contains}
 use Rattle.std.specs.List.{AllByRecursion}
+use mathlib.Core.List.{IsPrefix}
 use Rattle.std.proofs.lemmas.Bool.{leb-true}
 use Rattle.std.proofs.lemmas.List.{length-take-le, length-drop, get_or-take, get_or-drop}
 use Rattle.std.proofs.lemmas.List.Elements.{All-contains, Contains-get_or}
@@ -25,10 +26,10 @@ use Rattle.group_recovery.specs.Reopening.{HasValueOf, RefusesNoStore, SaysNothi
 use Rattle.prefix_recovery.proofs.Recovered.{alike_opens}
 use Rattle.logged_state.specs.Left.{OpensToFrontOf}
 use Rattle.logged_state.specs.LeftView.{LeftView}
-use Rattle.logged_state.specs.Kept.{IsClaimKept, AllClaimsKept}
+use Rattle.logged_state.specs.Kept.{IsClaimKept, AllClaimsKept, IsFrontKept, IsShownKept, AllShownKept}
 use Rattle.prefix_recovery.specs.Survival.{IsAfterFront}
 use Rattle.prefix_recovery.proofs.Fronts.{after_front}
-use Rattle.log_recovery.specs.Survival.{ServerView, HoldsStopAt, Survives, acknowledged_at, Recovers}
+use Rattle.log_recovery.specs.Survival.{ServerView, HoldsStopAt, Survives, acknowledged_at, committed_by, looked_at, Recovers}
 use Rattle.log_recovery.specs.Serving.{IsServed, IsLeftAt, MayHoldAt, RecoversAgain}
 
 -- an element is in what is left from an earlier index on
@@ -46,25 +47,36 @@ in_front list n i x below inside at =
     slice_get-get_or (take n list) i x (omega (arith, below, length-take-le n list inside))
     ∙ ap (λ y. Some y) (get_or-take n list i x below ∙ get_or_from_slice_get list i x x at)
 
--- what holds of each claim that passes a test
-all_passing : (P : Claim → Type 0) (test : Claim → Bool) (claims : List Claim) → AllByRecursion (λ claim. test claim ≡ true → P claim) claims → AllByRecursion P (filter test claims)
+-- a front of a list's front begins each front of the list that is as long
+begins : (front list : List Command) (n k : ℕ) → IsPrefix front (take n list) → length front ≤ k → IsPrefix front (take k list)
+begins [] list n k is long = (take k list, refl)
+begins (x ∷ front) list zero k is long = let none : x ∷ (front ++ is.0) ≡ [] = is.1 in absurd (cc)
+begins (x ∷ front) [] (suc n) k is long = let none : x ∷ (front ++ is.0) ≡ [] = is.1 in absurd (cc)
+begins (x ∷ front) (y ∷ list) (suc n) zero is long = absurd (omega (arith, long))
+begins (x ∷ front) (y ∷ list) (suc n) (suc k) is long =
+    let rest = begins front list n k (is.0, ap (λ (l : List Command). drop 1 l) is.1) (omega (arith, long)) in
+    (rest.0, ap (λ (z : Command). z ∷ (front ++ rest.0)) (ap (λ (l : List Command). get_or l 0 x) is.1) ∙ ap (λ (l : List Command). y ∷ l) rest.1)
+
+-- what holds of each element that passes a test
+all_passing : {X : Type 0} (P : X → Type 0) (test : X → Bool) (list : List X) → AllByRecursion (λ x. test x ≡ true → P x) list → AllByRecursion P (filter test list)
 all_passing P test [] all = tt
-all_passing P test (claim ∷ claims) all = by_test (test claim) all.0 (all_passing P test claims all.1)
+all_passing P test (x ∷ list) all = by_test (test x) all.0 (all_passing P test list all.1)
   where
-    by_test : (b : Bool) → (b ≡ true → P claim) → AllByRecursion P (filter test claims) → AllByRecursion P (cond b (claim ∷ filter test claims) (filter test claims))
+    by_test : (b : Bool) → (b ≡ true → P x) → AllByRecursion P (filter test list) → AllByRecursion P (cond b (x ∷ filter test list) (filter test list))
     by_test true has others = (has refl, others)
     by_test false has others = others
 
 -- what holds of each element follows from what else does
-all_weaker : (P Q : Claim → Type 0) → ((claim : Claim) → P claim → Q claim) → (claims : List Claim) → AllByRecursion P claims → AllByRecursion Q claims
+all_weaker : {X : Type 0} (P Q : X → Type 0) → ((x : X) → P x → Q x) → (list : List X) → AllByRecursion P list → AllByRecursion Q list
 all_weaker P Q follows [] all = tt
-all_weaker P Q follows (claim ∷ claims) all = (follows claim all.0, all_weaker P Q follows claims all.1)
+all_weaker P Q follows (x ∷ list) all = (follows x all.0, all_weaker P Q follows list all.1)
 
 -- what a server says of its device holds of the same device by another name
 pub served_so : (start : StoreView) (left : LeftView) (end other : Disk) → other ≡ end → Stretch start.disk end (OpensToFrontOf (value_of_store start) left.log.commands 0)
-    → (IsHonest start.disk → AllClaimsKept (value_of_store start) left.log end.history left.acknowledged) → IsServed start left other
-served_so start left end other same leaves since =
-    subst (λ (disk : Disk). IsServed start left disk) (sym same) (record { moments = leaves; since = since })
+    → (IsHonest start.disk → AllClaimsKept (value_of_store start) left.log end.history left.acknowledged)
+    → (IsHonest start.disk → AllShownKept (value_of_store start) left.log end.history left.looked) → IsServed start left other
+served_so start left end other same leaves since looked =
+    subst (λ (disk : Disk). IsServed start left disk) (sym same) (record { moments = leaves; since = since; looked = looked })
 
 module _ (server : ServerView) (serves : IsServed server.start server.left server.end) (t : ℕ) (image : List ℕ) (is_left : IsLeftAt server t image) where
   abbrev opening : StoreValue (List RowView)
@@ -105,7 +117,20 @@ module _ (server : ServerView) (serves : IsServed server.start server.left serve
         in_front commands front.kept claim.index claim.command
         (omega (arith, enough, front.place, place_is (claim.index + 1) opens)) front.inside kept.has
 
-    pub survives : Survives opening commands (acknowledged_at t server.left) (value_of_store store)
+    -- the front is as long as what was committed then
+    long_enough : (n : ℕ) → IsFrontKept opening server.left.log server.end.history n → committed_by server.left.log n ≤ t → n ≤ front.kept
+    long_enough zero kept before = omega arith
+    long_enough (suc index) kept before =
+        let opens = left_has (OpensToFrontOf opening commands (index + 1)) (since_of server.left.log index) before kept.every in
+        let enough = opens.enough in
+        omega (arith, enough, front.place, place_is (index + 1) opens)
+
+    shown_there : (list : List Command) → IsShownKept opening server.left.log server.end.history list → committed_by server.left.log (length list) ≤ t
+        → IsPrefix list (take front.kept commands)
+    shown_there list kept before =
+        begins list commands server.left.log.committed front.kept kept.committed (long_enough (length list) kept.kept before)
+
+    pub survives : Survives opening commands (acknowledged_at t server.left) (looked_at t server.left) (value_of_store store)
     survives = record {
       front = front;
       claimed =
@@ -113,6 +138,11 @@ module _ (server : ServerView) (serves : IsServed server.start server.left serve
           (λ claim. leb (since_of server.left.log claim.index) t) server.left.acknowledged
           (all_weaker (IsClaimKept opening server.left.log server.end.history) _
           (λ claim kept tells. claimed_there claim kept (leb-true (since_of server.left.log claim.index) t tells)) server.left.acknowledged (serves.since is_left.stop.honest));
+      shown =
+          all_passing (λ list. IsPrefix list (take front.kept commands))
+          (λ list. leb (committed_by server.left.log (length list)) t) server.left.looked
+          (all_weaker (IsShownKept opening server.left.log server.end.history) _
+          (λ list kept tells. shown_there list kept (leb-true (committed_by server.left.log (length list)) t tells)) server.left.looked (serves.looked is_left.stop.honest));
     }
 
 -- what a stop of the server leaves opens to itself

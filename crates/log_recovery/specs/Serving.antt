@@ -11,8 +11,8 @@ use Rattle.store_open.specs.Store.{StoreView}
 use Rattle.group_core.specs.Starting.{value_of_store}
 use Rattle.logged_state.specs.Left.{OpensToFrontOf}
 use Rattle.logged_state.specs.LeftView.{LeftView}
-use Rattle.logged_state.specs.Kept.{AllClaimsKept}
-use Rattle.log_recovery.specs.Survival.{ServerView, IsStopAt, Survives, acknowledged_at}
+use Rattle.logged_state.specs.Kept.{AllClaimsKept, AllShownKept}
+use Rattle.log_recovery.specs.Survival.{ServerView, IsStopAt, Survives, acknowledged_at, looked_at}
 
 -- What a server of this store says, by its log and claims, of the device that it hands out.
 pub record IsServed (start : StoreView) (left : LeftView) (end : Disk) : Type 0 where
@@ -20,6 +20,9 @@ pub record IsServed (start : StoreView) (left : LeftView) (end : Disk) : Type 0 
   pub moments : Stretch start.disk end (OpensToFrontOf (value_of_store start) left.log.commands 0)
   -- Each image has a claimed command from the moment on at which it was committed.
   pub since : IsHonest start.disk → AllClaimsKept (value_of_store start) left.log end.history left.acknowledged
+  -- What each session was shown last is committed, and each image has it from the moment on at which
+  -- its last command was committed.
+  pub looked : IsHonest start.disk → AllShownKept (value_of_store start) left.log end.history left.looked
 
 -- The image opens to whatever a stop of the server at a moment left: it is what the stop left, or
 -- what a stop of an opening left after that.
@@ -37,4 +40,4 @@ MayHoldAt server t disk = EveryImage disk.history.now (IsLeftAt server t)
 abbrev pub RecoversAgain : ServerView → Disk → StoreView → Type 0
 RecoversAgain server disk store =
     (t : ℕ) → MayHoldAt server t disk
-    → Survives (value_of_store server.start) server.left.log.commands (acknowledged_at t server.left) (value_of_store store)
+    → Survives (value_of_store server.start) server.left.log.commands (acknowledged_at t server.left) (looked_at t server.left) (value_of_store store)

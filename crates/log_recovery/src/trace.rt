@@ -5,7 +5,7 @@ ghost use Rattle.sector_dev.specs.Disk.{IsHonest};
 ghost use Rattle.sector_dev.specs.Stretch.{Stretch};
 ghost use Rattle.group_core.specs.Starting.{value_of_store};
 ghost use Rattle.logged_state.specs.Left.{OpensToFrontOf};
-ghost use Rattle.logged_state.specs.Kept.{AllClaimsKept};
+ghost use Rattle.logged_state.specs.Kept.{AllClaimsKept, AllShownKept};
 ghost use Rattle.log_recovery.specs.Serving.{IsServed};
 
 use logged_state::Left;
@@ -15,7 +15,7 @@ use std::snapshot::Snapshot;
 use store_open::Store;
 
 /// A server at its end: the store that it was started with, its log with the claims of acknowledged
-/// commands, and its device. Only clauses read the store and the device, which have no bytes here.
+/// commands and with what sessions were shown, and its device. Only clauses read the store and the device, which have no bytes here.
 #[derive(Drop)]
 pub struct ServerTrace<D: Device> {
     start: Snapshot<Store<D>>,
@@ -40,6 +40,8 @@ impl<D: Device> ServerTrace<D> {
         requires moments { Stretch start.value.disk (D.disk device.now) (OpensToFrontOf (value_of_store start.value) left.log.commands 0) }
         requires since { IsHonest start.value.disk
             → AllClaimsKept (value_of_store start.value) left.log (D.disk device.now).history left.acknowledged }
+        requires looked { IsHonest start.value.disk
+            → AllShownKept (value_of_store start.value) left.log (D.disk device.now).history left.looked }
         ensures { result ≡ record { start = start.value; left = left; end = D.disk device.now } }
     {
         ServerTrace {
@@ -49,7 +51,7 @@ impl<D: Device> ServerTrace<D> {
         }
     }
 
-    /// The log with the claims.
+    /// The log with the claims and with what sessions were shown.
     pub fn into_left(self) -> Left
         ensures { result ≡ self.left }
     {

@@ -2,5 +2,5 @@ use Rattle.log_recovery.proofs.Joined.{servers_joined, place_joined}
 use Rattle.log_recovery.proofs.composition.servers_compose.Goals as goal
 
 pub returns : goal.returns
-returns c = λ start middle last order later claims more first second.
-    (servers_joined start middle last order later claims more first second, place_joined start middle last order later claims more first second)
+returns c = λ start middle last order later claims more looked seen first second.
+    (servers_joined start middle last order later claims more looked seen first second, place_joined start middle last order later claims more looked seen first second)
