@@ -5,7 +5,6 @@
 mod ahead;
 mod given_up;
 mod held;
-mod host;
 mod learnt;
 mod left;
 mod purges;
@@ -14,4 +13,3 @@ mod refused;
 mod serves;
 mod stops;
 mod strangers;
-mod workloads;

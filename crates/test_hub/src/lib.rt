@@ -2,8 +2,12 @@
 #![tactic(auto)]
 
 #[cfg(test)]
+mod host;
+#[cfg(test)]
 mod hub;
 #[cfg(test)]
 mod loops;
 #[cfg(test)]
 mod queues;
+#[cfg(test)]
+mod workloads;

@@ -2,7 +2,6 @@
 //! calls, which notices they give, which changes wake whom, and the calls of a long run through a
 //! hub beside those of a run of an equal store.
 
-mod host;
 mod loops;
 mod notices;
 mod rests;

@@ -8,7 +8,5 @@ mod condvars;
 mod crowds;
 mod faults;
 mod full;
-mod host;
 mod refused;
 mod said;
-mod workloads;

@@ -1,7 +1,7 @@
 //! Commands that are handed in before the answer to the first is waited for.
 
-use crate::hub::host::Host;
-use crate::hub::workloads::{Errand, Tasks, with_tasks};
+use crate::host::Host;
+use crate::workloads::{Errand, Tasks, with_tasks};
 use group_core::SubmitError;
 use path_db::Command;
 use path_hub::{Hub, HubClaim, HubError, HubJob, HubName, Senders, with_hub};

@@ -1,7 +1,7 @@
 //! A hub whose state was stopped at a stranger.
 
-use crate::hub::host::Host;
-use crate::hub::workloads::{Errand, Tasks, with_tasks};
+use crate::host::Host;
+use crate::workloads::{Errand, Tasks, with_tasks};
 use group_core::SubmitError;
 use path_db::Command;
 use path_hub::{Hub, HubError, HubName, Senders, Steps};

@@ -1,7 +1,7 @@
 //! A lookup is answered while a sync of the flusher is held, under the lock.
 
-use crate::hub::host::Host;
-use crate::hub::workloads::{Errand, Tasks, with_tasks};
+use crate::host::Host;
+use crate::workloads::{Errand, Tasks, with_tasks};
 use path_hub::{Hub, HubName, Senders, Steps};
 use sector_dev::Device;
 use std::alloc::Global;

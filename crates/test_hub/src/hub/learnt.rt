@@ -1,7 +1,7 @@
 //! A receipt that a reader has learnt is shown by the reader's next lookup.
 
-use crate::hub::host::Host;
-use crate::hub::workloads::{Errand, Tasks, with_tasks};
+use crate::host::Host;
+use crate::workloads::{Errand, Tasks, with_tasks};
 use hub_readers::HubReader;
 use path_hub::{Hub, HubName, Senders};
 use sector_dev::Device;

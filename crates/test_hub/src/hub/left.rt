@@ -2,7 +2,7 @@
 
 ghost use Rattle.std.specs.Prelude.{◌≡◌};
 
-use crate::hub::host::Host;
+use crate::host::Host;
 use path_db::Command;
 use path_hub::{Hub, HubClaim, HubJob, HubName, Senders, UnnamedClaim, with_hub};
 use sector_dev::Device;
@@ -34,7 +34,7 @@ fn settled<D: Device, N: HubName, R: Wait + Clock + Abort>(
     hub: &Hub<D, N, R>,
     claim: HubClaim<N>,
 ) -> UnnamedClaim
-    ensures table { result.table ≡ N.table.passes }
+    ensures table { result.table ≡ N.table }
     ensures command { result.claim.command ≡ claim }
 {
     match hub.settle(claim) {
@@ -48,7 +48,7 @@ impl<D: Device, R: Wait + Clock + Abort> HubJob<D, R> for Registers {
 
     type Out = (UnnamedClaim, UnnamedClaim);
 
-    ghost does = { λ _ claims table. (claims.0.table ≡ table.passes) × (claims.1.table ≡ table.passes) };
+    ghost does = { λ _ claims table. (claims.0.table ≡ table) × (claims.1.table ≡ table) };
 
     fn run<N: HubName + Send + Sync>(
         self,

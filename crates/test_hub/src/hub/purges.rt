@@ -1,7 +1,7 @@
 //! Six hundred purges, one after the other.
 
-use crate::hub::host::Host;
-use crate::hub::workloads::{Errand, Tasks, with_tasks};
+use crate::host::Host;
+use crate::workloads::{Errand, Tasks, with_tasks};
 use path_db::Command;
 use path_hub::{Hub, HubName, Senders};
 use sector_dev::Device;

@@ -1,6 +1,6 @@
 //! A hub has 64 readers.
 
-use crate::hub::host::Host;
+use crate::host::Host;
 use hub_readers::HubReader;
 use path_hub::{Hub, HubError, HubJob, HubName, Senders, with_hub};
 use sector_dev::Device;

@@ -1,8 +1,8 @@
 //! Want of memory. The tests are run with each of their allocations refused in turn: a call that is
 //! refused changes nothing, and succeeds when it is made again.
 
-use crate::hub::host::Host;
-use crate::hub::workloads::{Errand, Tasks};
+use crate::host::Host;
+use crate::workloads::{Errand, Tasks};
 use group_core::{Durable, PublishError, StageError, Staged, StepError, SubmitError, Ticket};
 use hub_readers::{HubNote, HubReader, ReaderError};
 use path_db::Command;

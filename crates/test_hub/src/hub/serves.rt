@@ -1,7 +1,7 @@
 //! Tasks that register and look up at the same time.
 
-use crate::hub::host::Host;
-use crate::hub::workloads::{Errand, Tasks, with_tasks};
+use crate::host::Host;
+use crate::workloads::{Errand, Tasks, with_tasks};
 use hub_readers::HubReader;
 use path_hub::{Hub, HubName, Senders};
 use sector_dev::Device;

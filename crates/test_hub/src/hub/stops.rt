@@ -1,7 +1,7 @@
 //! What is answered once the state has stopped.
 
-use crate::hub::host::Host;
-use crate::hub::workloads::{Errand, Tasks, with_tasks};
+use crate::host::Host;
+use crate::workloads::{Errand, Tasks, with_tasks};
 use group_core::SubmitError;
 use hub_readers::HubReader;
 use path_db::Command;

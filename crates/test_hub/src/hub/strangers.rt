@@ -1,6 +1,6 @@
 //! Tickets of another hub, and commands that are not accepted.
 
-use crate::hub::host::Host;
+use crate::host::Host;
 use group_core::{Redeemed, SubmitError, Ticket};
 use path_db::Command;
 use path_hub::{Hub, HubError, HubJob, HubName, Senders, Steps, with_hub};

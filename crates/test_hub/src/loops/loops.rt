@@ -1,6 +1,6 @@
 //! The loops of both actors over a state that stops before one of their calls.
 
-use crate::loops::host::Host;
+use crate::host::Host;
 use group_core::{Prepared, Redeemed, Ticket};
 use path_db::Command;
 use path_hub::{Silent, Steps, checkpointer_loop, flusher_loop};

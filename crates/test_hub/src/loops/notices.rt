@@ -1,6 +1,6 @@
 //! Which notices both loops give, and in which order.
 
-use crate::loops::host::Host;
+use crate::host::Host;
 use crate::loops::loops::{pieces_of, redeem_all, submit_all};
 use crate::loops::scarce::{Damage, NONE, Refusals, Scarce};
 use group_core::SubmitError;

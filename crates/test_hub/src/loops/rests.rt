@@ -1,6 +1,6 @@
 //! Which calls are counted as changes, and which rests a change ends.
 
-use crate::loops::host::Host;
+use crate::host::Host;
 use path_hub::{Awaited, Hub, HubJob, HubName, Senders, Steps, with_hub};
 use sector_dev::Device;
 use std::alloc::Global;

@@ -1,7 +1,7 @@
 //! One thread makes the calls of a long run through a hub: each is answered as by a run of an equal
 //! store, after as many syncs.
 
-use crate::loops::host::Host;
+use crate::host::Host;
 use group_core::StageError;
 use group_recovery::{Event, Reply, Run, run};
 use path_db::Command;

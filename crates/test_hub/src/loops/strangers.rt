@@ -1,6 +1,6 @@
 //! What both actors do with a value that a state refuses as a stranger.
 
-use crate::loops::host::Host;
+use crate::host::Host;
 use crate::loops::loops::pieces_of;
 use path_hub::{Silent, Steps, checkpointer_loop, flusher_loop};
 use std::process::Abort;

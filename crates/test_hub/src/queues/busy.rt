@@ -1,6 +1,6 @@
 //! Commands that are refused as busy among others that are handed in ahead.
 
-use crate::queues::host::Host;
+use crate::host::Host;
 use crate::queues::said::{Handed, Said, hand_in_purges, room, settle};
 use group_core::SubmitError;
 use path_hub::{Hub, HubJob, HubName, Senders, with_hub};

@@ -1,8 +1,8 @@
 //! Sixty-four tasks that hand commands in ahead while the checkpointer works.
 
-use crate::queues::host::Host;
+use crate::host::Host;
 use crate::queues::said::{Handed, Said, hand_in, room, settle};
-use crate::queues::workloads::{Errand, Tasks, with_tasks};
+use crate::workloads::{Errand, Tasks, with_tasks};
 use path_hub::{Hub, HubName, Senders};
 use sector_dev::Device;
 use std::alloc::Global;

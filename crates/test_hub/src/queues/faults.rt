@@ -1,8 +1,8 @@
 //! A device that fails while the queue is full or half full: each command is answered.
 
-use crate::queues::host::Host;
+use crate::host::Host;
 use crate::queues::said::{Handed, Said, hand_in_purges, room, settle};
-use crate::queues::workloads::{Errand, Tasks, nap, with_tasks};
+use crate::workloads::{Errand, Tasks, nap, with_tasks};
 use group_core::SubmitError;
 use path_hub::{Hub, HubName, Senders};
 use sector_dev::{Device, MemDevice};

@@ -1,8 +1,8 @@
 //! Commands that find the queue full, while the flusher can take none of it.
 
-use crate::queues::host::Host;
+use crate::host::Host;
 use crate::queues::said::{Handed, Said, hand_in, hand_in_purges, room, settle};
-use crate::queues::workloads::{Errand, Tasks, nap, with_tasks};
+use crate::workloads::{Errand, Tasks, nap, with_tasks};
 use group_core::SubmitError;
 use hub_readers::HubReader;
 use path_db::Command;

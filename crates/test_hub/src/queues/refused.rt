@@ -2,9 +2,9 @@
 //! allocations refused in turn: a command that is refused takes no place, and is accepted when it
 //! is handed in again.
 
-use crate::queues::host::Host;
+use crate::host::Host;
 use crate::queues::said::{Handed, Said, hand_in, room, settle};
-use crate::queues::workloads::{Errand, Tasks, nap};
+use crate::workloads::{Errand, Tasks, nap};
 use group_core::SubmitError;
 use path_db::Command;
 use path_hub::{Hub, HubError, HubName, Senders, with_workload};
