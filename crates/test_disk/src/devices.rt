@@ -11,6 +11,5 @@ mod files;
 mod fuses;
 mod gates;
 mod openings;
-mod same;
 mod sectors;
 mod system_files;

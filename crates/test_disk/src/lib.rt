@@ -4,8 +4,12 @@
 #![tactic(auto)]
 
 #[cfg(test)]
+mod checks;
+#[cfg(test)]
 mod devices;
 #[cfg(test)]
 mod halves;
+#[cfg(test)]
+mod host;
 #[cfg(test)]
 mod openings;

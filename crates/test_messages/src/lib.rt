@@ -4,6 +4,10 @@
 #![tactic(auto)]
 
 #[cfg(test)]
+mod checks;
+#[cfg(test)]
+mod host;
+#[cfg(test)]
 mod lookups;
 #[cfg(test)]
 mod messages;

@@ -6,5 +6,4 @@ mod classes;
 mod filter;
 mod laws;
 mod pages;
-mod same;
 mod worked;

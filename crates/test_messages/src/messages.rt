@@ -9,7 +9,6 @@ mod fields;
 mod laws;
 mod messages;
 mod numbers;
-mod same;
 mod segments;
 mod signatures;
 mod worked;

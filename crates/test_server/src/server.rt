@@ -4,9 +4,11 @@
 
 mod accepts;
 mod asking;
+mod checks;
 mod doors;
 mod ends;
 mod hanging;
+mod host;
 mod leaving;
 mod pacing;
 mod page;

@@ -1,16 +1,15 @@
 //! The calls that the tests make of a device of four sectors, and the contents of the device after
 //! them.
-use crate::devices::same::assert_same;
 use sector_dev::{DevError, Device, SECTOR};
 use std::fmt::Debug;
-use std::process::Abort;
+use test_support::{TestHost, assert_same, assert_true};
 
 /// The number of the calls of `call`.
 pub(crate) const CALLS: u64 = 6;
 
 /// One of the calls.
-fn call<D: Device>(rt: &impl Abort, device: &mut D, number: u64) -> Result<(), DevError> {
-    assert_eq!(rt; device.sectors(), 4);
+fn call<D: Device>(rt: &impl TestHost, device: &mut D, number: u64) -> Result<(), DevError> {
+    assert_true(rt, device.sectors() == 4, "the device has four sectors");
     match number {
         0 => device.write(1, &[0x11; 512]),
         1 => device.sync(),
@@ -23,7 +22,7 @@ fn call<D: Device>(rt: &impl Abort, device: &mut D, number: u64) -> Result<(), D
 
 /// Makes one of the calls in a case, and checks whether it succeeds.
 pub(crate) fn assert_answer<D: Device, C: Debug>(
-    rt: &impl Abort,
+    rt: &impl TestHost,
     device: &mut D,
     number: u64,
     is_ok: bool,
@@ -36,7 +35,7 @@ pub(crate) fn assert_answer<D: Device, C: Debug>(
 /// Makes one of the calls in a case, checks whether it succeeds, and checks how many faults the
 /// device then reports.
 pub(crate) fn assert_call<D: Device, C: Debug>(
-    rt: &impl Abort,
+    rt: &impl TestHost,
     device: &mut D,
     number: u64,
     (is_ok, faults): (bool, u64),
@@ -47,7 +46,7 @@ pub(crate) fn assert_call<D: Device, C: Debug>(
 }
 
 /// Makes all calls in a case, and checks that each succeeds.
-pub(crate) fn assert_calls<D: Device, C: Debug>(rt: &impl Abort, device: &mut D, case: &C) {
+pub(crate) fn assert_calls<D: Device, C: Debug>(rt: &impl TestHost, device: &mut D, case: &C) {
     for number in 0..CALLS {
         assert_answer(rt, device, number, true, case);
     }
@@ -56,7 +55,7 @@ pub(crate) fn assert_calls<D: Device, C: Debug>(rt: &impl Abort, device: &mut D,
 /// Checks in a case that a sector has these two bytes: the first byte, and the byte that all others
 /// are.
 fn assert_filled<C: Debug>(
-    rt: &impl Abort,
+    rt: &impl TestHost,
     at: u64,
     bytes: &[u8],
     (first, rest): (u8, u8),
@@ -64,29 +63,29 @@ fn assert_filled<C: Debug>(
 ) {
     for (i, byte) in bytes.iter().enumerate() {
         let wanted = if i == 0 { first } else { rest };
-        assert_eq!(rt; *byte, wanted, "{case:?}: byte {i} of sector {at}");
+        assert_same(rt, byte, &wanted, &(case, ("sector", at), ("byte", i)));
     }
 }
 
 /// Reads a sector, and checks in a case that it has these two bytes.
 fn assert_sector<D: Device, C: Debug>(
-    rt: &impl Abort,
+    rt: &impl TestHost,
     device: &mut D,
     at: u64,
     wanted: (u8, u8),
     case: &C,
 ) {
     let mut bytes = [0; SECTOR];
-    assert!(rt; at < 4);
-    assert_eq!(rt; device.sectors(), 4);
-    assert!(rt; device.read(at, &mut bytes).is_ok());
+    assert_true(rt, at < 4, "the device has the sector");
+    assert_true(rt, device.sectors() == 4, "the device has four sectors");
+    assert_true(rt, device.read(at, &mut bytes).is_ok(), "it is read");
     assert_filled(rt, at, &bytes, wanted, case);
 }
 
 /// Checks in a case that each sector has its two bytes: the first byte, and the byte that all
 /// others are.
 pub(crate) fn assert_sectors<D: Device, C: Debug>(
-    rt: &impl Abort,
+    rt: &impl TestHost,
     device: &mut D,
     wanted: [(u8, u8); 4],
     case: &C,

@@ -1,11 +1,14 @@
 //! Files that others cut, unlink or replace while a device is over them, and the notes of what
 //! failed.
+use crate::checks::done;
+use crate::host::Host;
 use sector_dev::{Device, FaultKind, FileDevice, FileFault, PositionedFile, SystemFile};
 use std::fs;
 use std::fs::{File, OpenOptions};
 use std::process::Abort;
 use std::rt::Files;
 use std::test::Fail;
+use test_support::{TestHost, assert_same, assert_true};
 
 // What another program does with a file.
 #[derive(Clone, Copy, Debug)]
@@ -31,11 +34,11 @@ fn make_change<R: Files<File = File>>(rt: &R, path: &str, made: Change) -> Resul
 }
 
 // Writes the second of four sectors, and checks whether a sync succeeds then.
-fn assert_synced(rt: &impl Abort, device: &mut FileDevice<SystemFile>, is_ok: bool) {
-    assert_eq!(rt; device.sectors(), 4);
-    assert!(rt; device.write(1, &[0x11; 512]).is_ok());
-    assert_eq!(rt; device.sync().is_ok(), is_ok);
-    assert_eq!(rt; device.faults(), u64::from(!is_ok));
+fn assert_synced(rt: &impl TestHost, device: &mut FileDevice<SystemFile>, is_ok: bool) {
+    assert_true(rt, device.sectors() == 4, "the device has four sectors");
+    assert_true(rt, device.write(1, &[0x11; 512]).is_ok(), "it is written");
+    assert_same(rt, &device.sync().is_ok(), &is_ok, &"sync");
+    assert_same(rt, &device.faults(), &u64::from(!is_ok), &"faults");
 }
 
 // Changes a file of four sectors under its device, and checks what its next sync returns.
@@ -44,35 +47,33 @@ fn assert_noticed<R: AllocGlobal + Files<File = File> + Abort>(
     made: Change,
     kind: Option<FaultKind>,
 ) -> Result<(), Fail> {
+    let host = Host(rt);
     let path = "device_tests_changed/device";
     fs::write(rt, path, &[7; 2048])?;
     let file = OpenOptions::new().read(true).write(true).open(rt, path)?;
     let file = SystemFile::new(rt.alloc(), file)?;
     let last = file.last_fault()?;
     let mut device = FileDevice::new(file)?;
-    assert_synced(rt, &mut device, true);
-    assert_eq!(rt; last.get(), None);
+    assert_synced(&host, &mut device, true);
+    assert_same(&host, &last.get(), &None, &"before the change");
     make_change(rt, path, made)?;
-    assert_synced(rt, &mut device, kind.is_none());
-    assert_eq!(rt;
-        last.get(),
-        kind.map(|kind| FileFault { kind, errno: None }),
-        "{made:?}"
-    );
+    assert_synced(&host, &mut device, kind.is_none());
+    let wanted = kind.map(|kind| FileFault { kind, errno: None });
+    assert_same(&host, &last.get(), &wanted, &made);
     Ok(())
 }
 
 #[test]
-fn a_file_that_others_change_is_a_fault(rt: HostRuntime) -> Result<(), Fail> {
+fn a_file_that_others_change_is_a_fault(rt: HostRuntime) {
     let folder = "device_tests_changed";
     let _ = fs::remove_dir_all(&rt, folder);
-    fs::create_dir(&rt, folder)?;
-    assert_noticed(&rt, Change::Nothing, None)?;
-    assert_noticed(&rt, Change::Cut, Some(FaultKind::Cut))?;
-    assert_noticed(&rt, Change::Unlink, Some(FaultKind::Unlinked))?;
-    assert_noticed(&rt, Change::Replace, Some(FaultKind::Unlinked))?;
-    fs::remove_dir_all(&rt, folder)?;
-    Ok(())
+    fs::create_dir(&rt, folder).expect(&rt, "the folder is made");
+    done(&rt, assert_noticed(&rt, Change::Nothing, None));
+    done(&rt, assert_noticed(&rt, Change::Cut, Some(FaultKind::Cut)));
+    let unlinked = Some(FaultKind::Unlinked);
+    done(&rt, assert_noticed(&rt, Change::Unlink, unlinked));
+    done(&rt, assert_noticed(&rt, Change::Replace, unlinked));
+    fs::remove_dir_all(&rt, folder).expect(&rt, "the folder goes");
 }
 
 // Checks the text of a failure.
@@ -84,39 +85,36 @@ fn assert_text<R: AllocGlobal + Abort>(rt: &R, fault: FileFault, wanted: &str) -
 
 // The file has no room, and then no sync.
 #[test]
-fn the_last_failure_is_noted(rt: HostRuntime) -> Result<(), Fail> {
+fn the_last_failure_is_noted(rt: HostRuntime) {
+    let host = Host(&rt);
     let file = OpenOptions::new()
         .read(true)
         .write(true)
-        .open(&rt, "/dev/full")?;
-    let mut file = SystemFile::new(rt.alloc(), file)?;
-    let last = file.last_fault()?;
-    assert!(rt; file.write_at(0, &[0x11; 512]).is_err());
+        .open(&rt, "/dev/full")
+        .expect(&rt, "the file is opened");
+    let mut file = SystemFile::new(rt.alloc(), file).expect(&rt, "a file of the system");
+    let last = file.last_fault().expect(&rt, "the note of faults");
+    let has_failed = file.write_at(0, &[0x11; 512]).is_err();
+    assert_true(&host, has_failed, "the write fails");
     let no_room = FileFault {
         kind: FaultKind::Write,
         errno: Some(28),
     };
-    assert_eq!(rt; last.get(), Some(no_room));
-    assert!(rt; file.sync_data().is_err());
+    assert_same(&host, &last.get(), &Some(no_room), &"the write");
+    assert_true(&host, file.sync_data().is_err(), "the sync fails");
     drop(file);
     let no_sync = FileFault {
         kind: FaultKind::Sync,
         errno: Some(22),
     };
-    assert_eq!(rt; last.get(), Some(no_sync));
-    assert_text(
-        &rt,
-        no_room,
-        "a write of the file failed: No space left on device (os error 28)",
-    )?;
-    assert_text(
-        &rt,
-        FileFault {
-            kind: FaultKind::Cut,
-            errno: None,
-        },
-        "the file was cut",
-    )
+    assert_same(&host, &last.get(), &Some(no_sync), &"the sync");
+    let text = "a write of the file failed: No space left on device (os error 28)";
+    done(&rt, assert_text(&rt, no_room, text));
+    let cut = FileFault {
+        kind: FaultKind::Cut,
+        errno: None,
+    };
+    done(&rt, assert_text(&rt, cut, "the file was cut"));
 }
 
 fn sent<T: Send>(value: T) -> T {
@@ -125,11 +123,15 @@ fn sent<T: Send>(value: T) -> T {
 
 // The device goes to another thread, and what fails in it is seen from there too.
 #[test]
-fn a_device_over_a_file_may_go_to_another_thread(rt: HostRuntime) -> Result<(), Fail> {
-    let file = OpenOptions::new().read(true).open(&rt, "/dev/null")?;
-    let file = SystemFile::new(rt.alloc(), file)?;
-    let last = sent(file.last_fault()?);
-    let device = sent(FileDevice::new(file)?);
-    assert_eq!(rt; (device.sectors(), last.get()), (0, None));
-    Ok(())
+fn a_device_over_a_file_may_go_to_another_thread(rt: HostRuntime) {
+    let host = Host(&rt);
+    let file = OpenOptions::new()
+        .read(true)
+        .open(&rt, "/dev/null")
+        .expect(&rt, "the file is opened");
+    let file = SystemFile::new(rt.alloc(), file).expect(&rt, "a file of the system");
+    let last = sent(file.last_fault().expect(&rt, "the note of faults"));
+    let device = sent(FileDevice::new(file).expect(&rt, "a device over the file"));
+    let found = (device.sectors(), last.get());
+    assert_same(&host, &found, &(0, None), &"sectors and fault");
 }

@@ -3,11 +3,12 @@
 ghost use Rattle.std.specs.Prelude.{◌≡◌};
 
 use crate::devices::calls::assert_call;
+use crate::host::Host;
 use sector_dev::{CountedFile, FileCalls, FileDevice, FileStatus};
 use std::fs::{File, OpenOptions};
 use std::io;
-use std::process::Abort;
 use std::test::Fail;
+use test_support::{TestHost, assert_same};
 
 // A file of the system that reports four sectors. The two files report that they have none.
 #[derive(Drop)]
@@ -75,24 +76,27 @@ fn device_over(rt: &HostRuntime, path: &str) -> Result<FileDevice<CountedFile<Fo
 // Makes all calls, and checks the result of each, and that the file counts the same faults as the
 // device.
 fn assert_answers(
-    rt: &impl Abort,
+    rt: &impl TestHost,
     mut device: FileDevice<CountedFile<FourSectors>>,
     wanted: &[(bool, u64); 6],
 ) {
     for (number, wanted) in wanted.iter().enumerate() {
         assert_call(rt, &mut device, number as u64, *wanted, &number);
     }
-    assert_eq!(rt; device.into_file().failures(), wanted[5].1);
+    let failures = device.into_file().failures();
+    assert_same(rt, &failures, &wanted[5].1, &"failures");
 }
 
 #[test]
 fn a_device_without_room_is_a_fault(rt: HostRuntime) -> Result<(), Fail> {
-    assert_answers(&rt, device_over(&rt, "/dev/full")?, &FULL);
+    let host = Host(&rt);
+    assert_answers(&host, device_over(&rt, "/dev/full")?, &FULL);
     Ok(())
 }
 
 #[test]
 fn a_device_without_bytes_is_a_fault(rt: HostRuntime) -> Result<(), Fail> {
-    assert_answers(&rt, device_over(&rt, "/dev/null")?, &NULL);
+    let host = Host(&rt);
+    assert_answers(&host, device_over(&rt, "/dev/null")?, &NULL);
     Ok(())
 }

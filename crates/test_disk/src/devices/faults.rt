@@ -1,9 +1,10 @@
 //! A device of which one call fails.
 use crate::devices::calls::{CALLS, assert_call, assert_sectors};
+use crate::host::Host;
 use sector_dev::{DevError, MemDevice};
-use std::process::Abort;
 use std::test::Fail;
 use test_fault_devices::FaultDevice;
+use test_support::TestHost;
 
 // The number of the failing call, and the contents of the sectors 1, 2 and 3 then.
 const FAULTS: [(u64, [u8; 3]); 7] = [
@@ -18,7 +19,7 @@ const FAULTS: [(u64, [u8; 3]); 7] = [
 
 // Makes the calls of a device of which this one fails, and checks the contents of the sectors 1, 2
 // and 3 then.
-fn assert_one_fails(rt: &impl Abort, mut device: FaultDevice, failing: u64, sectors: [u8; 3]) {
+fn assert_one_fails(rt: &impl TestHost, mut device: FaultDevice, failing: u64, sectors: [u8; 3]) {
     for number in 0..CALLS {
         let wanted = (number != failing, u64::from(failing <= number));
         assert_call(rt, &mut device, number, wanted, &failing);
@@ -30,9 +31,10 @@ fn assert_one_fails(rt: &impl Abort, mut device: FaultDevice, failing: u64, sect
 
 #[test]
 fn one_call_fails_and_the_others_go_on(rt: HostRuntime) -> Result<(), Fail> {
+    let host = Host(&rt);
     for (failing, sectors) in &FAULTS {
         let device = FaultDevice::new(MemDevice::new(rt.alloc(), 4)?, *failing);
-        assert_one_fails(&rt, device, *failing, *sectors);
+        assert_one_fails(&host, device, *failing, *sectors);
     }
     Ok(())
 }

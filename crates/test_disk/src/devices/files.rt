@@ -1,11 +1,12 @@
 //! A device over a file in memory.
+use crate::checks::done;
 use crate::devices::calls::{CALLS, assert_answer, assert_call, assert_calls, assert_sectors};
-use crate::devices::same::assert_same;
+use crate::host::Host;
 use sector_dev::{CountedFile, Device, FileDevice, MemDevice, SECTOR};
 use std::alloc::Global;
-use std::process::Abort;
 use std::test::Fail;
 use test_fault_devices::{CachedFile, MemFile};
+use test_support::{TestHost, assert_same, assert_true};
 
 // A device over these bytes, of which one transfer moves at most `at_most`.
 fn device_of(
@@ -18,7 +19,7 @@ fn device_of(
 }
 
 // Makes all calls, and checks the contents of the sectors then.
-fn assert_written<D: Device>(rt: &impl Abort, device: &mut D, at_most: usize) {
+fn assert_written<D: Device>(rt: &impl TestHost, device: &mut D, at_most: usize) {
     assert_calls(rt, device, &at_most);
     let wanted = [(7, 7), (0x33, 0x33), (0x22, 0x22), (0x22, 0x22)];
     assert_sectors(rt, device, wanted, &at_most);
@@ -26,14 +27,14 @@ fn assert_written<D: Device>(rt: &impl Abort, device: &mut D, at_most: usize) {
 }
 
 #[test]
-fn short_transfers_are_made_whole(rt: HostRuntime) -> Result<(), Fail> {
+fn short_transfers_are_made_whole(rt: HostRuntime) {
+    let host = Host(&rt);
     for at_most in [1, 100, 512, 4096] {
         // Four sectors and a part of one.
-        let bytes = vec![in rt.alloc(); 7; 2100]?;
-        let mut device = device_of(rt.alloc(), bytes, at_most)?;
-        assert_written(&rt, &mut device, at_most);
+        let bytes = vec![in rt.alloc(); 7; 2100].expect(&rt, "bytes");
+        let mut device = done(&rt, device_of(rt.alloc(), bytes, at_most));
+        assert_written(&host, &mut device, at_most);
     }
-    Ok(())
 }
 
 // Whether each call succeeds, and the number of faults then: a sync moves no bytes.
@@ -47,17 +48,17 @@ const MOVES: [(bool, u64); 6] = [
 ];
 
 #[test]
-fn a_file_that_moves_nothing_is_a_fault(rt: HostRuntime) -> Result<(), Fail> {
-    let bytes = vec![in rt.alloc(); 7; 2048]?;
-    let mut device = device_of(rt.alloc(), bytes, 0)?;
+fn a_file_that_moves_nothing_is_a_fault(rt: HostRuntime) {
+    let host = Host(&rt);
+    let bytes = vec![in rt.alloc(); 7; 2048].expect(&rt, "bytes");
+    let mut device = done(&rt, device_of(rt.alloc(), bytes, 0));
     for (number, wanted) in MOVES.iter().enumerate() {
-        assert_call(&rt, &mut device, number as u64, *wanted, &number);
+        assert_call(&host, &mut device, number as u64, *wanted, &number);
     }
-    Ok(())
 }
 
 // The bytes of a file after this number of calls and a stop. One transfer moves at most 100 bytes.
-fn bytes_after_stop(rt: &impl Abort, alloc: Global, calls: u64) -> Result<Vec<u8>, Fail> {
+fn bytes_after_stop(rt: &impl TestHost, alloc: Global, calls: u64) -> Result<Vec<u8>, Fail> {
     let bytes = vec![in alloc; 7; 2048]?;
     let file = CountedFile::new(alloc, CachedFile::new(alloc, bytes, 100)?)?;
     let mut device = FileDevice::new(file)?;
@@ -80,43 +81,52 @@ const KEPT: [(u64, [u8; 4]); 7] = [
 
 #[test]
 fn a_stop_loses_what_was_not_synced(rt: HostRuntime) -> Result<(), Fail> {
+    let host = Host(&rt);
     for (calls, wanted) in &KEPT {
-        let bytes = bytes_after_stop(&rt, rt.alloc(), *calls)?;
-        assert_eq!(rt; bytes.len(), 2048);
+        let bytes = bytes_after_stop(&host, rt.alloc(), *calls)?;
+        assert_true(&host, bytes.len() == 2048, "the file has its bytes");
         for (i, byte) in bytes.iter().enumerate() {
-            assert_same(&rt, byte, &wanted[i / SECTOR], &(*calls, i));
+            assert_same(&host, byte, &wanted[i / SECTOR], &(*calls, i));
         }
     }
     Ok(())
 }
 
 // Checks that a sector of two devices has the same bytes.
-fn assert_same_sector<A: Device, B: Device>(rt: &impl Abort, one: &mut A, other: &mut B, at: u64) {
+fn assert_same_sector<A: Device, B: Device>(
+    rt: &impl TestHost,
+    one: &mut A,
+    other: &mut B,
+    at: u64,
+) {
     let (mut first, mut second) = ([0; SECTOR], [1; SECTOR]);
-    assert!(rt; at < 4);
-    assert_eq!(rt; (one.sectors(), other.sectors()), (4, 4));
-    assert!(rt; one.read(at, &mut first).is_ok() && other.read(at, &mut second).is_ok());
-    assert_eq!(rt; first.as_slice(), second.as_slice(), "{at}");
+    assert_true(rt, at < 4, "the devices have the sector");
+    assert_true(rt, one.sectors() == 4, "the one has four sectors");
+    assert_true(rt, other.sectors() == 4, "the other has four sectors");
+    assert_true(rt, one.read(at, &mut first).is_ok(), "the one is read");
+    assert_true(rt, other.read(at, &mut second).is_ok(), "the other is read");
+    assert_same(rt, &first.as_slice(), &second.as_slice(), &at);
 }
 
 // Makes a call of two devices, and checks that it succeeds and that all sectors are the same then.
-fn assert_agree<A: Device, B: Device>(rt: &impl Abort, one: &mut A, other: &mut B, number: u64) {
+fn assert_agree<A: Device, B: Device>(rt: &impl TestHost, one: &mut A, other: &mut B, number: u64) {
     assert_answer(rt, one, number, true, &number);
     assert_answer(rt, other, number, true, &number);
     for at in 0..4 {
         assert_same_sector(rt, one, other, at);
     }
-    assert_eq!(rt; (one.faults(), other.faults()), (0, 0));
+    assert_same(rt, &(one.faults(), other.faults()), &(0, 0), &number);
 }
 
 #[test]
 fn a_device_over_a_file_agrees_with_one_in_memory(rt: HostRuntime) -> Result<(), Fail> {
+    let host = Host(&rt);
     for at_most in [100, 4096] {
         let zeros = vec![in rt.alloc(); 0; 2048]?;
         let mut device = device_of(rt.alloc(), zeros, at_most)?;
         let mut memory = MemDevice::new(rt.alloc(), 4)?;
         for number in 0..CALLS {
-            assert_agree(&rt, &mut device, &mut memory, number);
+            assert_agree(&host, &mut device, &mut memory, number);
         }
     }
     Ok(())

@@ -1,9 +1,10 @@
 //! A fuse that stops at each call in turn.
 use crate::devices::calls::{CALLS, assert_answer, assert_sectors};
+use crate::host::Host;
 use sector_dev::{Device, MemDevice};
-use std::process::Abort;
 use std::test::Fail;
 use test_fault_devices::{FuseDevice, Tear};
+use test_support::{TestHost, assert_same};
 
 // The byte that fills the torn part of a write.
 const FILL: u8 = 0xFF;
@@ -56,7 +57,7 @@ fn torn((first, rest): (u8, u8), fill: u8) -> (u8, u8) {
 
 // Makes the calls of a fuse that stops so. Checks which of them fail, and what the sectors have,
 // where the torn part of a write is filled with this byte.
-fn assert_stop(rt: &impl Abort, memory: MemDevice, stop: &Stop, fill: u8) {
+fn assert_stop(rt: &impl TestHost, memory: MemDevice, stop: &Stop, fill: u8) {
     let tear = Tear {
         keep: stop.keep,
         fill,
@@ -66,7 +67,7 @@ fn assert_stop(rt: &impl Abort, memory: MemDevice, stop: &Stop, fill: u8) {
     for number in 0..CALLS {
         assert_answer(rt, &mut fuse, number, number < stop.calls, &case);
     }
-    assert_eq!(rt; fuse.faults(), CALLS.saturating_sub(stop.calls));
+    assert_same(rt, &fuse.faults(), &CALLS.saturating_sub(stop.calls), &case);
     let [one, two, three] = [stop.one, stop.two, stop.three];
     let sectors = [(0, 0), torn(one, fill), torn(two, fill), torn(three, fill)];
     assert_sectors(rt, &mut fuse.into_mem(), sectors, &case);
@@ -74,10 +75,11 @@ fn assert_stop(rt: &impl Abort, memory: MemDevice, stop: &Stop, fill: u8) {
 
 #[test]
 fn a_fuse_stops_at_every_call(rt: HostRuntime) -> Result<(), Fail> {
+    let host = Host(&rt);
     for stop in &STOPS {
         for fill in [0x00, 0xA7] {
             let memory = MemDevice::new(rt.alloc(), 4)?;
-            assert_stop(&rt, memory, stop, fill);
+            assert_stop(&host, memory, stop, fill);
         }
     }
     Ok(())

@@ -1,11 +1,11 @@
 //! A device with a gate before each sync.
 use crate::devices::calls::{assert_answer, assert_sectors};
-use crate::devices::same::assert_same;
+use crate::host::Host;
 use sector_dev::{DevError, Device, MemDevice};
 use std::cell::Cell;
-use std::process::Abort;
 use std::test::Fail;
 use test_fault_devices::{FaultDevice, Gate, HeldDevice};
+use test_support::{TestHost, assert_same, assert_true};
 
 #[derive(Drop)]
 struct PassCounter {
@@ -25,7 +25,7 @@ impl Gate for PassCounter {
 // Makes a call, of which the sixth one fails, and checks how many times the gate was passed by
 // then.
 fn assert_passes<D: Device>(
-    rt: &impl Abort,
+    rt: &impl TestHost,
     device: &mut HeldDevice<D, PassCounter>,
     number: u64,
     passes: u64,
@@ -35,21 +35,22 @@ fn assert_passes<D: Device>(
 }
 
 // Checks the parts of the device after the calls.
-fn assert_parts(rt: &impl Abort, device: HeldDevice<FaultDevice, PassCounter>) {
+fn assert_parts(rt: &impl TestHost, device: HeldDevice<FaultDevice, PassCounter>) {
     let (memory, counter) = device.into_parts();
-    assert_eq!(rt; counter.passes, 2);
+    assert_same(rt, &counter.passes, &2, &"passes");
     let wanted = [(0, 0), (0x33, 0x33), (0x22, 0x22), (0x22, 0x22)];
     assert_sectors(rt, &mut memory.into_mem(), wanted, &"the calls");
 }
 
 #[test]
 fn a_held_device_passes_its_gate_once_a_sync(rt: HostRuntime) -> Result<(), Fail> {
+    let host = Host(&rt);
     let memory = FaultDevice::new(MemDevice::new(rt.alloc(), 4)?, 5);
     let mut device = HeldDevice::new(memory, PassCounter { passes: 0 });
     for (number, passes) in [(0, 0), (1, 1), (2, 1), (3, 1), (4, 1), (5, 2)] {
-        assert_passes(&rt, &mut device, number, passes);
+        assert_passes(&host, &mut device, number, passes);
     }
-    assert_parts(&rt, device);
+    assert_parts(&host, device);
     Ok(())
 }
 
@@ -109,18 +110,19 @@ impl<'a> Gate for Witness<'a> {
 // Checks that a sync succeeds, and that this number of syncs came before it when the gate was
 // passed.
 fn assert_sync<'a>(
-    rt: &impl Abort,
+    rt: &impl TestHost,
     device: &mut HeldDevice<SyncCounter<'a, MemDevice>, Witness<'a>>,
     syncs: &Cell<u64>,
     before: u64,
 ) {
-    assert!(rt; device.sync().is_ok());
-    assert_eq!(rt; device.gate().seen, before);
-    assert_eq!(rt; syncs.get(), before.saturating_add(1));
+    assert_true(rt, device.sync().is_ok(), "the device is synced");
+    assert_same(rt, &device.gate().seen, &before, &"syncs at the pass");
+    assert_same(rt, &syncs.get(), &before.saturating_add(1), &"syncs");
 }
 
 #[test]
 fn a_gate_is_passed_before_its_sync(rt: HostRuntime) -> Result<(), Fail> {
+    let host = Host(&rt);
     let syncs = Cell::new(0);
     let counter = SyncCounter {
         device: MemDevice::new(rt.alloc(), 4)?,
@@ -132,7 +134,7 @@ fn a_gate_is_passed_before_its_sync(rt: HostRuntime) -> Result<(), Fail> {
     };
     let mut device = HeldDevice::new(counter, witness);
     for before in [0, 1, 2] {
-        assert_sync(&rt, &mut device, &syncs, before);
+        assert_sync(&host, &mut device, &syncs, before);
     }
     Ok(())
 }
@@ -143,10 +145,11 @@ fn sent<T: Send>(value: T) -> T {
 
 #[test]
 fn a_device_may_go_to_another_thread(rt: HostRuntime) -> Result<(), Fail> {
+    let host = Host(&rt);
     let held = HeldDevice::new(MemDevice::new(rt.alloc(), 4)?, PassCounter { passes: 0 });
     let mut device = sent(held);
-    assert_answer(&rt, &mut device, 4, true, &4);
+    assert_answer(&host, &mut device, 4, true, &4);
     let wanted = [(0, 0), (0x33, 0x33), (0, 0), (0, 0)];
-    assert_sectors(&rt, &mut device, wanted, &4);
+    assert_sectors(&host, &mut device, wanted, &4);
     Ok(())
 }

@@ -1,11 +1,14 @@
 //! Checkpoints that are written and read: the worked bytes, and each refusal after one byte was
 //! changed.
 
+use crate::checks::{assert_bytes, done};
 use crate::halves::area::{END, FRESH, area, changed};
+use crate::host::Host;
 use ckpt_pair::{Checkpoint, Head, PairError, encode_checkpoint, read_half};
 use path_db::PathDb;
 use std::alloc::Global;
 use std::test::Fail;
+use test_support::assert_same;
 
 /// The error for bytes that are no checkpoint.
 const BAD: PairError = PairError::BadCheckpoint;
@@ -29,35 +32,36 @@ fn read_of(alloc: Global, area: &[u8]) -> Result<(u32, usize), PairError> {
 
 // The area of a new store: one sector, zeros after the front.
 #[test]
-fn new_store_is_written(rt: HostRuntime) -> Result<(), Fail> {
-    let bytes = encode_checkpoint(rt.alloc(), &PathDb::new(rt.alloc()), 1, 0)?;
-    let mut expected = Vec::from_slice(rt.alloc(), &FRESH)?;
-    expected.resize(512, 0)?;
-    assert_eq!(rt; bytes.as_slice(), expected.as_slice());
-    assert_eq!(rt; read_of(rt.alloc(), &expected), Ok((2, 0)));
-    Ok(())
+fn new_store_is_written(rt: HostRuntime) {
+    let host = Host(&rt);
+    let none = PathDb::new(rt.alloc());
+    let bytes = encode_checkpoint(rt.alloc(), &none, 1, 0).expect(&rt, "it is written");
+    let mut expected = Vec::from_slice(rt.alloc(), &FRESH).expect(&rt, "bytes");
+    expected.resize(512, 0).expect(&rt, "a sector");
+    assert_bytes(&host, &bytes, &expected, "a new store");
+    let found = read_of(rt.alloc(), &expected);
+    assert_same(&host, &found, &Ok((2, 0)), &"version and rows");
 }
 
 // Three rows: they are read, and written again as the same bytes.
 #[test]
-fn rows_are_read_and_written(rt: HostRuntime) -> Result<(), Fail> {
-    let area = area(rt.alloc())?;
-    let checkpoint = read(rt.alloc(), &area)?;
+fn rows_are_read_and_written(rt: HostRuntime) {
+    let host = Host(&rt);
+    let area = done(&rt, area(rt.alloc()));
+    let checkpoint = read(rt.alloc(), &area).expect(&rt, "the checkpoint is read");
     let head = Head {
         version: 2,
         epoch: 7,
         place: 258,
     };
-    assert_eq!(rt; checkpoint.head, head);
-    assert_eq!(rt;
-        (checkpoint.db.rows().count(), checkpoint.db.encoded_len()),
-        (3, 279)
-    );
+    assert_same(&host, &checkpoint.head, &head, &"head");
+    let found = (checkpoint.db.rows().count(), checkpoint.db.encoded_len());
+    assert_same(&host, &found, &(3, 279), &"rows and bytes");
     if checkpoint.db.encoded_len() == 279 {
-        let written = encode_checkpoint(rt.alloc(), &checkpoint.db, 7, 258)?;
-        assert_eq!(rt; written.as_slice(), area.as_slice());
+        let written = encode_checkpoint(rt.alloc(), &checkpoint.db, 7, 258);
+        let written = written.expect(&rt, "it is written");
+        assert_bytes(&host, &written, &area, "the area");
     }
-    Ok(())
 }
 
 /// Which byte of the worked area is changed, what to, and the version and the count of rows that
@@ -98,9 +102,10 @@ const CHANGES: [Change; 20] = [
 // are not read.
 #[test]
 fn changed_areas(rt: HostRuntime) -> Result<(), Fail> {
+    let host = Host(&rt);
     for row in &CHANGES {
         let area = changed(rt.alloc(), row.at, row.byte)?;
-        assert_eq!(rt; read_of(rt.alloc(), &area), row.read, "{}", row.what);
+        assert_same(&host, &read_of(rt.alloc(), &area), &row.read, &row.what);
     }
     Ok(())
 }

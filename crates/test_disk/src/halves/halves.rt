@@ -1,9 +1,11 @@
 //! Heads, the half that is chosen, and the half that has the tail.
 
 use crate::halves::area::changed;
+use crate::host::Host;
 use ckpt_pair::{Head, Heads, PairError, choose, read_head, tail_half};
 use std::test::Fail;
 use store_layout::Half;
+use test_support::assert_same;
 
 /// A gate that is open by its first byte alone, and one that is closed.
 const OPEN: [u8; 4] = [0xa7, 1, 2, 3];
@@ -84,10 +86,12 @@ const CHANGES: [Change; 10] = [
 // checked.
 #[test]
 fn heads_are_read(rt: HostRuntime) -> Result<(), Fail> {
+    let host = Host(&rt);
     for row in &CHANGES {
         let area = changed(rt.alloc(), row.at, row.byte)?;
-        assert_eq!(rt; head_of(&OPEN, &area), row.head.map(Some), "{}", row.what);
-        assert_eq!(rt; head_of(&CLOSED, &area), Ok(None), "{}", row.what);
+        let found = head_of(&OPEN, &area);
+        assert_same(&host, &found, &row.head.map(Some), &row.what);
+        assert_same(&host, &head_of(&CLOSED, &area), &Ok(None), &row.what);
     }
     Ok(())
 }
@@ -115,12 +119,13 @@ const CHOICES: [ChoiceRow; 8] = [
 // The half with the greater epoch is chosen.
 #[test]
 fn halves_are_chosen(rt: HostRuntime) -> Result<(), Fail> {
+    let host = Host(&rt);
     for row in &CHOICES {
         let heads = Heads {
             first: row.first.map(head),
             second: row.second.map(head),
         };
-        assert_eq!(rt; choose(heads), row.chosen, "{row:?}");
+        assert_same(&host, &choose(heads), &row.chosen, row);
     }
     Ok(())
 }
@@ -156,13 +161,14 @@ const TAILS: [Tail; 7] = [
 // After a seal the tail is in the other half, which has to be closed.
 #[test]
 fn tails_are_found(rt: HostRuntime) -> Result<(), Fail> {
+    let host = Host(&rt);
     for row in &TAILS {
         let heads = Heads {
             first: row.first.map(head),
             second: row.second.map(head),
         };
         let found = tail_half(heads, row.chosen, row.is_sealed);
-        assert_eq!(rt; found, row.tail, "{row:?}");
+        assert_same(&host, &found, &row.tail, row);
     }
     Ok(())
 }

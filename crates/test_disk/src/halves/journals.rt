@@ -1,11 +1,13 @@
 //! What journals read as.
 
+use crate::checks::done;
 use crate::halves::worked::Part::{Closed, Open, Purges, Removal, Seal};
 use crate::halves::worked::{Outline, Part, Seen, bytes_of, drawn, purges, seen};
+use crate::host::Host;
 use gate_journal::{JournalError, Progress, Scanner, can_be_group, encode_group};
 use std::alloc::Global;
-use std::process::Abort;
 use std::test::Fail;
+use test_support::{TestHost, assert_same, assert_true};
 
 /// What a journal of these parts reads as, from a place on and under a version.
 #[derive(Clone, Copy)]
@@ -60,17 +62,18 @@ const READ: [Case; 13] = [
 ];
 
 /// Checks what a journal reads as.
-fn assert_read(rt: &impl Abort, alloc: Global, case: &Case) -> Result<(), Fail> {
+fn assert_read(rt: &impl TestHost, alloc: Global, case: &Case) -> Result<(), Fail> {
     let bytes = bytes_of(alloc, case.parts)?;
     let found = seen(rt, alloc, &bytes, case.from, case.version)?;
-    assert_eq!(rt; found, case.seen, "{}, version {}", case.name, case.version);
+    assert_same(rt, &found, &case.seen, &(case.name, case.version));
     Ok(())
 }
 
 #[test]
 fn journals_are_read(rt: HostRuntime) -> Result<(), Fail> {
+    let host = Host(&rt);
     for case in &READ {
-        assert_read(&rt, rt.alloc(), case)?;
+        assert_read(&host, rt.alloc(), case)?;
     }
     Ok(())
 }
@@ -106,19 +109,21 @@ const LIMITS: [Case; 10] = [
 
 #[test]
 fn versions_have_limits(rt: HostRuntime) -> Result<(), Fail> {
+    let host = Host(&rt);
     for case in &LIMITS {
-        assert_read(&rt, rt.alloc(), case)?;
+        assert_read(&host, rt.alloc(), case)?;
     }
     Ok(())
 }
 
 #[test]
-fn groups_are_written_as_they_are_drawn(rt: HostRuntime) -> Result<(), Fail> {
+fn groups_are_written_as_they_are_drawn(rt: HostRuntime) {
+    let host = Host(&rt);
     for count in [1, 8, 9, 32] {
-        let commands = purges(rt.alloc(), u64::from(count))?;
-        assert!(rt; can_be_group(&commands, 300));
-        let payload = encode_group(rt.alloc(), &commands, 300)?;
-        assert_eq!(rt; &payload, &drawn(rt.alloc(), count, 300)?, "{count}");
+        let commands = done(&rt, purges(rt.alloc(), u64::from(count)));
+        assert_true(&host, can_be_group(&commands, 300), "they can be a group");
+        let payload = encode_group(rt.alloc(), &commands, 300).expect(&rt, "a payload");
+        let wanted = done(&rt, drawn(rt.alloc(), count, 300));
+        assert_same(&host, &payload, &wanted, &count);
     }
-    Ok(())
 }

@@ -1,9 +1,11 @@
 //! Rows from pieces of their bytes, cut anywhere.
 
 use crate::halves::area::{area, changed, rows_of};
+use crate::host::Host;
 use ckpt_pair::{DatabaseReader, PairError, feed_rows, finish_rows, read_front};
 use std::alloc::Global;
 use std::test::Fail;
+use test_support::assert_same;
 
 /// The error for bytes that are no rows, or are more or fewer rows.
 const BAD: PairError = PairError::BadCheckpoint;
@@ -37,10 +39,11 @@ fn read_again(
 // Three rows of 93 bytes, cut within their heads, within their segments, and between them.
 #[test]
 fn pieces_are_read(rt: HostRuntime) -> Result<(), Fail> {
+    let host = Host(&rt);
     let area = area(rt.alloc())?;
     for size in [1, 2, 3, 5, 92, 93, 94, 186, 278, 279, 280] {
         let rows = read_again(rt.alloc(), rows_of(&area), size, 3);
-        assert_eq!(rt; rows, Ok((3, 279)), "{size}");
+        assert_same(&host, &rows, &Ok((3, 279)), &size);
     }
     Ok(())
 }
@@ -72,12 +75,13 @@ const COUNTS: [Counted; 11] = [
 // Parts of the rows, and other counts, are refused.
 #[test]
 fn pieces_are_counted(rt: HostRuntime) -> Result<(), Fail> {
+    let host = Host(&rt);
     let area = area(rt.alloc())?;
     let rows = rows_of(&area);
     for row in &COUNTS {
         let front = rows.get(..row.len).unwrap_or(&[]);
         let found = read_again(rt.alloc(), front, 50, row.wanted);
-        assert_eq!(rt; found, row.read, "{} in {} bytes", row.wanted, row.len);
+        assert_same(&host, &found, &row.read, &(row.wanted, row.len));
     }
     Ok(())
 }
@@ -85,6 +89,7 @@ fn pieces_are_counted(rt: HostRuntime) -> Result<(), Fail> {
 // A row that is refused, and one out of order, are refused in pieces of each size.
 #[test]
 fn changed_pieces(rt: HostRuntime) -> Result<(), Fail> {
+    let host = Host(&rt);
     for (at, byte) in [
         (32, 4),
         (32, 2),
@@ -97,7 +102,7 @@ fn changed_pieces(rt: HostRuntime) -> Result<(), Fail> {
         for size in [1, 50, 93, 279] {
             let area = changed(rt.alloc(), at, byte)?;
             let rows = read_again(rt.alloc(), rows_of(&area), size, 3);
-            assert_eq!(rt; rows, Err(BAD), "{at} {byte} {size}");
+            assert_same(&host, &rows, &Err(BAD), &(at, byte, size));
         }
     }
     Ok(())
@@ -116,6 +121,7 @@ fn front_of(bytes: &[u8], size: u64) -> Result<(u32, u32), PairError> {
 // bytes that are there.
 #[test]
 fn fronts_are_read(rt: HostRuntime) -> Result<(), Fail> {
+    let host = Host(&rt);
     let area = area(rt.alloc())?;
     for (size, expected) in [
         (311, Ok((279, 3))),
@@ -123,7 +129,7 @@ fn fronts_are_read(rt: HostRuntime) -> Result<(), Fail> {
         (310, Err(BAD)),
         (0, Err(BAD)),
     ] {
-        assert_eq!(rt; front_of(&area, size), expected, "{size}");
+        assert_same(&host, &front_of(&area, size), &expected, &size);
     }
     Ok(())
 }

@@ -1,10 +1,13 @@
 //! A journal of which one byte is changed.
 
+use crate::checks::done;
 use crate::halves::worked::Part::{Closed, Open};
 use crate::halves::worked::{Outline, SEGMENT, Seen, bytes_of, seen};
+use crate::host::Host;
 use gate_journal::JournalError::{self, BadHeader, BadRecord, Gap, PastEnd};
 use std::alloc::Global;
 use std::test::Fail;
+use test_support::{assert_same, assert_true};
 
 /// A journal of seven sectors: a purge and a registration of the worked segment at place 0, and
 /// after them a seal.
@@ -112,20 +115,21 @@ const CHANGES: [Change; 46] = [
 ];
 
 #[test]
-fn one_byte_is_changed(rt: HostRuntime) -> Result<(), Fail> {
-    let mut bytes = journal(rt.alloc())?;
-    assert_eq!(rt; seen(&rt, rt.alloc(), &bytes, 0, 1)?, WHOLE);
+fn one_byte_is_changed(rt: HostRuntime) {
+    let host = Host(&rt);
+    let mut bytes = done(&rt, journal(rt.alloc()));
+    let found = done(&rt, seen(&host, rt.alloc(), &bytes, 0, 1));
+    assert_same(&host, &found, &WHOLE, &"nothing is changed");
     for row in &CHANGES {
         let at = row.at;
-        assert!(rt; at < bytes.len());
+        assert_true(&host, at < bytes.len(), "the journal has the byte");
         let was = bytes[at];
         bytes[at] = row.byte;
-        let found = seen(&rt, rt.alloc(), &bytes, 0, 1)?;
-        assert_eq!(rt; found, row.seen, "{} at {at}", row.byte);
-        assert!(rt; at < bytes.len());
+        let found = done(&rt, seen(&host, rt.alloc(), &bytes, 0, 1));
+        assert_same(&host, &found, &row.seen, &(row.byte, at));
+        assert_true(&host, at < bytes.len(), "the journal still has it");
         bytes[at] = was;
     }
-    Ok(())
 }
 
 /// Errors, each with its number and its text.
@@ -139,9 +143,10 @@ const TEXTS: [(JournalError, &str); 5] = [
 
 #[test]
 fn errors_have_numbers_and_texts(rt: HostRuntime) -> Result<(), Fail> {
+    let host = Host(&rt);
     for (error, wanted) in &TEXTS {
         let text = format!(in rt.alloc(); "{} {error}", error.number())?;
-        assert_eq!(rt; text.as_str(), *wanted);
+        assert_same(&host, &text.as_str(), wanted, error);
     }
     Ok(())
 }

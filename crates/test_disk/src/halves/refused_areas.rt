@@ -2,7 +2,9 @@
 //! allocations refused in turn: a refused call succeeds when it is tried again, and no other result
 //! depends on the refusal.
 
+use crate::checks::assert_bytes;
 use crate::halves::area::{area, changed, rows_of};
+use crate::host::Host;
 use ckpt_pair::{
     Checkpoint, DatabaseReader, Head, PairError, encode_checkpoint, feed_rows, finish_rows,
     read_half,
@@ -10,14 +12,14 @@ use ckpt_pair::{
 use path_db::PathDb;
 use path_records::write_rows;
 use std::alloc::Global;
-use std::process::Abort;
 use std::test::Fail;
+use test_support::{TestHost, assert_same, assert_true};
 
 /// Checks that a database is written as these rows.
-fn assert_rows(rt: &impl Abort, alloc: Global, db: &PathDb, rows: &[u8]) -> Result<(), Fail> {
+fn assert_rows(rt: &impl TestHost, alloc: Global, db: &PathDb, rows: &[u8]) -> Result<(), Fail> {
     let mut written = Vec::new(alloc);
     write_rows(db, &mut written)?;
-    assert_eq!(rt; written.as_slice(), rows);
+    assert_bytes(rt, &written, rows, "the rows");
     Ok(())
 }
 
@@ -31,17 +33,18 @@ fn read(alloc: Global, area: &[u8]) -> Result<Checkpoint, PairError> {
 
 #[test]
 fn refused_memory_of_written_checkpoints(rt: HostRuntime) -> Result<(), Fail> {
+    let host = Host(&rt);
     let area = area(rt.alloc())?;
     let checkpoint = read(rt.alloc(), &area)?;
-    assert!(rt; checkpoint.db.encoded_len() == 279);
+    assert_true(&host, checkpoint.db.encoded_len() == 279, "three rows");
     let written = match encode_checkpoint(rt.alloc(), &checkpoint.db, 7, 258) {
         Ok(written) => written,
         Err(_) => {
-            assert_rows(&rt, rt.alloc(), &checkpoint.db, rows_of(&area))?;
+            assert_rows(&host, rt.alloc(), &checkpoint.db, rows_of(&area))?;
             encode_checkpoint(rt.alloc(), &checkpoint.db, 7, 258)?
         }
     };
-    assert_eq!(rt; written.as_slice(), area.as_slice());
+    assert_bytes(&host, &written, &area, "the area");
     Ok(())
 }
 
@@ -79,30 +82,31 @@ const READ_CHANGES: [ReadChange; 5] = [
 ];
 
 /// Checks what a changed area is read as, which is read again where memory is refused.
-fn assert_read(rt: &impl Abort, alloc: Global, row: &ReadChange) -> Result<(), Fail> {
+fn assert_read(rt: &impl TestHost, alloc: Global, row: &ReadChange) -> Result<(), Fail> {
     let area = changed(alloc, row.at, row.byte)?;
     let answer = match read(alloc, &area) {
         Err(PairError::NoMemory) => {
-            assert!(rt; row.takes_memory, "{}", row.what);
+            assert_same(rt, &row.takes_memory, &true, &row.what);
             read(alloc, &area)
         }
         answer => answer,
     };
     match answer {
         Ok(checkpoint) => {
-            assert_eq!(rt; row.refusal, None, "{}", row.what);
-            assert_eq!(rt; checkpoint.head, HEAD, "{}", row.what);
+            assert_same(rt, &row.refusal, &None, &row.what);
+            assert_same(rt, &checkpoint.head, &HEAD, &row.what);
             assert_rows(rt, alloc, &checkpoint.db, rows_of(&area))?;
         }
-        Err(error) => assert_eq!(rt; Some(error), row.refusal, "{}", row.what),
+        Err(error) => assert_same(rt, &Some(error), &row.refusal, &row.what),
     }
     Ok(())
 }
 
 #[test]
 fn refused_memory_of_read_checkpoints(rt: HostRuntime) -> Result<(), Fail> {
+    let host = Host(&rt);
     for row in &READ_CHANGES {
-        assert_read(&rt, rt.alloc(), row)?;
+        assert_read(&host, rt.alloc(), row)?;
     }
     Ok(())
 }
@@ -136,7 +140,7 @@ const FED_CHANGES: [FedChange; 4] = [
 ];
 
 /// Checks what changed rows are read as in pieces, which are fed again where memory is refused.
-fn assert_fed(rt: &impl Abort, alloc: Global, row: &FedChange) -> Result<(), Fail> {
+fn assert_fed(rt: &impl TestHost, alloc: Global, row: &FedChange) -> Result<(), Fail> {
     let area = changed(alloc, row.at, row.byte)?;
     let answer = match read_in_pieces(alloc, rows_of(&area), row.count) {
         Err(PairError::NoMemory) => read_in_pieces(alloc, rows_of(&area), row.count),
@@ -144,18 +148,19 @@ fn assert_fed(rt: &impl Abort, alloc: Global, row: &FedChange) -> Result<(), Fai
     };
     match answer {
         Ok(db) => {
-            assert_eq!(rt; row.refusal, None, "{}", row.what);
+            assert_same(rt, &row.refusal, &None, &row.what);
             assert_rows(rt, alloc, &db, rows_of(&area))?;
         }
-        Err(error) => assert_eq!(rt; Some(error), row.refusal, "{}", row.what),
+        Err(error) => assert_same(rt, &Some(error), &row.refusal, &row.what),
     }
     Ok(())
 }
 
 #[test]
 fn refused_memory_of_fed_rows(rt: HostRuntime) -> Result<(), Fail> {
+    let host = Host(&rt);
     for row in &FED_CHANGES {
-        assert_fed(&rt, rt.alloc(), row)?;
+        assert_fed(&host, rt.alloc(), row)?;
     }
     Ok(())
 }

@@ -2,44 +2,52 @@
 //! allocations refused in turn: a refused call succeeds when it is tried again, and no answer is
 //! another for the refusal.
 
+use crate::checks::assert_bytes;
 use crate::halves::refusals::{EMPTY, WHOLE, journal};
 use crate::halves::worked::{SEGMENT, Seen, drawn, outline_of, purges, read_as, register, segment};
+use crate::host::Host;
 use gate_journal::{JournalError, Progress, Scanner, can_be_group, encode_group};
 use path_db::Command;
 use seg_core::SegType;
 use std::alloc::Global;
-use std::process::Abort;
 use std::test::Fail;
+use test_support::{TestHost, assert_same, assert_true};
 
 /// Sees that commands are written as this payload at place 0, and tried again where memory is
 /// refused.
 fn assert_written(
-    rt: &impl Abort,
+    rt: &impl TestHost,
     alloc: Global,
     commands: &[Command],
     payload: &[u8],
 ) -> Result<(), Fail> {
-    assert!(rt; can_be_group(commands, 0));
+    assert_true(rt, can_be_group(commands, 0), "they can be a group");
     let written = match encode_group(alloc, commands, 0) {
         Ok(written) => written,
         Err(_) => {
-            assert!(rt; can_be_group(commands, 0));
+            assert_true(rt, can_be_group(commands, 0), "they can be a group");
             encode_group(alloc, commands, 0)?
         }
     };
-    assert_eq!(rt; written.as_slice(), payload);
+    assert_bytes(rt, &written, payload, "the payload");
     Ok(())
 }
 
 #[test]
 fn refused_memory_of_written_groups(rt: HostRuntime) -> Result<(), Fail> {
+    let host = Host(&rt);
     let purges = purges(rt.alloc(), 32)?;
-    assert_written(&rt, rt.alloc(), &purges, &drawn(rt.alloc(), 32, 0)?)?;
+    assert_written(&host, rt.alloc(), &purges, &drawn(rt.alloc(), 32, 0)?)?;
     // The payload of a purge and a registration is after the gate of a journal.
     let registration = register(rt.alloc(), SegType::Down, segment(rt.alloc())?)?;
     let whole = journal(rt.alloc())?;
     let payload = whole.get(512..1024).unwrap_or(&SEGMENT);
-    assert_written(&rt, rt.alloc(), &[Command::Purge(5), registration], payload)
+    assert_written(
+        &host,
+        rt.alloc(),
+        &[Command::Purge(5), registration],
+        payload,
+    )
 }
 
 /// Which byte of the worked journal is changed, what to, whether memory may be wanted as it is read
@@ -81,35 +89,38 @@ fn changed(alloc: Global, change: &Change) -> Result<Vec<u8>, Fail> {
 
 #[test]
 fn refused_memory_of_scans(rt: HostRuntime) -> Result<(), Fail> {
+    let host = Host(&rt);
     for change in &CHANGES {
         let bytes = changed(rt.alloc(), change)?;
-        let answer = match read_as(&rt, rt.alloc(), &bytes, 0, 1) {
+        let answer = match read_as(&host, rt.alloc(), &bytes, 0, 1) {
             Err(JournalError::NoMemory) => {
-                assert!(rt; change.takes_memory, "{}", change.name);
-                read_as(&rt, rt.alloc(), &bytes, 0, 1)
+                assert_same(&host, &change.takes_memory, &true, &change.name);
+                read_as(&host, rt.alloc(), &bytes, 0, 1)
             }
             answer => answer,
         };
-        assert_eq!(rt; answer, change.seen, "{}", change.name);
+        assert_same(&host, &answer, &change.seen, &change.name);
     }
     Ok(())
 }
 
 /// What a journal reads as that is taken piece by piece. Only a group's payload may want memory,
 /// which is the third piece.
-fn taken(rt: &impl Abort, alloc: Global, bytes: &[u8]) -> Seen {
+fn taken(rt: &impl TestHost, alloc: Global, bytes: &[u8]) -> Seen {
     let mut scanner = Scanner::new(alloc, 7, 0, 1);
     for number in 0..7u8 {
         let wanted = scanner.wanted();
-        assert!(rt; wanted.first < 7 && wanted.count < 7);
+        assert_true(rt, wanted.first < 7, "the journal has the first sector");
+        assert_true(rt, wanted.count < 7, "the journal has as many sectors");
         let first = 512 * wanted.first as usize;
         let count = 512 * wanted.count as usize;
         let piece = bytes.get(first..first + count).unwrap_or(&[]);
-        assert!(rt; piece.len() == count);
+        assert_true(rt, piece.len() == count, "the journal has the sectors");
         let progress = match scanner.take(alloc, piece) {
             Ok(progress) => progress,
             Err(refusal) => {
-                assert!(rt; refusal != JournalError::NoMemory || number == 2);
+                let may_be = refusal != JournalError::NoMemory || number == 2;
+                assert_true(rt, may_be, "a group's payload alone takes memory");
                 return Err(refusal);
             }
         };
@@ -123,16 +134,17 @@ fn taken(rt: &impl Abort, alloc: Global, bytes: &[u8]) -> Seen {
 
 #[test]
 fn refused_memory_of_pieces(rt: HostRuntime) -> Result<(), Fail> {
+    let host = Host(&rt);
     for change in &CHANGES {
         let bytes = changed(rt.alloc(), change)?;
-        let answer = match taken(&rt, rt.alloc(), &bytes) {
+        let answer = match taken(&host, rt.alloc(), &bytes) {
             Err(JournalError::NoMemory) => {
-                assert!(rt; change.takes_memory, "{}", change.name);
-                taken(&rt, rt.alloc(), &bytes)
+                assert_same(&host, &change.takes_memory, &true, &change.name);
+                taken(&host, rt.alloc(), &bytes)
             }
             answer => answer,
         };
-        assert_eq!(rt; answer, change.seen, "{}", change.name);
+        assert_same(&host, &answer, &change.seen, &change.name);
     }
     Ok(())
 }

@@ -4,8 +4,8 @@ use gate_journal::{JournalError, Scan, scan};
 use path_db::{Command, Registration};
 use seg_core::{SegType, Segment, read_segment};
 use std::alloc::Global;
-use std::process::Abort;
 use std::test::Fail;
+use test_support::{TestHost, assert_true};
 pub(crate) use test_support::{EXPIRY, ID, SEGMENT};
 
 /// The worked segment.
@@ -141,20 +141,21 @@ pub(crate) fn outline_of(read: &Scan) -> Outline {
 
 /// What these bytes read as, or want of memory.
 pub(crate) fn read_as(
-    rt: &impl Abort,
+    rt: &impl TestHost,
     alloc: Global,
     bytes: &[u8],
     place: u64,
     version: u32,
 ) -> Seen {
-    assert!(rt; bytes.len() >= 512 && bytes.len() % 512 == 0);
+    assert_true(rt, bytes.len() >= 512, "a journal has a sector");
+    assert_true(rt, bytes.len() % 512 == 0, "a journal has whole sectors");
     let read = scan(alloc, bytes, place, version)?;
     Ok(outline_of(&read))
 }
 
 /// What these bytes read as. Want of memory is no answer.
 pub(crate) fn seen(
-    rt: &impl Abort,
+    rt: &impl TestHost,
     alloc: Global,
     bytes: &[u8],
     place: u64,

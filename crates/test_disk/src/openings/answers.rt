@@ -2,8 +2,8 @@
 
 use sector_dev::{Device, MemDevice};
 use std::alloc::Global;
-use std::process::Abort;
 use store_open::{OpenError, Store, open};
+use test_support::{TestHost, assert_same};
 
 /// What a store represents: how many rows, their bytes, and its place.
 #[derive(Clone, Copy, Debug, PartialEq, Eq)]
@@ -60,9 +60,14 @@ pub(crate) fn state_of<D: Device>(store: &Store<D>) -> State {
 }
 
 /// Sees what a store represents, and which state it is in.
-pub(crate) fn assert_store<D: Device>(rt: &impl Abort, store: &Store<D>, held: Held, state: State) {
-    assert_eq!(rt; held_by(store), held);
-    assert_eq!(rt; state_of(store), state);
+pub(crate) fn assert_store<D: Device>(
+    rt: &impl TestHost,
+    store: &Store<D>,
+    held: Held,
+    state: State,
+) {
+    assert_same(rt, &held_by(store), &held, &"what the store holds");
+    assert_same(rt, &state_of(store), &state, &"its state");
 }
 
 /// Why a device is not opened: the number of the error, and the number of the reason within it,

@@ -1,5 +1,7 @@
 //! A store that a stop left, with one byte changed: what opening it answers.
 
+use crate::checks::done;
+use crate::host::Host;
 use crate::openings::answers::{
     Answer, BAD_CHECKPOINT, BAD_HEADER, BAD_RECORD, GAP, Held, NEWER, NO_HALF, NO_STORE, answer_of,
 };
@@ -8,6 +10,7 @@ use crate::openings::stores::{change, put, read_sector};
 use sector_dev::{Device, MemDevice, SECTOR};
 use std::alloc::Global;
 use std::test::Fail;
+use test_support::assert_same;
 
 /// What a byte is changed by, bit for bit.
 const MASKS: [u8; 4] = [0x01, 0x02, 0x80, 0xa7];
@@ -172,23 +175,20 @@ fn told_of(
 }
 
 #[test]
-fn two_thousand_images_are_told(rt: HostRuntime) -> Result<(), Fail> {
-    let mut device = stopped_store(rt.alloc(), false)?;
+fn two_thousand_images_are_told(rt: HostRuntime) {
+    let host = Host(&rt);
+    let mut device = done(&rt, stopped_store(rt.alloc(), false));
     let mut images = 0u64;
     for span in &CHANGES {
         for offset in span.from..span.end {
             for mask in MASKS {
                 let told;
-                (device, told) = told_of(rt.alloc(), device, span.sector, offset, mask)?;
-                assert!(rt;
-                    span.is_told(told),
-                    "{}: {offset} {mask} {told:?}",
-                    span.name
-                );
+                (device, told) = done(&rt, told_of(rt.alloc(), device, span.sector, offset, mask));
+                let case = (span.name, (offset, mask), told);
+                assert_same(&host, &span.is_told(told), &true, &case);
                 images = images.saturating_add(1);
             }
         }
     }
-    assert_eq!(rt; images, 2000);
-    Ok(())
+    assert_same(&host, &images, &2000, &"images");
 }

@@ -1,16 +1,18 @@
 //! Checkpoints at rest: the bytes, each refusal, and a stop or a fault at every call.
 
+use crate::checks::done;
+use crate::host::Host;
 use crate::openings::answers::{Held, State, assert_store, held_by, state_of, usable};
 use crate::openings::stores::{
     PLAIN, SECTORS, Worked, new_store, opened, read_sector, worked_store,
 };
 use sector_dev::{MemDevice, SECTOR};
 use std::alloc::Global;
-use std::process::Abort;
 use std::test::Fail;
 use store_layout::Half;
 use store_open::{Store, StoreError, open};
 use test_fault_devices::{FaultDevice, FuseDevice, Tear};
+use test_support::{TestHost, assert_same};
 
 /// How many calls of the device a checkpoint makes: three writes, and a sync after each.
 const CALLS: u64 = 6;
@@ -58,19 +60,21 @@ fn sector_of(at: u64) -> [u8; 512] {
 }
 
 #[test]
-fn a_new_store_has_these_bytes_then(rt: HostRuntime) -> Result<(), Fail> {
-    let mut store = opened(rt.alloc(), new_store(rt.alloc())?)?;
-    assert_eq!(rt; store.checkpoint(), Ok(()));
+fn a_new_store_has_these_bytes_then(rt: HostRuntime) {
+    let host = Host(&rt);
+    let device = done(&rt, new_store(rt.alloc()));
+    let mut store = done(&rt, opened(rt.alloc(), device));
+    assert_same(&host, &store.checkpoint(), &Ok(()), &"checkpoint");
     let mut device = store.into_device();
     for at in 0..SECTORS {
-        assert_eq!(rt; read_sector(&mut device, at), Some(sector_of(at)), "{at}");
+        let sector = read_sector(&mut device, at);
+        assert_same(&host, &sector, &Some(sector_of(at)), &at);
     }
-    Ok(())
 }
 
 /// Makes a checkpoint of a store of this epoch whose tail is in this half: the device.
 fn checkpointed(
-    rt: &impl Abort,
+    rt: &impl TestHost,
     alloc: Global,
     device: MemDevice,
     epoch: u64,
@@ -78,44 +82,46 @@ fn checkpointed(
 ) -> Result<MemDevice, Fail> {
     let mut store = opened(alloc, device)?;
     assert_store(rt, &store, HELD, usable(epoch, 2));
-    assert_eq!(rt; store.tail_half(), half);
-    assert_eq!(rt; store.checkpoint(), Ok(()));
+    assert_same(rt, &store.tail_half(), &half, &"the tail's half");
+    assert_same(rt, &store.checkpoint(), &Ok(()), &"checkpoint");
     assert_store(rt, &store, HELD, usable(epoch.saturating_add(1), 2));
-    assert_eq!(rt; (store.tail_half(), store.tail_gate()), (half.other(), 0));
-    assert_eq!(rt; store.sealed_len(), 279);
+    let tail = (store.tail_half(), store.tail_gate());
+    assert_same(rt, &tail, &(half.other(), 0), &"the new tail");
+    assert_same(rt, &store.sealed_len(), &279, &"sealed bytes");
     Ok(store.into_device())
 }
 
 #[test]
-fn rows_are_kept_by_one_after_another(rt: HostRuntime) -> Result<(), Fail> {
-    let mut device = worked_store(rt.alloc(), PLAIN)?;
+fn rows_are_kept_by_one_after_another(rt: HostRuntime) {
+    let host = Host(&rt);
+    let mut device = done(&rt, worked_store(rt.alloc(), PLAIN));
     let mut half = Half::First;
     for epoch in 7..12 {
-        device = checkpointed(&rt, rt.alloc(), device, epoch, half)?;
+        device = done(&rt, checkpointed(&host, rt.alloc(), device, epoch, half));
         half = half.other();
     }
-    let store = opened(rt.alloc(), device)?;
-    assert_eq!(rt; held_by(&store), HELD);
+    let store = done(&rt, opened(rt.alloc(), device));
+    assert_same(&host, &held_by(&store), &HELD, &"what the last one holds");
     let _device = store.into_device();
-    Ok(())
 }
 
 #[test]
-fn an_old_version_is_made_new(rt: HostRuntime) -> Result<(), Fail> {
+fn an_old_version_is_made_new(rt: HostRuntime) {
+    let host = Host(&rt);
     let old = Worked {
         version: 1,
         ..PLAIN
     };
-    let mut store = opened(rt.alloc(), worked_store(rt.alloc(), old)?)?;
-    assert_eq!(rt; state_of(&store), usable(7, 1));
-    assert_eq!(rt; store.checkpoint(), Ok(()));
-    assert_eq!(rt; state_of(&store), usable(8, 2));
-    assert_eq!(rt; held_by(&store), HELD);
-    let store = opened(rt.alloc(), store.into_device())?;
-    assert_eq!(rt; state_of(&store), usable(8, 2));
-    assert_eq!(rt; held_by(&store), HELD);
+    let device = done(&rt, worked_store(rt.alloc(), old));
+    let mut store = done(&rt, opened(rt.alloc(), device));
+    assert_same(&host, &state_of(&store), &usable(7, 1), &"the old state");
+    assert_same(&host, &store.checkpoint(), &Ok(()), &"checkpoint");
+    assert_same(&host, &state_of(&store), &usable(8, 2), &"the new state");
+    assert_same(&host, &held_by(&store), &HELD, &"what it holds");
+    let store = done(&rt, opened(rt.alloc(), store.into_device()));
+    assert_same(&host, &state_of(&store), &usable(8, 2), &"the state then");
+    assert_same(&host, &held_by(&store), &HELD, &"what that holds");
     let _device = store.into_device();
-    Ok(())
 }
 
 /// A store of this number of rows, and why no checkpoint of it is made.
@@ -144,20 +150,21 @@ const REFUSED: [Refused; 3] = [
 ];
 
 /// Sees that a checkpoint is refused twice, and that the store stays as it is.
-fn assert_refused(rt: &impl Abort, store: &mut Store<MemDevice>, row: &Refused) {
+fn assert_refused(rt: &impl TestHost, store: &mut Store<MemDevice>, row: &Refused) {
     let (held, state) = (held_by(store), state_of(store));
-    assert_eq!(rt; held.rows, row.rows, "{}", row.name);
+    assert_same(rt, &held.rows, &row.rows, &row.name);
     for _again in 0..2 {
-        assert_eq!(rt; store.checkpoint(), Err(row.error), "{}", row.name);
+        assert_same(rt, &store.checkpoint(), &Err(row.error), &row.name);
         assert_store(rt, store, held, state);
     }
 }
 
 #[test]
 fn stores_are_refused_in_order(rt: HostRuntime) -> Result<(), Fail> {
+    let host = Host(&rt);
     for row in &REFUSED {
         let mut store = opened(rt.alloc(), worked_store(rt.alloc(), row.worked)?)?;
-        assert_refused(&rt, &mut store, row);
+        assert_refused(&host, &mut store, row);
         let _device = store.into_device();
     }
     Ok(())
@@ -166,7 +173,7 @@ fn stores_are_refused_in_order(rt: HostRuntime) -> Result<(), Fail> {
 /// Sees that a store of which a call fails is broken, and that its device opens to the same, of
 /// which a checkpoint is made: whether a call of the checkpoint fails.
 fn assert_breaks(
-    rt: &impl Abort,
+    rt: &impl TestHost,
     alloc: Global,
     store: Store<FaultDevice>,
     number: u64,
@@ -177,88 +184,90 @@ fn assert_breaks(
         let _device = store.into_device();
         return Ok(false);
     }
-    assert_eq!(rt; answer, Err(StoreError::Fault), "{number}");
+    assert_same(rt, &answer, &Err(StoreError::Fault), &number);
     assert_store(rt, &store, HELD, BROKEN);
-    assert_eq!(rt; store.checkpoint(), Err(StoreError::Broken), "{number}");
+    assert_same(rt, &store.checkpoint(), &Err(StoreError::Broken), &number);
     assert_checkpoint(rt, alloc, store.into_device().into_mem())?;
     Ok(true)
 }
 
 /// Sees what a device opens to, and that a checkpoint of it is made.
-fn assert_checkpoint(rt: &impl Abort, alloc: Global, device: MemDevice) -> Result<(), Fail> {
+fn assert_checkpoint(rt: &impl TestHost, alloc: Global, device: MemDevice) -> Result<(), Fail> {
     let mut store = opened(alloc, device)?;
-    assert_eq!(rt; held_by(&store), HELD);
-    assert_eq!(rt; store.checkpoint(), Ok(()));
-    assert_eq!(rt; held_by(&store), HELD);
+    assert_same(rt, &held_by(&store), &HELD, &"before the checkpoint");
+    assert_same(rt, &store.checkpoint(), &Ok(()), &"checkpoint");
+    assert_same(rt, &held_by(&store), &HELD, &"after the checkpoint");
     let _device = store.into_device();
     Ok(())
 }
 
 #[test]
-fn a_fault_at_any_call_breaks_the_store(rt: HostRuntime) -> Result<(), Fail> {
+fn a_fault_at_any_call_breaks_the_store(rt: HostRuntime) {
+    let host = Host(&rt);
     let mut faults = 0u64;
     for number in 0..MANY {
-        let device = FaultDevice::new(worked_store(rt.alloc(), PLAIN)?, number);
+        let memory = done(&rt, worked_store(rt.alloc(), PLAIN));
+        let device = FaultDevice::new(memory, number);
         let Ok(store) = open(rt.alloc(), device) else {
             continue;
         };
-        if !assert_breaks(&rt, rt.alloc(), store, number)? {
+        if !done(&rt, assert_breaks(&host, rt.alloc(), store, number)) {
             break;
         }
         faults = faults.saturating_add(1);
     }
-    assert_eq!(rt; faults, CALLS);
-    Ok(())
+    assert_same(&host, &faults, &CALLS, &"faults");
 }
 
 #[test]
-fn a_stop_at_any_call_keeps_rows_and_place(rt: HostRuntime) -> Result<(), Fail> {
+fn a_stop_at_any_call_keeps_rows_and_place(rt: HostRuntime) {
+    let host = Host(&rt);
     for (keep, fill) in [(0, 0), (0, 0xa7), (1, 0), (1, 0xa7), (512, 0), (512, 0xa7)] {
         let mut stops = 0u64;
         for calls in 0..MANY {
-            let device = FuseDevice::new(
-                worked_store(rt.alloc(), PLAIN)?,
-                calls,
-                Tear { keep, fill },
-            );
+            let memory = done(&rt, worked_store(rt.alloc(), PLAIN));
+            let device = FuseDevice::new(memory, calls, Tear { keep, fill });
             let Ok(mut store) = open(rt.alloc(), device) else {
                 continue;
             };
             let answer = store.checkpoint();
-            assert_checkpoint(&rt, rt.alloc(), store.into_device().into_mem())?;
+            let memory = store.into_device().into_mem();
+            done(&rt, assert_checkpoint(&host, rt.alloc(), memory));
             if answer == Ok(()) {
                 break;
             }
-            assert_eq!(rt; answer, Err(StoreError::Fault), "{calls} {keep} {fill}");
+            let case = (calls, keep, fill);
+            assert_same(&host, &answer, &Err(StoreError::Fault), &case);
             stops = stops.saturating_add(1);
         }
-        assert_eq!(rt; stops, CALLS, "{keep} {fill}");
+        assert_same(&host, &stops, &CALLS, &(keep, fill));
     }
-    Ok(())
 }
 
 // It is run with each allocation refused in turn. Where that is one of the opening or of the
 // checkpoint, nothing has changed, and both succeed when they are tried again.
 #[test]
 fn refused_calls_may_be_tried_again(rt: HostRuntime) -> Result<(), Fail> {
+    let host = Host(&rt);
     let mut store = opened(rt.alloc(), worked_store(rt.alloc(), PLAIN)?)?;
     let answer = match store.checkpoint() {
         Err(StoreError::NoMemory) => {
-            assert_eq!(rt; held_by(&store), HELD);
-            assert_eq!(rt; state_of(&store), usable(7, 2));
+            assert_same(&host, &held_by(&store), &HELD, &"after the refusal");
+            assert_same(&host, &state_of(&store), &usable(7, 2), &"the old state");
             store.checkpoint()
         }
         answer => answer,
     };
-    assert_eq!(rt; answer, Ok(()));
-    assert_eq!(rt; held_by(&store), HELD);
-    assert_eq!(rt; state_of(&store), usable(8, 2));
+    assert_same(&host, &answer, &Ok(()), &"checkpoint");
+    assert_same(&host, &held_by(&store), &HELD, &"after the checkpoint");
+    assert_same(&host, &state_of(&store), &usable(8, 2), &"the new state");
     let _device = store.into_device();
     Ok(())
 }
 
 #[test]
 fn store_errors_have_numbers_and_texts(rt: HostRuntime) -> Result<(), Fail> {
+    let host = Host(&rt);
     let table = [
         (StoreError::Fault, "1 the device failed"),
         (StoreError::Sealed, "2 the journal is sealed"),
@@ -272,7 +281,7 @@ fn store_errors_have_numbers_and_texts(rt: HostRuntime) -> Result<(), Fail> {
     ];
     for (error, wanted) in table {
         let text = format!(in rt.alloc(); "{} {error}", error as u8)?;
-        assert_eq!(rt; text.as_str(), wanted);
+        assert_same(&host, &text.as_str(), &wanted, &error);
     }
     Ok(())
 }

@@ -1,16 +1,18 @@
 //! Copies of a store at rest, of other sizes: what they open to, each refusal, and a stop at every
 //! call.
 
+use crate::checks::done;
+use crate::host::Host;
 use crate::openings::answers::{Held, assert_store, held_by, usable};
 use crate::openings::stores::{LEAST, PLAIN, SECTORS, Worked, opened, read_sector, worked_store};
 use path_db::PathDb;
 use sector_dev::{MemDevice, SECTOR};
 use std::alloc::Global;
-use std::process::Abort;
 use std::test::Fail;
 use store_copy::{CopyError, format_with};
 use store_open::{Geometry, open};
 use test_fault_devices::{FuseDevice, Tear};
+use test_support::{TestHost, assert_same};
 
 /// Sizes that are larger than the least ones, and the sectors of a store of them.
 const LARGER: Geometry = Geometry {
@@ -41,16 +43,16 @@ fn rows_of(alloc: Global, worked: Worked) -> Result<PathDb, Fail> {
 }
 
 #[test]
-fn copies_open_to_the_rows(rt: HostRuntime) -> Result<(), Fail> {
-    let rows = rows_of(rt.alloc(), PLAIN)?;
-    let mut device = MemDevice::new(rt.alloc(), LARGER_SECTORS)?;
+fn copies_open_to_the_rows(rt: HostRuntime) {
+    let host = Host(&rt);
+    let rows = done(&rt, rows_of(rt.alloc(), PLAIN));
+    let mut device = MemDevice::new(rt.alloc(), LARGER_SECTORS).expect(&rt, "a device");
     let copied = format_with(rt.alloc(), &mut device, LARGER, &rows, 259);
-    assert_eq!(rt; copied, Ok(()));
-    let store = opened(rt.alloc(), device)?;
-    assert_store(&rt, &store, HELD, usable(1, 2));
-    assert_eq!(rt; store.geometry(), LARGER);
+    assert_same(&host, &copied, &Ok(()), &"copy");
+    let store = done(&rt, opened(rt.alloc(), device));
+    assert_store(&host, &store, HELD, usable(1, 2));
+    assert_same(&host, &store.geometry(), &LARGER, &"sizes");
     let _device = store.into_device();
-    Ok(())
 }
 
 /// The sectors of a copy that are not zero after their beginnings: the title, the checkpoint with its
@@ -68,24 +70,25 @@ const BEGINNINGS: [(u64, &[u8]); 3] = [
 ];
 
 /// Sees that a sector begins with these bytes.
-fn assert_begins(rt: &impl Abort, device: &mut MemDevice, at: u64, wanted: &[u8]) {
+fn assert_begins(rt: &impl TestHost, device: &mut MemDevice, at: u64, wanted: &[u8]) {
     let sector = read_sector(device, at).unwrap_or([0; SECTOR]);
-    assert!(rt; sector.starts_with(wanted), "{at}");
+    assert_same(rt, &sector.starts_with(wanted), &true, &at);
 }
 
 #[test]
-fn a_copy_has_these_bytes(rt: HostRuntime) -> Result<(), Fail> {
-    let rows = rows_of(rt.alloc(), PLAIN)?;
-    let mut device = MemDevice::new(rt.alloc(), LARGER_SECTORS)?;
+fn a_copy_has_these_bytes(rt: HostRuntime) {
+    let host = Host(&rt);
+    let rows = done(&rt, rows_of(rt.alloc(), PLAIN));
+    let mut device = MemDevice::new(rt.alloc(), LARGER_SECTORS).expect(&rt, "a device");
     let copied = format_with(rt.alloc(), &mut device, LARGER, &rows, 259);
-    assert_eq!(rt; copied, Ok(()));
+    assert_same(&host, &copied, &Ok(()), &"copy");
     for (at, wanted) in BEGINNINGS {
-        assert_begins(&rt, &mut device, at, wanted);
+        assert_begins(&host, &mut device, at, wanted);
     }
     for at in [2, 3, 5, 521, 522, 525, 526] {
-        assert_eq!(rt; read_sector(&mut device, at), Some([0; SECTOR]), "{at}");
+        let sector = read_sector(&mut device, at);
+        assert_same(&host, &sector, &Some([0; SECTOR]), &at);
     }
-    Ok(())
 }
 
 /// Sizes, the sectors of a device, the rows, and why no store of these sizes is made of them there.
@@ -99,21 +102,23 @@ const REFUSED: [(Geometry, u64, Worked, CopyError); 4] = [
 
 #[test]
 fn copies_are_refused_in_order(rt: HostRuntime) -> Result<(), Fail> {
+    let host = Host(&rt);
     for (geometry, sectors, worked, error) in REFUSED {
         let rows = rows_of(rt.alloc(), worked)?;
         let mut device = MemDevice::new(rt.alloc(), sectors)?;
         let refused = format_with(rt.alloc(), &mut device, geometry, &rows, 260);
-        assert_eq!(rt; refused, Err(error));
-        assert_eq!(rt; read_sector(&mut device, 0), Some([0; SECTOR]));
+        assert_same(&host, &refused, &Err(error), &error);
+        let sector = read_sector(&mut device, 0);
+        assert_same(&host, &sector, &Some([0; SECTOR]), &("sector 0", error));
     }
     Ok(())
 }
 
 /// Sees that what a stop left of a copy does not open, or opens to the rows: whether it opens.
-fn opens_whole(rt: &impl Abort, alloc: Global, device: MemDevice) -> bool {
+fn opens_whole(rt: &impl TestHost, alloc: Global, device: MemDevice) -> bool {
     match open(alloc, device) {
         Ok(store) => {
-            assert_eq!(rt; held_by(&store), HELD);
+            assert_same(rt, &held_by(&store), &HELD, &"what the copy holds");
             let _device = store.into_device();
             true
         }
@@ -122,25 +127,27 @@ fn opens_whole(rt: &impl Abort, alloc: Global, device: MemDevice) -> bool {
 }
 
 #[test]
-fn a_stop_at_any_call_leaves_no_copy_or_a_whole_one(rt: HostRuntime) -> Result<(), Fail> {
-    let rows = rows_of(rt.alloc(), PLAIN)?;
+fn a_stop_at_any_call_leaves_no_copy_or_a_whole_one(rt: HostRuntime) {
+    let host = Host(&rt);
+    let rows = done(&rt, rows_of(rt.alloc(), PLAIN));
     for (keep, fill) in [(0, 0), (0, 0xa7), (1, 0), (1, 0xa7), (512, 0), (512, 0xa7)] {
         let is_gate_open = keep > 0 || fill == 0xa7;
         for calls in 0..CALLS {
-            let blank = MemDevice::new(rt.alloc(), SECTORS)?;
+            let blank = MemDevice::new(rt.alloc(), SECTORS).expect(&rt, "a device");
             let mut device = FuseDevice::new(blank, calls, Tear { keep, fill });
             let stopped = format_with(rt.alloc(), &mut device, LEAST, &rows, 259);
-            assert_eq!(rt; stopped, Err(CopyError::Fault), "{calls} {keep} {fill}");
-            let opens = opens_whole(&rt, rt.alloc(), device.into_mem());
+            let case = (calls, keep, fill);
+            assert_same(&host, &stopped, &Err(CopyError::Fault), &case);
+            let opens = opens_whole(&host, rt.alloc(), device.into_mem());
             let wanted = calls > GATE_CALL || (calls == GATE_CALL && is_gate_open);
-            assert_eq!(rt; opens, wanted, "{calls} {keep} {fill}");
+            assert_same(&host, &opens, &wanted, &case);
         }
     }
-    Ok(())
 }
 
 #[test]
 fn copy_errors_have_numbers_and_texts(rt: HostRuntime) -> Result<(), Fail> {
+    let host = Host(&rt);
     let table = [
         (CopyError::BadGeometry, "1 the sizes are not allowed"),
         (CopyError::TooSmall, "2 the device is too small"),
@@ -153,7 +160,7 @@ fn copy_errors_have_numbers_and_texts(rt: HostRuntime) -> Result<(), Fail> {
     ];
     for (error, wanted) in table {
         let text = format!(in rt.alloc(); "{} {error}", error as u8)?;
-        assert_eq!(rt; text.as_str(), wanted);
+        assert_same(&host, &text.as_str(), &wanted, &error);
     }
     Ok(())
 }

@@ -1,10 +1,12 @@
 //! New stores, to the byte.
+use crate::host::Host;
 use crate::openings::stores::LEAST;
 use sector_dev::{Device, MemDevice, SECTOR};
 use std::test::Fail;
 use store_open::FormatError::{self, BadGeometry, TooSmall};
 use store_open::{Geometry, format, read_geometry};
 use test_fault_devices::FaultDevice;
+use test_support::{assert_same, assert_true};
 
 // How many calls of the device it takes to make a store.
 const CALLS: u64 = 7;
@@ -74,53 +76,56 @@ fn new_sector(at: u64) -> [u8; 512] {
 
 #[test]
 fn a_new_store_has_these_bytes(rt: HostRuntime) -> Result<(), Fail> {
+    let host = Host(&rt);
     let mut device = MemDevice::new(rt.alloc(), 1039)?;
-    assert_eq!(rt; format(&mut device, LEAST), Ok(()));
-    assert_eq!(rt; LEAST.sectors(), 1039);
+    assert_same(&host, &format(&mut device, LEAST), &Ok(()), &"a new store");
+    assert_same(&host, &LEAST.sectors(), &1039, &"sectors");
     for at in 0..1039 {
-        assert_eq!(rt; read_sector(&mut device, at), Some(new_sector(at)), "{at}");
+        let sector = read_sector(&mut device, at);
+        assert_same(&host, &sector, &Some(new_sector(at)), &at);
     }
-    assert_eq!(rt; read_geometry(&mut device).ok(), Some(Some(LEAST)));
+    let sizes = read_geometry(&mut device).ok();
+    assert_same(&host, &sizes, &Some(Some(LEAST)), &"sizes");
     Ok(())
 }
 
 #[test]
 fn sizes_and_devices_are_refused(rt: HostRuntime) -> Result<(), Fail> {
+    let host = Host(&rt);
     for row in &REFUSALS {
         let mut device = MemDevice::new(rt.alloc(), u64::from(row.sectors))?;
         let made = format(&mut device, row.sizes);
-        assert_eq!(rt; made, Err(row.error), "{}", row.name);
+        assert_same(&host, &made, &Err(row.error), &row.name);
         let found = read_geometry(&mut device).ok();
-        assert_eq!(rt; found, Some(None), "{}", row.name);
+        assert_same(&host, &found, &Some(None), &row.name);
     }
     Ok(())
 }
 
 #[test]
-fn a_fault_at_any_call_is_told(rt: HostRuntime) -> Result<(), Fail> {
+fn a_fault_at_any_call_is_told(rt: HostRuntime) {
+    let host = Host(&rt);
     for failing in 0..CALLS {
-        let mut device = FaultDevice::new(MemDevice::new(rt.alloc(), 1039)?, failing);
-        assert_eq!(rt;
-            format(&mut device, LEAST),
-            Err(FormatError::Fault),
-            "{failing}"
-        );
+        let memory = MemDevice::new(rt.alloc(), 1039).expect(&rt, "a device");
+        let mut device = FaultDevice::new(memory, failing);
+        let made = format(&mut device, LEAST);
+        assert_same(&host, &made, &Err(FormatError::Fault), &failing);
         let mut again = device.into_mem();
-        assert_eq!(rt; format(&mut again, LEAST), Ok(()), "{failing}");
-        assert_eq!(rt;
-            read_geometry(&mut again).ok(),
-            Some(Some(LEAST)),
-            "{failing}"
-        );
+        assert_same(&host, &format(&mut again, LEAST), &Ok(()), &failing);
+        let sizes = read_geometry(&mut again).ok();
+        assert_same(&host, &sizes, &Some(Some(LEAST)), &failing);
     }
-    let mut device = FaultDevice::new(MemDevice::new(rt.alloc(), 1039)?, CALLS);
-    assert_eq!(rt; format(&mut device, LEAST), Ok(()));
-    assert!(rt; read_geometry(&mut device).is_err());
-    Ok(())
+    let memory = MemDevice::new(rt.alloc(), 1039).expect(&rt, "a device");
+    let mut device = FaultDevice::new(memory, CALLS);
+    let made = format(&mut device, LEAST);
+    assert_same(&host, &made, &Ok(()), &"no call fails");
+    let is_told = read_geometry(&mut device).is_err();
+    assert_true(&host, is_told, "the sizes are not read");
 }
 
 #[test]
 fn errors_have_numbers_and_texts(rt: HostRuntime) -> Result<(), Fail> {
+    let host = Host(&rt);
     let table = [
         (FormatError::BadGeometry, "1 the sizes are not allowed"),
         (FormatError::TooSmall, "2 the device is too small"),
@@ -128,7 +133,7 @@ fn errors_have_numbers_and_texts(rt: HostRuntime) -> Result<(), Fail> {
     ];
     for (error, wanted) in table {
         let text = format!(in rt.alloc(); "{} {error}", error as u8)?;
-        assert_eq!(rt; text.as_str(), wanted);
+        assert_same(&host, &text.as_str(), &wanted, &error);
     }
     Ok(())
 }

@@ -1,6 +1,8 @@
 //! New stores in which some bytes are others: what opening them answers, and which refusal comes
 //! first.
 
+use crate::checks::done;
+use crate::host::Host;
 use crate::openings::answers::{
     Answer, BAD_CHECKPOINT, BAD_HEADER, BAD_RECORD, GAP, Held, NEWER, NO_HALF, NO_STORE, NOTHING,
     PAST_END, SAME_EPOCH, SEALED_NEWER, answer_of, held_by, state_of, usable,
@@ -8,10 +10,9 @@ use crate::openings::answers::{
 use crate::openings::stores::{REGISTER, change, new_store, opened, put};
 use sector_dev::MemDevice;
 use std::alloc::Global;
-use std::process::Abort;
 use std::test::Fail;
 use store_open::StoreError;
-use test_support::leaving_by;
+use test_support::{TestHost, assert_same, leaving_by};
 
 /// Bytes that are in a sector from an offset on.
 #[derive(Clone, Copy)]
@@ -226,47 +227,49 @@ const ORDERS: [Hostile; 12] = [
 ];
 
 /// Opens an image twice: what it answers stays.
-fn assert_answers(rt: &impl Abort, alloc: Global, image: &Hostile) -> Result<(), Fail> {
+fn assert_answers(rt: &impl TestHost, alloc: Global, image: &Hostile) -> Result<(), Fail> {
     let mut device = new_store(alloc)?;
     for made in image.changes {
         change(&mut device, made.sector, made.offset, made.bytes)?;
     }
     let (first, device) = answer_of(alloc, device);
     let (second, _device) = answer_of(alloc, device);
-    assert_eq!(rt; first, image.answer, "{}", image.name);
-    assert_eq!(rt; second, image.answer, "{}", image.name);
+    assert_same(rt, &first, &image.answer, &image.name);
+    assert_same(rt, &second, &image.answer, &("again", image.name));
     Ok(())
 }
 
 #[test]
 fn hostile_images_are_told(rt: HostRuntime) -> Result<(), Fail> {
+    let host = Host(&rt);
     for image in &IMAGES {
-        assert_answers(&rt, rt.alloc(), image)?;
+        assert_answers(&host, rt.alloc(), image)?;
     }
     Ok(())
 }
 
 #[test]
 fn refusals_come_in_order(rt: HostRuntime) -> Result<(), Fail> {
+    let host = Host(&rt);
     for image in &ORDERS {
-        assert_answers(&rt, rt.alloc(), image)?;
+        assert_answers(&host, rt.alloc(), image)?;
     }
     Ok(())
 }
 
 #[test]
-fn new_stores_of_version_1_are_opened(rt: HostRuntime) -> Result<(), Fail> {
-    let mut device = new_store(rt.alloc())?;
-    change(&mut device, 1, 7, &[1])?;
-    let mut store = opened(rt.alloc(), device)?;
-    assert_eq!(rt; held_by(&store), NOTHING);
-    assert_eq!(rt; state_of(&store), usable(1, 1));
-    assert_eq!(rt; store.checkpoint(), Ok(()));
-    let store = opened(rt.alloc(), store.into_device())?;
-    assert_eq!(rt; held_by(&store), NOTHING);
-    assert_eq!(rt; state_of(&store), usable(2, 2));
+fn new_stores_of_version_1_are_opened(rt: HostRuntime) {
+    let host = Host(&rt);
+    let mut device = done(&rt, new_store(rt.alloc()));
+    done(&rt, change(&mut device, 1, 7, &[1]));
+    let mut store = done(&rt, opened(rt.alloc(), device));
+    assert_same(&host, &held_by(&store), &NOTHING, &"what it holds");
+    assert_same(&host, &state_of(&store), &usable(1, 1), &"the old state");
+    assert_same(&host, &store.checkpoint(), &Ok(()), &"checkpoint");
+    let store = done(&rt, opened(rt.alloc(), store.into_device()));
+    assert_same(&host, &held_by(&store), &NOTHING, &"what it holds then");
+    assert_same(&host, &state_of(&store), &usable(2, 2), &"the new state");
     let _device = store.into_device();
-    Ok(())
 }
 
 /// Eleven rows, at place 1.
@@ -314,13 +317,15 @@ fn eleven_rows(alloc: Global) -> Result<MemDevice, Fail> {
 // Ten rows of 93 bytes are the most that an area of two sectors has room for; the journal registers
 // one more.
 #[test]
-fn fold_larger_than_area(rt: HostRuntime) -> Result<(), Fail> {
-    let mut store = opened(rt.alloc(), eleven_rows(rt.alloc())?)?;
-    assert_eq!(rt; held_by(&store), ELEVEN);
-    assert_eq!(rt; store.sealed_len(), 1023);
-    assert_eq!(rt; store.checkpoint(), Err(StoreError::Unfit));
-    let store = opened(rt.alloc(), store.into_device())?;
-    assert_eq!(rt; held_by(&store), ELEVEN);
+fn fold_larger_than_area(rt: HostRuntime) {
+    let host = Host(&rt);
+    let device = done(&rt, eleven_rows(rt.alloc()));
+    let mut store = done(&rt, opened(rt.alloc(), device));
+    assert_same(&host, &held_by(&store), &ELEVEN, &"what it holds");
+    assert_same(&host, &store.sealed_len(), &1023, &"sealed bytes");
+    let answer = store.checkpoint();
+    assert_same(&host, &answer, &Err(StoreError::Unfit), &"checkpoint");
+    let store = done(&rt, opened(rt.alloc(), store.into_device()));
+    assert_same(&host, &held_by(&store), &ELEVEN, &"what it holds then");
     let _device = store.into_device();
-    Ok(())
 }

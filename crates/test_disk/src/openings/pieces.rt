@@ -1,16 +1,17 @@
 //! Checkpoints at rest that are more than one piece.
 
+use crate::checks::done;
+use crate::host::Host;
 use crate::openings::answers::{Held, assert_store, usable};
 use crate::openings::stores::{opened, put, read_sector};
 use path_db::PathDb;
 use path_records::{read_command, write_rows};
 use sector_dev::{Device, MemDevice};
 use std::alloc::Global;
-use std::process::Abort;
 use std::test::Fail;
 use store_layout::Half;
 use store_open::{Geometry, format};
-use test_support::leaving_by;
+use test_support::{TestHost, assert_same, leaving_by};
 
 /// 512 KiB of checkpoint area.
 const LARGE: Geometry = Geometry {
@@ -79,24 +80,25 @@ fn large_store(alloc: Global) -> Result<MemDevice, Fail> {
 }
 
 /// Sees that the sectors of both areas are the same, but for the first one.
-fn assert_copied(rt: &impl Abort, device: &mut MemDevice) {
+fn assert_copied(rt: &impl TestHost, device: &mut MemDevice) {
     for sector in 1..TAKEN {
         let old = read_sector(device, LARGE.area_at(Half::First).saturating_add(sector));
         let new = read_sector(device, LARGE.area_at(Half::Second).saturating_add(sector));
-        assert!(rt; new == old, "{sector}");
+        assert_same(rt, &(new == old), &true, &sector);
     }
 }
 
 #[test]
-fn all_pieces_are_there(rt: HostRuntime) -> Result<(), Fail> {
-    let mut store = opened(rt.alloc(), large_store(rt.alloc())?)?;
-    assert_store(&rt, &store, HELD, usable(7, 2));
-    assert_eq!(rt; store.checkpoint(), Ok(()));
-    assert_store(&rt, &store, HELD, usable(8, 2));
+fn all_pieces_are_there(rt: HostRuntime) {
+    let host = Host(&rt);
+    let device = done(&rt, large_store(rt.alloc()));
+    let mut store = done(&rt, opened(rt.alloc(), device));
+    assert_store(&host, &store, HELD, usable(7, 2));
+    assert_same(&host, &store.checkpoint(), &Ok(()), &"checkpoint");
+    assert_store(&host, &store, HELD, usable(8, 2));
     let mut device = store.into_device();
-    assert_copied(&rt, &mut device);
-    let store = opened(rt.alloc(), device)?;
-    assert_store(&rt, &store, HELD, usable(8, 2));
+    assert_copied(&host, &mut device);
+    let store = done(&rt, opened(rt.alloc(), device));
+    assert_store(&host, &store, HELD, usable(8, 2));
     let _device = store.into_device();
-    Ok(())
 }

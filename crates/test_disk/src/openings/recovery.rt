@@ -1,15 +1,16 @@
 //! Stores that a stop left are opened, with a stop or a fault at every call of the opening too.
 
+use crate::host::Host;
 use crate::openings::answers::{State, held_by, state_of};
 use crate::openings::stopped::{HELD, stopped_store};
 use crate::openings::stores::{opened, put, read_sector};
 use sector_dev::{Device, MemDevice};
 use std::alloc::Global;
-use std::process::Abort;
 use std::test::Fail;
 use store_layout::Half;
 use store_open::{OpenError, open};
 use test_fault_devices::{FaultDevice, FuseDevice, Tear};
+use test_support::{TestHost, assert_same};
 
 /// More calls than it takes to open a store.
 const MANY: u64 = 200;
@@ -86,7 +87,7 @@ fn left_again(mut device: MemDevice) -> Result<MemDevice, Fail> {
 /// Opens a device that stops after this number of calls: whether that succeeds, and what is there
 /// then.
 fn stopped(
-    rt: &impl Abort,
+    rt: &impl TestHost,
     alloc: Global,
     device: MemDevice,
     calls: u64,
@@ -94,11 +95,11 @@ fn stopped(
 ) -> (bool, MemDevice) {
     match open(alloc, FuseDevice::new(device, calls, tear)) {
         Ok(store) => {
-            assert_eq!(rt; held_by(&store), HELD, "{calls}");
+            assert_same(rt, &held_by(&store), &HELD, &calls);
             (true, store.into_device().into_mem())
         }
         Err((device, error)) => {
-            assert_eq!(rt; error, OpenError::Device, "{calls}");
+            assert_same(rt, &error, &OpenError::Device, &calls);
             (false, device.into_mem())
         }
     }
@@ -106,19 +107,20 @@ fn stopped(
 
 /// Sees that a device opens to what is expected.
 fn assert_opens(
-    rt: &impl Abort,
+    rt: &impl TestHost,
     alloc: Global,
     device: MemDevice,
     left: Left,
 ) -> Result<MemDevice, Fail> {
     let store = opened(alloc, device)?;
-    assert_eq!(rt; held_by(&store), HELD);
-    assert_eq!(rt; state_of(&store), left.state);
-    assert_eq!(rt; (store.tail_half(), store.tail_gate()), (Half::Second, 2));
+    assert_same(rt, &held_by(&store), &HELD, &"what the store holds");
+    assert_same(rt, &state_of(&store), &left.state, &"its state");
+    let tail = (store.tail_half(), store.tail_gate());
+    assert_same(rt, &tail, &(Half::Second, 2), &"its tail");
     let mut device = store.into_device();
     for at in [3, 4] {
         let gate = read_sector(&mut device, at).map(|sector| sector[0]);
-        assert_eq!(rt; gate, Some(left.gate), "{at}");
+        assert_same(rt, &gate, &Some(left.gate), &at);
     }
     Ok(device)
 }
@@ -126,7 +128,7 @@ fn assert_opens(
 /// Stops the first opening after this number of calls, and the second one at every call; the third
 /// one is not stopped.
 fn assert_opens_after_two(
-    rt: &impl Abort,
+    rt: &impl TestHost,
     alloc: Global,
     mut device: MemDevice,
     left: Left,
@@ -144,7 +146,7 @@ fn assert_opens_after_two(
 }
 
 /// Stops an opening at every call.
-fn assert_recovers(rt: &impl Abort, alloc: Global, left: Left) -> Result<(), Fail> {
+fn assert_recovers(rt: &impl TestHost, alloc: Global, left: Left) -> Result<(), Fail> {
     let mut device = stopped_store(alloc, left.both_are_open)?;
     for tear in TEARS {
         let mut stops = 0u64;
@@ -157,41 +159,44 @@ fn assert_recovers(rt: &impl Abort, alloc: Global, left: Left) -> Result<(), Fai
             stops = stops.saturating_add(1);
             device = assert_opens_after_two(rt, alloc, device, left, (calls, tear))?;
         }
-        assert_eq!(rt; stops, left.calls);
+        assert_same(rt, &stops, &left.calls, &"stops");
     }
     Ok(())
 }
 
 #[test]
 fn stops_where_the_sealed_half_is_open(rt: HostRuntime) -> Result<(), Fail> {
-    assert_recovers(&rt, rt.alloc(), SEALED)
+    let host = Host(&rt);
+    assert_recovers(&host, rt.alloc(), SEALED)
 }
 
 #[test]
 fn stops_where_both_halves_are_open(rt: HostRuntime) -> Result<(), Fail> {
-    assert_recovers(&rt, rt.alloc(), BOTH)
+    let host = Host(&rt);
+    assert_recovers(&host, rt.alloc(), BOTH)
 }
 
 #[test]
 fn a_fault_at_any_call_is_told(rt: HostRuntime) -> Result<(), Fail> {
+    let host = Host(&rt);
     for left in [SEALED, BOTH] {
         let mut device = stopped_store(rt.alloc(), left.both_are_open)?;
         for number in 0..left.calls {
             match open(rt.alloc(), FaultDevice::new(left_again(device)?, number)) {
                 Ok(store) => {
-                    assert!(rt; false, "{number}");
+                    assert_same(&host, &"opened", &"a fault", &number);
                     device = store.into_device().into_mem();
                 }
                 Err((failed, error)) => {
-                    assert_eq!(rt; error, OpenError::Device, "{number}");
-                    device = assert_opens(&rt, rt.alloc(), failed.into_mem(), left)?;
+                    assert_same(&host, &error, &OpenError::Device, &number);
+                    device = assert_opens(&host, rt.alloc(), failed.into_mem(), left)?;
                 }
             }
         }
         let later = FaultDevice::new(left_again(device)?, left.calls);
         match open(rt.alloc(), later) {
             Ok(store) => {
-                assert_eq!(rt; held_by(&store), HELD);
+                assert_same(&host, &held_by(&store), &HELD, &"a later fault");
                 let _device = store.into_device();
             }
             Err((_failed, error)) => Err(error)?,

@@ -2,6 +2,7 @@
 //! turn: an opening that is refused gives the device back and succeeds when it is tried again, and
 //! no answer is another for the refusal.
 
+use crate::host::Host;
 use crate::openings::answers::{
     Answer, BAD_CHECKPOINT, BAD_HEADER, BAD_RECORD, NEWER, NO_HALF, NO_MEMORY, NO_STORE, answer_of,
 };
@@ -9,8 +10,8 @@ use crate::openings::stopped::{HELD, stopped_store};
 use crate::openings::stores::change;
 use sector_dev::MemDevice;
 use std::alloc::Global;
-use std::process::Abort;
 use std::test::Fail;
+use test_support::{TestHost, assert_same};
 
 /// A byte of a sector that is another one, whether memory may be wanted before the answer, and the
 /// answer.
@@ -48,7 +49,7 @@ const CHANGES: [Change; 9] = [
 
 /// Opens a device, and once more where memory was refused, which may be so only where it is wanted.
 fn tried(
-    rt: &impl Abort,
+    rt: &impl TestHost,
     alloc: Global,
     device: MemDevice,
     takes_memory: bool,
@@ -58,29 +59,31 @@ fn tried(
     if answer != NO_MEMORY {
         return (answer, device);
     }
-    assert!(rt; takes_memory, "{name}");
+    assert_same(rt, &takes_memory, &true, &name);
     answer_of(alloc, device)
 }
 
 #[test]
 fn refused_memory_of_openings(rt: HostRuntime) -> Result<(), Fail> {
+    let host = Host(&rt);
     for (both_are_open, name) in [(false, "one open half"), (true, "two open halves")] {
         let device = stopped_store(rt.alloc(), both_are_open)?;
-        let (answer, device) = tried(&rt, rt.alloc(), device, true, name);
-        assert_eq!(rt; answer, Ok(HELD), "{name}");
-        let (answer, _device) = tried(&rt, rt.alloc(), device, true, name);
-        assert_eq!(rt; answer, Ok(HELD), "{name}");
+        let (answer, device) = tried(&host, rt.alloc(), device, true, name);
+        assert_same(&host, &answer, &Ok(HELD), &name);
+        let (answer, _device) = tried(&host, rt.alloc(), device, true, name);
+        assert_same(&host, &answer, &Ok(HELD), &name);
     }
     Ok(())
 }
 
 #[test]
 fn refused_memory_of_refusals(rt: HostRuntime) -> Result<(), Fail> {
+    let host = Host(&rt);
     for row in &CHANGES {
         let mut device = stopped_store(rt.alloc(), false)?;
         change(&mut device, row.sector, row.offset, &[row.byte])?;
-        let (answer, _device) = tried(&rt, rt.alloc(), device, row.takes_memory, row.name);
-        assert_eq!(rt; answer, row.answer, "{}", row.name);
+        let (answer, _device) = tried(&host, rt.alloc(), device, row.takes_memory, row.name);
+        assert_same(&host, &answer, &row.answer, &row.name);
     }
     Ok(())
 }

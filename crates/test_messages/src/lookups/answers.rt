@@ -1,14 +1,15 @@
 //! The segments of a database that a lookup shows.
 
-use crate::lookups::same::assert_same;
+use crate::checks::done;
+use crate::host::Host;
 use crate::lookups::worked::{CORE_SEGMENT, EXP_TIME, SEGMENT, leaving_by, register, roster};
 use isd_as::parse;
 use path_db::PathDb;
 use seg_core::{SegType, Segment};
 use seg_lookup::{Query, Roster, answer, classify};
 use std::alloc::{AllocError, Global};
-use std::process::Abort;
 use std::test::Fail;
+use test_support::{TestHost, assert_same};
 
 /// The query of a source and a destination.
 pub(crate) fn query_of(cores: &Roster, source: &str, destination: &str) -> Result<Query, Fail> {
@@ -37,7 +38,12 @@ struct Lookup {
 }
 
 /// Checks how many segments a lookup shows.
-fn assert_shown(rt: &impl Abort, db: &PathDb, cores: &Roster, lookup: &Lookup) -> Result<(), Fail> {
+fn assert_shown(
+    rt: &impl TestHost,
+    db: &PathDb,
+    cores: &Roster,
+    lookup: &Lookup,
+) -> Result<(), Fail> {
     let segments = found(db, cores, lookup.source, lookup.destination, lookup.now)?;
     assert_same(rt, &segments.len(), &lookup.shown, lookup);
     Ok(())
@@ -45,7 +51,7 @@ fn assert_shown(rt: &impl Abort, db: &PathDb, cores: &Roster, lookup: &Lookup) -
 
 /// Checks how many segments each of these lookups shows.
 fn assert_all_shown(
-    rt: &impl Abort,
+    rt: &impl TestHost,
     db: &PathDb,
     cores: &Roster,
     lookups: &[Lookup],
@@ -73,7 +79,7 @@ const MOMENTS: [(u64, usize); 5] = [
 ];
 
 /// Checks that a database shows this number of segments at each of those moments.
-fn assert_moments(rt: &impl Abort, db: &PathDb, cores: &Roster) -> Result<(), Fail> {
+fn assert_moments(rt: &impl TestHost, db: &PathDb, cores: &Roster) -> Result<(), Fail> {
     for (now, shown) in &MOMENTS {
         let lookup = Lookup {
             source: "1-ff00:0:110",
@@ -88,12 +94,13 @@ fn assert_moments(rt: &impl Abort, db: &PathDb, cores: &Roster) -> Result<(), Fa
 
 // A segment that expires at 3,400,000,675 half seconds.
 #[test]
-fn expiry_boundary_hidden(rt: HostRuntime) -> Result<(), Fail> {
-    let cores = roster(rt.alloc(), &["1-ff00:0:110"])?;
+fn expiry_boundary_hidden(rt: HostRuntime) {
+    let host = Host(&rt);
+    let cores = done(&rt, roster(rt.alloc(), &["1-ff00:0:110"]));
     let mut bytes = SEGMENT;
     bytes[EXP_TIME] = 0;
-    let db = one_row(rt.alloc(), SegType::Down, &bytes)?;
-    assert_moments(&rt, &db, &cores)
+    let db = done(&rt, one_row(rt.alloc(), SegType::Down, &bytes));
+    done(&rt, assert_moments(&host, &db, &cores));
 }
 
 /// Lookups in a database of one core segment, from 2-64512 to 1-ff00:0:110.
@@ -112,10 +119,11 @@ const CORE_LOOKUPS: [Lookup; 10] = [
 ];
 
 #[test]
-fn wildcard_core_lookup(rt: HostRuntime) -> Result<(), Fail> {
-    let cores = roster(rt.alloc(), &["1-ff00:0:110", "2-64512"])?;
-    let db = one_row(rt.alloc(), SegType::Core, &CORE_SEGMENT)?;
-    assert_all_shown(&rt, &db, &cores, &CORE_LOOKUPS)
+fn wildcard_core_lookup(rt: HostRuntime) {
+    let host = Host(&rt);
+    let cores = done(&rt, roster(rt.alloc(), &["1-ff00:0:110", "2-64512"]));
+    let db = done(&rt, one_row(rt.alloc(), SegType::Core, &CORE_SEGMENT));
+    done(&rt, assert_all_shown(&host, &db, &cores, &CORE_LOOKUPS));
 }
 
 /// Lookups in a database of the worked segment as a down segment.
@@ -130,10 +138,11 @@ const DOWN_LOOKUPS: [Lookup; 5] = [
 
 // The worked segment, as up and as down.
 #[test]
-fn types_are_apart(rt: HostRuntime) -> Result<(), Fail> {
-    let cores = roster(rt.alloc(), &["1-ff00:0:110"])?;
-    let db = one_row(rt.alloc(), SegType::Down, &SEGMENT)?;
-    assert_all_shown(&rt, &db, &cores, &DOWN_LOOKUPS)
+fn types_are_apart(rt: HostRuntime) {
+    let host = Host(&rt);
+    let cores = done(&rt, roster(rt.alloc(), &["1-ff00:0:110"]));
+    let db = done(&rt, one_row(rt.alloc(), SegType::Down, &SEGMENT));
+    done(&rt, assert_all_shown(&host, &db, &cores, &DOWN_LOOKUPS));
 }
 
 /// The interfaces 1 to 65, in the order of the ids of the worked segment with each.
@@ -158,7 +167,7 @@ fn egress_of(segment: &Segment) -> Option<u16> {
 }
 
 /// Checks that segments leave their first AS by these interfaces.
-pub(crate) fn assert_left_by(rt: &impl Abort, segments: &[Segment], egresses: &[u16]) {
+pub(crate) fn assert_left_by(rt: &impl TestHost, segments: &[Segment], egresses: &[u16]) {
     for (segment, egress) in segments.iter().zip(egresses) {
         assert_same(rt, &egress_of(segment), &Some(*egress), egress);
     }
@@ -166,13 +175,13 @@ pub(crate) fn assert_left_by(rt: &impl Abort, segments: &[Segment], egresses: &[
 
 // Of 65 rows that match, the first 64 by key are shown.
 #[test]
-fn first_rows_are_shown(rt: HostRuntime) -> Result<(), Fail> {
-    let cores = roster(rt.alloc(), &["1-ff00:0:110"])?;
-    let db = all_rows(rt.alloc())?;
-    let segments = found(&db, &cores, "1-ff00:0:110", "1-ff00:0:111", 0)?;
-    assert_same(&rt, &segments.len(), &64, &"of 65");
-    assert_left_by(&rt, &segments, &BY_ID);
-    Ok(())
+fn first_rows_are_shown(rt: HostRuntime) {
+    let host = Host(&rt);
+    let cores = done(&rt, roster(rt.alloc(), &["1-ff00:0:110"]));
+    let db = done(&rt, all_rows(rt.alloc()));
+    let segments = done(&rt, found(&db, &cores, "1-ff00:0:110", "1-ff00:0:111", 0));
+    assert_same(&host, &segments.len(), &64, &"of 65");
+    assert_left_by(&host, &segments, &BY_ID);
 }
 
 /// What a lookup shows, which is made once more where memory is refused.
@@ -187,14 +196,15 @@ fn answer_again(db: &PathDb, query: &Query) -> Result<Vec<Segment>, AllocError> 
 // again, and one that shows nothing takes no memory.
 #[test]
 fn refused_memory_of_lookups(rt: HostRuntime) -> Result<(), Fail> {
+    let host = Host(&rt);
     let cores = roster(rt.alloc(), &["1-ff00:0:110"])?;
     let db = all_rows(rt.alloc())?;
     let query = query_of(&cores, "1-ff00:0:110", "1-ff00:0:111")?;
     let segments = answer_again(&db, &query)?;
-    assert_same(&rt, &segments.len(), &64, &"of 65");
-    assert_left_by(&rt, &segments, &BY_ID);
+    assert_same(&host, &segments.len(), &64, &"of 65");
+    assert_left_by(&host, &segments, &BY_ID);
     let elsewhere = query_of(&cores, "1-ff00:0:110", "1-5")?;
     let none = answer(&db, &elsewhere, 0).map(|found| found.len());
-    assert_same(&rt, &none.ok(), &Some(0), &"of none");
+    assert_same(&host, &none.ok(), &Some(0), &"of none");
     Ok(())
 }

@@ -1,12 +1,13 @@
 //! The queries of sources and destinations.
 
-use crate::lookups::same::assert_same;
+use crate::checks::done;
+use crate::host::Host;
 use crate::lookups::worked::roster;
 use isd_as::parse;
 use seg_core::SegType;
 use seg_lookup::{LookupError, Query, Roster, classify};
-use std::process::Abort;
 use std::test::Fail;
+use test_support::{TestHost, assert_same};
 
 /// The core ASes, with duplicates and with members that have a zero part.
 const CORES: [&str; 6] = [
@@ -33,20 +34,21 @@ const MEMBERS: [(&str, bool); 10] = [
 ];
 
 /// Checks whether the AS of a text is a member.
-fn assert_member(rt: &impl Abort, cores: &Roster, text: &str, there: bool) -> Result<(), Fail> {
+fn assert_member(rt: &impl TestHost, cores: &Roster, text: &str, there: bool) -> Result<(), Fail> {
     let found = cores.contains(parse(text)?);
     assert_same(rt, &found, &there, &text);
     Ok(())
 }
 
 #[test]
-fn members_are_counted_once(rt: HostRuntime) -> Result<(), Fail> {
-    let cores = roster(rt.alloc(), &CORES)?;
+fn members_are_counted_once(rt: HostRuntime) {
+    let host = Host(&rt);
+    let cores = done(&rt, roster(rt.alloc(), &CORES));
     for (text, there) in &MEMBERS {
-        assert_member(&rt, &cores, text, *there)?;
+        done(&rt, assert_member(&host, &cores, text, *there));
     }
-    let nobody = roster(rt.alloc(), &[])?;
-    assert_member(&rt, &nobody, "1-0", false)
+    let nobody = done(&rt, roster(rt.alloc(), &[]));
+    done(&rt, assert_member(&host, &nobody, "1-0", false));
 }
 
 /// A source and a destination, and their query: the type of the segments, and the ASes from which
@@ -98,7 +100,7 @@ fn classified(
 }
 
 /// Checks what the query of a source and a destination asks for.
-fn assert_query(rt: &impl Abort, cores: &Roster, side: &Side) -> Result<(), Fail> {
+fn assert_query(rt: &impl TestHost, cores: &Roster, side: &Side) -> Result<(), Fail> {
     let query = classified(cores, side.source, side.destination)??;
     assert_same(rt, &query.kind, &side.kind, side);
     assert_same(rt, &parse(side.start), &Ok(query.start), side);
@@ -107,12 +109,12 @@ fn assert_query(rt: &impl Abort, cores: &Roster, side: &Side) -> Result<(), Fail
 }
 
 #[test]
-fn sides_are_classified(rt: HostRuntime) -> Result<(), Fail> {
-    let cores = roster(rt.alloc(), &CORES)?;
+fn sides_are_classified(rt: HostRuntime) {
+    let host = Host(&rt);
+    let cores = done(&rt, roster(rt.alloc(), &CORES));
     for side in &SIDES {
-        assert_query(&rt, &cores, side)?;
+        done(&rt, assert_query(&host, &cores, side));
     }
-    Ok(())
 }
 
 /// A source and a destination, and why they are refused.
@@ -138,23 +140,23 @@ const REFUSALS: [Refusal; 7] = [
 ];
 
 /// Checks why a source and a destination are refused.
-fn assert_refused(rt: &impl Abort, cores: &Roster, row: &Refusal) -> Result<(), Fail> {
+fn assert_refused(rt: &impl TestHost, cores: &Roster, row: &Refusal) -> Result<(), Fail> {
     let found = classified(cores, row.source, row.destination)?;
     assert_same(rt, &found.err(), &Some(row.why), row);
     Ok(())
 }
 
 #[test]
-fn sides_are_refused(rt: HostRuntime) -> Result<(), Fail> {
-    let cores = roster(rt.alloc(), &CORES)?;
+fn sides_are_refused(rt: HostRuntime) {
+    let host = Host(&rt);
+    let cores = done(&rt, roster(rt.alloc(), &CORES));
     for row in &REFUSALS {
-        assert_refused(&rt, &cores, row)?;
+        done(&rt, assert_refused(&host, &cores, row));
     }
     let numbers = [
         LookupError::NullDestination as u8,
         LookupError::IsdOnlyWildcard as u8,
         LookupError::NoCore as u8,
     ];
-    assert_eq!(rt; numbers, [1, 2, 3]);
-    Ok(())
+    assert_same(&host, &numbers, &[1, 2, 3], &"numbers of the errors");
 }

@@ -1,6 +1,7 @@
 //! The segments that a database shows, compared with a filter over all its rows.
 
-use crate::lookups::same::assert_same;
+use crate::checks::done;
+use crate::host::Host;
 use crate::lookups::worked::register;
 use isd_as::IsdAs;
 use path_db::PathDb;
@@ -8,8 +9,8 @@ use row_map::Row;
 use seg_core::{SegType, Segment};
 use seg_lookup::{ANSWER_LIMIT, Query, answer};
 use std::alloc::Global;
-use std::process::Abort;
 use std::test::Fail;
+use test_support::{TestHost, assert_same};
 
 /// The encodings of three ASes in each of two ISDs, as in messages.
 const ENDS: [[u8; 8]; 6] = [
@@ -158,7 +159,7 @@ fn shown(db: &PathDb, query: &Query, now: u64) -> Result<Vec<Segment>, Fail> {
 }
 
 /// Checks that segments are the wanted ones.
-fn assert_wanted(rt: &impl Abort, query: &Query, shown: &[Segment], wanted: &[&Segment]) {
+fn assert_wanted(rt: &impl TestHost, query: &Query, shown: &[Segment], wanted: &[&Segment]) {
     let ends = (query.start, query.end);
     assert_same(rt, &shown.len(), &wanted.len(), &ends);
     for (one, other) in shown.iter().zip(wanted) {
@@ -168,7 +169,7 @@ fn assert_wanted(rt: &impl Abort, query: &Query, shown: &[Segment], wanted: &[&S
 
 /// Checks that a query shows what the filter finds. Returns the number of segments.
 fn assert_filtered(
-    rt: &impl Abort,
+    rt: &impl TestHost,
     alloc: Global,
     db: &PathDb,
     query: &Query,
@@ -183,7 +184,7 @@ fn assert_filtered(
 /// Checks the same for all queries of six ASes and three wildcards on either side. Returns the most
 /// segments that one shows.
 fn assert_all_filtered(
-    rt: &impl Abort,
+    rt: &impl TestHost,
     alloc: Global,
     db: &PathDb,
     kind: SegType,
@@ -205,7 +206,7 @@ fn assert_all_filtered(
 
 /// Checks the same for each type. Returns the most segments that a query shows.
 fn assert_types_filtered(
-    rt: &impl Abort,
+    rt: &impl TestHost,
     alloc: Global,
     db: &PathDb,
     now: u64,
@@ -218,11 +219,12 @@ fn assert_types_filtered(
 
 // The queries while all rows are valid, and after some have expired.
 #[test]
-fn answers_are_those_of_a_filter(rt: HostRuntime) -> Result<(), Fail> {
-    let db = rows(rt.alloc())?;
-    assert_eq!(rt; db.rows().count(), 200);
-    let first = assert_types_filtered(&rt, rt.alloc(), &db, 0)?;
-    let early = assert_types_filtered(&rt, rt.alloc(), &db, EARLY)?;
-    assert_eq!(rt; first.max(early), ANSWER_LIMIT);
-    Ok(())
+fn answers_are_those_of_a_filter(rt: HostRuntime) {
+    let host = Host(&rt);
+    let db = done(&rt, rows(rt.alloc()));
+    assert_same(&host, &db.rows().count(), &200, &"rows");
+    let first = done(&rt, assert_types_filtered(&host, rt.alloc(), &db, 0));
+    let early = done(&rt, assert_types_filtered(&host, rt.alloc(), &db, EARLY));
+    let most = first.max(early);
+    assert_same(&host, &most, &ANSWER_LIMIT, &"the most that are shown");
 }

@@ -1,18 +1,20 @@
 //! Ids of segments, and the digest that they are. The values are from Python's hashlib, and from
 //! FIPS 180-4's examples.
 
+use crate::host::Host;
 use crate::messages::checked::{PEERED, SEGMENT};
 use seg_check::seg_id;
 use seg_core::read_segment;
 use sha2::{Digest, Sha256};
 use std::test::Fail;
-use test_support::{ID, leaving_by};
+use test_support::{ID, assert_same, leaving_by};
 
 // The id depends on the path alone: it is the same with another time and with other peers, and not
 // with another egress.
 #[test]
-fn ids_tell_the_path(rt: HostRuntime) -> Result<(), Fail> {
-    let id = hex::encode(rt.alloc(), &ID)?;
+fn ids_tell_the_path(rt: HostRuntime) {
+    let host = Host(&rt);
+    let id = hex::encode(rt.alloc(), &ID).expect(&rt, "a text");
     let same = id.as_str();
     let other = "be3e32a19b42c4f9e0860ee2ace91013c58b8e188f2144964d172f4b549092a7";
     let mut later = SEGMENT;
@@ -24,15 +26,15 @@ fn ids_tell_the_path(rt: HostRuntime) -> Result<(), Fail> {
         (&leaving_by(3), other),
     ];
     for (message, id) in cases {
-        let segment = read_segment(rt.alloc(), message)?;
-        let found = hex::encode(rt.alloc(), &seg_id(&segment))?;
-        assert_eq!(rt; found.as_str(), id);
+        let segment = read_segment(rt.alloc(), message).expect(&rt, "a segment");
+        let found = hex::encode(rt.alloc(), &seg_id(&segment)).expect(&rt, "a text");
+        assert_same(&host, &found.as_str(), &id, &message);
     }
-    Ok(())
 }
 
 #[test]
 fn fips_180_4_examples(rt: HostRuntime) -> Result<(), Fail> {
+    let host = Host(&rt);
     let long =
         "abcdefghbcdefghicdefghijdefghijkefghijklfghijklmghijklmnhijklmnoijklmnopjklmnopqklmnopqrlmnopqrsmnopqrstnopqrstu";
     for (message, digest) in [
@@ -56,7 +58,7 @@ fn fips_180_4_examples(rt: HostRuntime) -> Result<(), Fail> {
         let mut hasher = Sha256::new();
         hasher.update(message);
         let found = hex::encode(rt.alloc(), &hasher.finalize())?;
-        assert_eq!(rt; found.as_str(), digest, "{message}");
+        assert_same(&host, &found.as_str(), &digest, &message);
     }
     Ok(())
 }

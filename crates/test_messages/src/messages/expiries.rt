@@ -1,9 +1,11 @@
 //! When segments expire.
 
+use crate::host::Host;
 use crate::messages::checked::{EXPIRY, LONG, PEERED, SEGMENT};
 use seg_check::{CheckError, TrustAll, check, expiry};
 use seg_core::{SegError, read_segment};
 use std::test::Fail;
+use test_support::assert_same;
 
 /// The segment with these exp_times of its two entries, each as a varint of two bytes.
 fn with_exp_times(first: [u8; 2], second: [u8; 2]) -> [u8; 90] {
@@ -35,18 +37,23 @@ const TIMES: [Times; 5] = [
 
 #[test]
 fn expiry_values(rt: HostRuntime) -> Result<(), Fail> {
+    let host = Host(&rt);
     for row in &TIMES {
         let segment = read_segment(rt.alloc(), &with_exp_times(row.first, row.second))?;
-        assert_eq!(rt;
-            expiry(&segment),
-            row.expiry,
-            "{:?} {:?}",
-            row.first,
-            row.second
+        assert_same(
+            &host,
+            &expiry(&segment),
+            &row.expiry,
+            &(row.first, row.second),
         );
     }
     let refused = read_segment(rt.alloc(), &with_exp_times([0x80, 0x02], [0xff, 0x01]));
-    assert_eq!(rt; refused.err(), Some(SegError::Range));
+    assert_same(
+        &host,
+        &refused.err(),
+        &Some(SegError::Range),
+        &"past the greatest",
+    );
     Ok(())
 }
 
@@ -60,6 +67,7 @@ fn peers_do_not_count(rt: HostRuntime) -> Result<(), Fail> {
 
 #[test]
 fn expiry_boundary(rt: HostRuntime) -> Result<(), Fail> {
+    let host = Host(&rt);
     let segment = read_segment(rt.alloc(), &SEGMENT)?;
     for (now, answer) in [
         (0, Ok(())),
@@ -67,7 +75,7 @@ fn expiry_boundary(rt: HostRuntime) -> Result<(), Fail> {
         (EXPIRY, Err(CheckError::Expired)),
         (u64::MAX, Err(CheckError::Expired)),
     ] {
-        assert_eq!(rt; check(&segment, &TrustAll, now), answer, "{now}");
+        assert_same(&host, &check(&segment, &TrustAll, now), &answer, &now);
     }
     Ok(())
 }

@@ -1,13 +1,14 @@
 //! Fields and varints of the wire format.
 
-use crate::messages::same::{assert_bytes, assert_same};
+use crate::checks::{assert_bytes, done};
+use crate::host::Host;
 use pw_wire::{
     Field, Value, WireError, all_fields, encoded_fields, encoded_varint, field_or_fault,
     next_field, put_bytes_field, put_varint, put_varint_field,
 };
 use std::alloc::Global;
-use std::process::Abort;
 use std::test::Fail;
+use test_support::{TestHost, assert_same};
 
 const LARGEST: [u8; 10] = [255, 255, 255, 255, 255, 255, 255, 255, 255, 1];
 
@@ -50,9 +51,10 @@ fn varint_field(alloc: Global, varint: &[u8]) -> Result<Vec<u8>, Fail> {
 
 #[test]
 fn varint_encodings(rt: HostRuntime) -> Result<(), Fail> {
+    let host = Host(&rt);
     for (varint, expected) in &VARINTS {
         let message = varint_field(rt.alloc(), varint)?;
-        assert_same(&rt, &varint_behind(&message), expected, varint);
+        assert_same(&host, &varint_behind(&message), expected, varint);
     }
     Ok(())
 }
@@ -82,7 +84,7 @@ const FIELDS: [First; 4] = [
 
 /// Checks what a message's next field is.
 fn assert_field(
-    rt: &impl Abort,
+    rt: &impl TestHost,
     message: &[u8],
     wanted: Result<Option<(Field<'_>, usize)>, WireError>,
 ) {
@@ -91,12 +93,13 @@ fn assert_field(
 
 #[test]
 fn fields_of_each_wire_type(rt: HostRuntime) {
+    let host = Host(&rt);
     for row in &FIELDS {
         let field = Field {
             number: row.number,
             value: row.value,
         };
-        assert_field(&rt, row.message, Ok(Some((field, row.len))));
+        assert_field(&host, row.message, Ok(Some((field, row.len))));
     }
 }
 
@@ -111,10 +114,11 @@ const FAULTS: [(&[u8], WireError); 5] = [
 
 #[test]
 fn wire_faults(rt: HostRuntime) {
+    let host = Host(&rt);
     for (message, error) in &FAULTS {
-        assert_field(&rt, message, Err(*error));
+        assert_field(&host, message, Err(*error));
     }
-    assert_field(&rt, &[], Ok(None));
+    assert_field(&host, &[], Ok(None));
 }
 
 /// Two varints, and two fields between them.
@@ -136,33 +140,35 @@ fn all_put(alloc: Global) -> Result<Vec<u8>, Fail> {
 }
 
 #[test]
-fn encodings_that_are_put(rt: HostRuntime) -> Result<(), Fail> {
-    let put = put_all(rt.alloc())?;
-    let expected = all_put(rt.alloc())?;
-    assert_bytes(&rt, &put, &expected);
-    Ok(())
+fn encodings_that_are_put(rt: HostRuntime) {
+    let host = Host(&rt);
+    let put = done(&rt, put_all(rt.alloc()));
+    let expected = done(&rt, all_put(rt.alloc()));
+    assert_bytes(&host, &put, &expected, "what is put");
 }
 
 // Run with each allocation failing in turn: a put that is refused adds nothing, and succeeds when
 // it is tried again.
 #[test]
 fn refused_memory_changes_nothing(rt: HostRuntime) -> Result<(), Fail> {
+    let host = Host(&rt);
     let mut out = Vec::new(rt.alloc());
     if put_varint(&mut out, 150).is_err() {
-        assert_bytes(&rt, &out, &[]);
+        assert_bytes(&host, &out, &[], "a varint is refused");
         put_varint(&mut out, 150)?;
     }
-    assert_bytes(&rt, &out, &[0x96, 1]);
+    assert_bytes(&host, &out, &[0x96, 1], "a varint");
     if put_varint_field(&mut out, 1, 150).is_err() {
-        assert_bytes(&rt, &out, &[0x96, 1]);
+        assert_bytes(&host, &out, &[0x96, 1], "a field is refused");
         put_varint_field(&mut out, 1, 150)?;
     }
-    assert_bytes(&rt, &out, &[0x96, 1, 0x08, 0x96, 1]);
+    assert_bytes(&host, &out, &[0x96, 1, 0x08, 0x96, 1], "a field");
     if put_bytes_field(&mut out, 2, b"testing").is_err() {
-        assert_bytes(&rt, &out, &[0x96, 1, 0x08, 0x96, 1]);
+        assert_bytes(&host, &out, &[0x96, 1, 0x08, 0x96, 1], "bytes are refused");
         put_bytes_field(&mut out, 2, b"testing")?;
     }
-    assert_bytes(&rt, &out, b"\x96\x01\x08\x96\x01\x12\x07testing");
+    let whole = b"\x96\x01\x08\x96\x01\x12\x07testing";
+    assert_bytes(&host, &out, whole, "a field of bytes");
     Ok(())
 }
 

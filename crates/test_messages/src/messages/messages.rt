@@ -1,14 +1,15 @@
 //! Registrations, requests and responses.
 
-use crate::messages::same::{assert_bytes, assert_same};
+use crate::checks::{assert_bytes, done};
+use crate::host::Host;
 use crate::messages::worked::{CORE, DOWN, SEGMENT};
 use pw_wire::WireError;
 use seg_core::{
     SegError, SegType, Segment, read_registration, read_request, read_segment, write_response,
 };
 use std::alloc::{AllocError, Global};
-use std::process::Abort;
 use std::test::Fail;
+use test_support::{TestHost, assert_same, assert_true};
 
 /// The worked segment, registered as a down segment.
 fn registration(alloc: Global) -> Result<Vec<u8>, Fail> {
@@ -24,27 +25,29 @@ fn rows_of(alloc: Global, message: &[u8]) -> Result<Vec<(SegType, Segment)>, Seg
 
 /// Checks that the answer of these rows is these bytes.
 fn assert_answered(
-    rt: &impl Abort,
+    rt: &impl TestHost,
     alloc: Global,
     rows: &[(SegType, Segment)],
     expected: &[u8],
 ) -> Result<(), Fail> {
     let response = write_response(alloc, rows)?;
-    assert_bytes(rt, &response, expected);
+    assert_bytes(rt, &response, expected, "the answer");
     Ok(())
 }
 
 /// Checks that a row of a down segment is the only one.
-fn assert_down(rt: &impl Abort, rows: &[(SegType, Segment)]) {
-    assert!(rt; rows.len() == 1 && rows[0].0 == SegType::Down);
+fn assert_down(rt: &impl TestHost, rows: &[(SegType, Segment)]) {
+    let is_down = rows.len() == 1 && rows[0].0 == SegType::Down;
+    assert_true(rt, is_down, "a down segment is the only row");
 }
 
 #[test]
-fn registration_is_answered(rt: HostRuntime) -> Result<(), Fail> {
-    let message = registration(rt.alloc())?;
-    let rows = rows_of(rt.alloc(), &message)?;
-    assert_down(&rt, &rows);
-    assert_answered(&rt, rt.alloc(), &rows, &message)
+fn registration_is_answered(rt: HostRuntime) {
+    let host = Host(&rt);
+    let message = done(&rt, registration(rt.alloc()));
+    let rows = rows_of(rt.alloc(), &message).expect(&rt, "the rows are read");
+    assert_down(&host, &rows);
+    done(&rt, assert_answered(&host, rt.alloc(), &rows, &message));
 }
 
 /// Appends the worked segment as a row of this type.
@@ -70,11 +73,12 @@ fn both_answered(alloc: Global) -> Result<Vec<u8>, Fail> {
 }
 
 #[test]
-fn types_are_answered_by_number(rt: HostRuntime) -> Result<(), Fail> {
-    let rows = both(rt.alloc())?;
-    let expected = both_answered(rt.alloc())?;
-    assert_answered(&rt, rt.alloc(), &rows, &expected)?;
-    assert_answered(&rt, rt.alloc(), &[], &[])
+fn types_are_answered_by_number(rt: HostRuntime) {
+    let host = Host(&rt);
+    let rows = done(&rt, both(rt.alloc()));
+    let expected = done(&rt, both_answered(rt.alloc()));
+    done(&rt, assert_answered(&host, rt.alloc(), &rows, &expected));
+    done(&rt, assert_answered(&host, rt.alloc(), &[], &[]));
 }
 
 /// The source and the destination of a request, as numbers.
@@ -89,9 +93,10 @@ const REQUEST: [u8; 16] = *b"\x08\x90\x82\x80\x80\x80\xe0\x7f\x10\x91\x82\x80\x8
 // The request above, and an empty one.
 #[test]
 fn request_is_read(rt: HostRuntime) {
+    let host = Host(&rt);
     let ends = (0x0001_ff00_0000_0110, 0x0001_ff00_0000_0111);
-    assert_same(&rt, &ends_of(&REQUEST), &Ok(ends), &"a request");
-    assert_same(&rt, &ends_of(b""), &Ok((0, 0)), &"an empty one");
+    assert_same(&host, &ends_of(&REQUEST), &Ok(ends), &"a request");
+    assert_same(&host, &ends_of(b""), &Ok((0, 0)), &"an empty one");
 }
 
 /// The number of segments of a registration.
@@ -132,8 +137,9 @@ const MESSAGES: [(&[u8], Result<usize, SegError>); 15] = [
 
 #[test]
 fn messages_are_refused(rt: HostRuntime) {
+    let host = Host(&rt);
     for (message, expected) in &MESSAGES {
-        assert_same(&rt, &count(rt.alloc(), message), expected, message);
+        assert_same(&host, &count(rt.alloc(), message), expected, message);
     }
 }
 
@@ -149,13 +155,19 @@ fn repeated(alloc: Global, head: &[u8], times: usize) -> Result<Vec<u8>, Fail> {
 
 // Sixteen segments of one type are read, and the seventeenth is refused.
 #[test]
-fn seventeen_segments_are_refused(rt: HostRuntime) -> Result<(), Fail> {
-    let sixteen = repeated(rt.alloc(), b"\x0a\xa5\x0b\x08\x02\x12\xa0\x0b", 16)?;
-    assert_same(&rt, &count(rt.alloc(), &sixteen), &Ok(16), &16);
-    let seventeen = repeated(rt.alloc(), b"\x0a\xff\x0b\x08\x02\x12\xfa\x0b", 17)?;
+fn seventeen_segments_are_refused(rt: HostRuntime) {
+    let host = Host(&rt);
+    let sixteen = done(
+        &rt,
+        repeated(rt.alloc(), b"\x0a\xa5\x0b\x08\x02\x12\xa0\x0b", 16),
+    );
+    assert_same(&host, &count(rt.alloc(), &sixteen), &Ok(16), &16);
+    let seventeen = done(
+        &rt,
+        repeated(rt.alloc(), b"\x0a\xff\x0b\x08\x02\x12\xfa\x0b", 17),
+    );
     let refused = Err(SegError::TooLarge);
-    assert_same(&rt, &count(rt.alloc(), &seventeen), &refused, &17);
-    Ok(())
+    assert_same(&host, &count(rt.alloc(), &seventeen), &refused, &17);
 }
 
 /// The rows that a message registers, which is read once more where memory is refused.
@@ -178,11 +190,13 @@ fn answered_again(alloc: Global, rows: &[(SegType, Segment)]) -> Result<Vec<u8>,
 // and no answer is another for it.
 #[test]
 fn refused_memory_is_told(rt: HostRuntime) -> Result<(), Fail> {
+    let host = Host(&rt);
     let mut message = [0; 96];
     message[..8].copy_from_slice(&DOWN);
     message[8..].copy_from_slice(&SEGMENT);
     let rows = rows_again(rt.alloc(), &message)?;
-    assert_down(&rt, &rows);
-    assert_bytes(&rt, &answered_again(rt.alloc(), &rows)?, &message);
+    assert_down(&host, &rows);
+    let answer = answered_again(rt.alloc(), &rows)?;
+    assert_bytes(&host, &answer, &message, "the answer");
     Ok(())
 }

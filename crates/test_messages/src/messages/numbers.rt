@@ -1,10 +1,10 @@
 //! ISD-AS numbers and their texts.
 
-use crate::messages::same::assert_same;
+use crate::host::Host;
 use isd_as::{IaError, IsdAs, covers, parse};
 use std::alloc::Global;
-use std::process::Abort;
 use std::test::Fail;
+use test_support::{TestHost, assert_same};
 
 /// A text, the number that it denotes, and the text that is printed for that number.
 #[derive(Clone, Copy)]
@@ -29,14 +29,14 @@ fn says(alloc: Global, row: Text) -> bool {
 }
 
 /// Checks that each text denotes its number, which is printed as its other text.
-fn assert_texts(rt: &impl Abort, alloc: Global, texts: &[Text]) {
+fn assert_texts(rt: &impl TestHost, alloc: Global, texts: &[Text]) {
     for row in texts {
         assert_same(rt, &says(alloc, *row), &true, &row.text);
     }
 }
 
 /// Checks that a text denotes this number.
-fn assert_says(rt: &impl Abort, text: &str, ia: IsdAs) {
+fn assert_says(rt: &impl TestHost, text: &str, ia: IsdAs) {
     assert_same(rt, &parse(text), &Ok(ia), &text);
 }
 
@@ -49,9 +49,14 @@ const TEXTS: [Text; 3] = [
 
 #[test]
 fn isd_as_texts(rt: HostRuntime) {
-    assert_texts(&rt, rt.alloc(), &TEXTS);
-    assert_says(&rt, "1-ff00:0:110", IsdAs::from_u64(0x0001_ff00_0000_0110));
-    assert_says(&rt, "2-64512", IsdAs::new(2, 64_512));
+    let host = Host(&rt);
+    assert_texts(&host, rt.alloc(), &TEXTS);
+    assert_says(
+        &host,
+        "1-ff00:0:110",
+        IsdAs::from_u64(0x0001_ff00_0000_0110),
+    );
+    assert_says(&host, "2-64512", IsdAs::new(2, 64_512));
 }
 
 /// Texts at their limits.
@@ -71,11 +76,12 @@ const LIMITS: [Text; 6] = [
 
 #[test]
 fn isd_as_text_limits(rt: HostRuntime) {
-    assert_texts(&rt, rt.alloc(), &LIMITS);
+    let host = Host(&rt);
+    assert_texts(&host, rt.alloc(), &LIMITS);
 }
 
 /// Checks that a text is refused with this error.
-fn assert_refused(rt: &impl Abort, text: &str, error: IaError) {
+fn assert_refused(rt: &impl TestHost, text: &str, error: IaError) {
     assert_same(rt, &parse(text), &Err(error), &text);
 }
 
@@ -99,8 +105,9 @@ const FAULTS: [(&str, IaError); 8] = [
 
 #[test]
 fn isd_as_text_faults(rt: HostRuntime) {
+    let host = Host(&rt);
     for (text, error) in &FAULTS {
-        assert_refused(&rt, text, *error);
+        assert_refused(&host, text, *error);
     }
 }
 
@@ -135,8 +142,9 @@ const OUTSIDE: [&str; 25] = [
 
 #[test]
 fn texts_outside_the_grammar(rt: HostRuntime) {
+    let host = Host(&rt);
     for text in &OUTSIDE {
-        assert_refused(&rt, text, IaError::BadText);
+        assert_refused(&host, text, IaError::BadText);
     }
 }
 
@@ -167,9 +175,10 @@ fn is_covered(pattern: &str, ia: &str) -> Result<bool, IaError> {
 
 #[test]
 fn wildcards_cover(rt: HostRuntime) -> Result<(), Fail> {
+    let host = Host(&rt);
     for row in &COVERS {
         let found = is_covered(row.pattern, row.ia)?;
-        assert_same(&rt, &found, &row.covers, row);
+        assert_same(&host, &found, &row.covers, row);
     }
     Ok(())
 }

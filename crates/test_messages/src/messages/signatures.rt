@@ -1,11 +1,13 @@
 //! Signatures of the test profile. The values are from Python's hashlib.
 
+use crate::checks::done;
+use crate::host::Host;
 use crate::messages::checked::{EXPIRY, KEY, SEGMENT, SIGNED};
 use seg_check::{CheckError, Keyed, check, keyed_signature};
 use seg_core::read_segment;
 use std::alloc::Global;
-use std::process::Abort;
 use std::test::Fail;
+use test_support::{TestHost, assert_same};
 
 /// The verifier with that key.
 fn keyed(alloc: Global, key: &[u8]) -> Result<Keyed, Fail> {
@@ -21,13 +23,17 @@ fn signature_text(alloc: Global, signed: &[u8], associated: &[&[u8]]) -> Result<
 }
 
 #[test]
-fn keyed_signature_values(rt: HostRuntime) -> Result<(), Fail> {
+fn keyed_signature_values(rt: HostRuntime) {
+    let host = Host(&rt);
     let info = &SEGMENT[2..10];
     let first = &SEGMENT[16..53];
     let second = &SEGMENT[59..];
     let signature = &SIGNED[55..87];
-    let of_first = signature_text(rt.alloc(), first, &[info])?;
-    let of_second = signature_text(rt.alloc(), second, &[info, first, signature])?;
+    let of_first = done(&rt, signature_text(rt.alloc(), first, &[info]));
+    let of_second = done(
+        &rt,
+        signature_text(rt.alloc(), second, &[info, first, signature]),
+    );
     for (found, expected) in [
         (
             of_first.as_str(),
@@ -38,16 +44,16 @@ fn keyed_signature_values(rt: HostRuntime) -> Result<(), Fail> {
             "c32aff63a5c814036bf7635a601b59ee8e54bba3fd613a84088c277a0535122d",
         ),
     ] {
-        assert_eq!(rt; found, expected);
+        assert_same(&host, &found, &expected, &"a signature");
     }
-    Ok(())
 }
 
 // Segments with one bit changed in the segment's information, in each MAC, in each signature and in
 // both.
 #[test]
-fn keyed_signature_refused(rt: HostRuntime) -> Result<(), Fail> {
-    let verifier = keyed(rt.alloc(), &KEY)?;
+fn keyed_signature_refused(rt: HostRuntime) {
+    let host = Host(&rt);
+    let verifier = done(&rt, keyed(rt.alloc(), &KEY));
     let cases: [(&[usize], Result<(), CheckError>); 7] = [
         (&[], Ok(())),
         (&[9], Err(CheckError::BadSignature(0))),
@@ -64,14 +70,10 @@ fn keyed_signature_refused(rt: HostRuntime) -> Result<(), Fail> {
                 *byte ^= 1;
             }
         }
-        let segment = read_segment(rt.alloc(), &message)?;
-        assert_eq!(rt;
-            check(&segment, &verifier, EXPIRY - 1),
-            answer,
-            "{places:?}"
-        );
+        let segment = read_segment(rt.alloc(), &message).expect(&rt, "a segment");
+        let found = check(&segment, &verifier, EXPIRY - 1);
+        assert_same(&host, &found, &answer, &places);
     }
-    Ok(())
 }
 
 /// A key of a verifier, a moment in half seconds, and why the signed segment is refused then.
@@ -84,15 +86,11 @@ struct Refused<'a> {
 }
 
 /// Checks why a verifier with a key refuses the signed segment.
-fn assert_refused(rt: &impl Abort, alloc: Global, row: Refused<'_>) -> Result<(), Fail> {
+fn assert_refused(rt: &impl TestHost, alloc: Global, row: Refused<'_>) -> Result<(), Fail> {
     let segment = read_segment(alloc, &SIGNED)?;
     let verifier = keyed(alloc, row.key)?;
-    assert_eq!(rt;
-        check(&segment, &verifier, row.now),
-        Err(row.why),
-        "{}",
-        row.name
-    );
+    let found = check(&segment, &verifier, row.now);
+    assert_same(rt, &found, &Err(row.why), &row.name);
     Ok(())
 }
 
@@ -100,6 +98,7 @@ fn assert_refused(rt: &impl Abort, alloc: Global, row: Refused<'_>) -> Result<()
 #[rattlefmt::skip]
 #[test]
 fn keys_differ(rt: HostRuntime) -> Result<(), Fail> {
+    let host = Host(&rt);
     let bad = CheckError::BadSignature(0);
     for row in [
         Refused { name: "late", key: &KEY, now: EXPIRY, why: CheckError::Expired },
@@ -107,21 +106,23 @@ fn keys_differ(rt: HostRuntime) -> Result<(), Fail> {
         Refused { name: "another key, and late", key: &KEY[1..], now: EXPIRY, why: bad },
         Refused { name: "an empty key", key: b"", now: 0, why: bad },
     ] {
-        assert_refused(&rt, rt.alloc(), row)?;
+        assert_refused(&host, rt.alloc(), row)?;
     }
     Ok(())
 }
 
 #[test]
 fn key_lengths(rt: HostRuntime) {
+    let host = Host(&rt);
     let bytes = [0; 65];
     for (len, taken) in [(0, true), (64, true), (65, false)] {
-        assert_eq!(rt; Keyed::takes(&bytes[..len]), taken, "{len}");
+        assert_same(&host, &Keyed::takes(&bytes[..len]), &taken, &len);
     }
 }
 
 #[test]
 fn refusals_are_printed(rt: HostRuntime) -> Result<(), Fail> {
+    let host = Host(&rt);
     for (error, text) in [
         (
             CheckError::BadSignature(1),
@@ -130,7 +131,7 @@ fn refusals_are_printed(rt: HostRuntime) -> Result<(), Fail> {
         (CheckError::Expired, "the segment has expired"),
     ] {
         let found = error.to_string(rt.alloc())?;
-        assert_eq!(rt; found.as_str(), text);
+        assert_same(&host, &found.as_str(), &text, &error);
     }
     Ok(())
 }

@@ -1,13 +1,14 @@
 //! The segments that a database shows after an id.
 
+use crate::checks::done;
+use crate::host::Host;
 use crate::rows::worked::{EXPIRY, ID, leaving_by, no_rows, put, segment};
 use isd_as::IsdAs;
 use path_db::PathDb;
 use seg_core::{SegType, Segment, read_segment};
 use std::alloc::Global;
-use std::process::Abort;
 use std::test::Fail;
-use test_support::CORE_SEGMENT;
+use test_support::{CORE_SEGMENT, TestHost, assert_same};
 
 /// The ASes at the ends of the worked segment.
 const START: u64 = 0x0001_ff00_0000_0110;
@@ -106,7 +107,7 @@ fn first_bytes(alloc: Global, segments: &[Segment]) -> Result<Vec<u8>, Fail> {
 
 /// Checks what a look shows.
 fn assert_shown(
-    rt: &impl Abort,
+    rt: &impl TestHost,
     alloc: Global,
     database: &PathDb,
     look: &Look,
@@ -114,12 +115,12 @@ fn assert_shown(
     let (start, end) = (IsdAs::from_u64(look.start), IsdAs::from_u64(look.end));
     let shown = database.matching_after(look.kind, &look.id, start, end, look.moment, look.limit)?;
     let bytes = first_bytes(alloc, &shown)?;
-    assert_eq!(rt; bytes.as_slice(), look.shown, "{look:?}");
+    assert_same(rt, &bytes.as_slice(), &look.shown, look);
     Ok(())
 }
 
 /// Checks all looks.
-fn assert_all_shown(rt: &impl Abort, alloc: Global, database: &PathDb) -> Result<(), Fail> {
+fn assert_all_shown(rt: &impl TestHost, alloc: Global, database: &PathDb) -> Result<(), Fail> {
     for look in &LOOKS {
         assert_shown(rt, alloc, database, look)?;
     }
@@ -128,16 +129,18 @@ fn assert_all_shown(rt: &impl Abort, alloc: Global, database: &PathDb) -> Result
 
 #[test]
 fn segments_after_an_id_are_shown(rt: HostRuntime) -> Result<(), Fail> {
+    let host = Host(&rt);
     let mut database = no_rows(rt.alloc());
     put_seven(rt.alloc(), &mut database)?;
-    assert_all_shown(&rt, rt.alloc(), &database)
+    assert_all_shown(&host, rt.alloc(), &database)
 }
 
 #[test]
 fn segments_after_an_id_are_shown_without_indexes(rt: HostRuntime) -> Result<(), Fail> {
+    let host = Host(&rt);
     let mut database = no_rows(rt.alloc()).without_indexes();
     put_seven(rt.alloc(), &mut database)?;
-    assert_all_shown(&rt, rt.alloc(), &database)
+    assert_all_shown(&host, rt.alloc(), &database)
 }
 
 /// The first two down segments, or the next two after an id.
@@ -154,15 +157,15 @@ const PAGES: [&[u8]; 4] = [&[0x19, 0x8a], &[0xbe, 0xe8], &[0xfe], &[]];
 
 // Each page begins after the last id of the page before it.
 #[test]
-fn pages_follow_each_other(rt: HostRuntime) -> Result<(), Fail> {
+fn pages_follow_each_other(rt: HostRuntime) {
+    let host = Host(&rt);
     let mut database = no_rows(rt.alloc());
-    put_seven(rt.alloc(), &mut database)?;
+    done(&rt, put_seven(rt.alloc(), &mut database));
     let mut after = None;
     for page in PAGES {
-        let shown = two(&database, after)?;
-        let bytes = first_bytes(rt.alloc(), &shown)?;
-        assert_eq!(rt; bytes.as_slice(), page);
+        let shown = done(&rt, two(&database, after));
+        let bytes = done(&rt, first_bytes(rt.alloc(), &shown));
+        assert_same(&host, &bytes.as_slice(), &page, &"a page");
         after = shown.last().map(|segment| *segment.digest());
     }
-    Ok(())
 }

@@ -1,6 +1,8 @@
 //! Commands as records: registrations of the worked segment, purges and removals, and the refusals
 //! after one byte was changed.
 
+use crate::checks::done;
+use crate::host::Host;
 use crate::rows::records::{BAD, changed, put_row};
 use crate::rows::worked::SEGMENT;
 use path_db::Command;
@@ -8,6 +10,7 @@ use path_records::{DbError, read_command, write_command};
 use std::alloc::Global;
 use std::test::Fail;
 use store_layout::{JournalKind, allows};
+use test_support::assert_same;
 
 /// A record that registers the worked segment this number of times, as down segments.
 pub(crate) fn registration(alloc: Global, count: u8) -> Result<Vec<u8>, Fail> {
@@ -97,6 +100,7 @@ const PURGE: [u8; 10] = [2, 0, 0, 0, 0, 0, 0, 1, 2, 0];
 // Fronts of a purge's nine bytes, in either version.
 #[test]
 fn purges(rt: HostRuntime) {
+    let host = Host(&rt);
     for version in [1, 2] {
         for len in 0..=PURGE.len() {
             let expected = if len == 9 {
@@ -105,7 +109,7 @@ fn purges(rt: HostRuntime) {
                 Err(BAD)
             };
             let read = command_of(rt.alloc(), &PURGE[..len], version);
-            assert_eq!(rt; read, expected, "{len}");
+            assert_same(&host, &read, &expected, &len);
         }
     }
 }
@@ -138,16 +142,16 @@ const REMOVALS: [Removal; 11] = [
 
 // A removal has 34 bytes, the third kind, and a type from 1 to 3. Version 1 has no removals.
 #[test]
-fn removals(rt: HostRuntime) -> Result<(), Fail> {
+fn removals(rt: HostRuntime) {
+    let host = Host(&rt);
     for row in &REMOVALS {
-        let mut bytes = Vec::from_slice(rt.alloc(), &[row.kind, row.number])?;
+        let mut bytes = Vec::from_slice(rt.alloc(), &[row.kind, row.number]).expect(&rt, "bytes");
         for byte in 0..row.ids {
-            bytes.push(byte)?;
+            bytes.push(byte).expect(&rt, "a byte");
         }
         let read = command_of(rt.alloc(), &bytes, row.version);
-        assert_eq!(rt; read, row.read, "{row:?}");
+        assert_same(&host, &read, &row.read, row);
     }
-    Ok(())
 }
 
 /// What is changed in a registration: the place of one byte, and its new value; and what is read
@@ -189,32 +193,32 @@ const CHANGES: [Change; 18] = [
 // Two segments with one byte changed: their rows begin at 2 and at 95, their segments 5 bytes
 // later.
 #[test]
-fn changed_registrations(rt: HostRuntime) -> Result<(), Fail> {
-    let bytes = registration(rt.alloc(), 2)?;
+fn changed_registrations(rt: HostRuntime) {
+    let host = Host(&rt);
+    let bytes = done(&rt, registration(rt.alloc(), 2));
     for row in &CHANGES {
-        let changed = changed(rt.alloc(), &bytes, row.at, row.byte)?;
+        let changed = done(&rt, changed(rt.alloc(), &bytes, row.at, row.byte));
         let read = command_of(rt.alloc(), &changed, 1);
-        assert_eq!(rt; read, row.read, "{}", row.what);
+        assert_same(&host, &read, &row.read, &row.what);
     }
-    Ok(())
 }
 
 // At most 16 segments, and at most 131,072 bytes of them.
 #[test]
-fn registrations_are_limited(rt: HostRuntime) -> Result<(), Fail> {
+fn registrations_are_limited(rt: HostRuntime) {
+    let host = Host(&rt);
     for (count, expected) in [
         (0, Ok(Shape::Register(0))),
         (1, Ok(Shape::Register(1))),
         (16, Ok(Shape::Register(16))),
         (17, Err(BAD)),
     ] {
-        let bytes = registration(rt.alloc(), count)?;
-        assert_eq!(rt; command_of(rt.alloc(), &bytes, 1), expected, "{count}");
+        let bytes = done(&rt, registration(rt.alloc(), count));
+        assert_same(&host, &command_of(rt.alloc(), &bytes, 1), &expected, &count);
     }
     for (is_longer, expected) in [(false, Ok(Shape::Register(16))), (true, Err(BAD))] {
-        let bytes = long_registration(rt.alloc(), is_longer)?;
+        let bytes = done(&rt, long_registration(rt.alloc(), is_longer));
         let read = command_of(rt.alloc(), &bytes, 1);
-        assert_eq!(rt; read, expected, "is longer: {is_longer}");
+        assert_same(&host, &read, &expected, &("is longer", is_longer));
     }
-    Ok(())
 }

@@ -1,11 +1,12 @@
 //! How many rows of each type a database has.
 
+use crate::host::Host;
 use crate::rows::worked::{apply, copy_of, dated_by, no_rows, put};
 use path_db::{Command, PathDb};
 use seg_core::SegType;
 use std::alloc::Global;
-use std::process::Abort;
 use std::test::Fail;
+use test_support::{TestHost, assert_same};
 
 /// What is done to a database. Segments are the worked one with a timestamp, which leaves its first
 /// AS by an interface: segments of other interfaces have other ids.
@@ -94,15 +95,15 @@ fn counted(database: &PathDb, kind: SegType) -> usize {
 }
 
 /// Checks the counts against a look at all rows, and against what they are.
-fn assert_counts(rt: &impl Abort, database: &PathDb, step: &Step) {
+fn assert_counts(rt: &impl TestHost, database: &PathDb, step: &Step) {
     for (kind, count) in KINDS.iter().zip(&step.counts) {
-        assert_eq!(rt; database.len_of(*kind), *count, "{step:?}");
-        assert_eq!(rt; counted(database, *kind), *count, "{step:?}");
+        assert_same(rt, &database.len_of(*kind), count, step);
+        assert_same(rt, &counted(database, *kind), count, &("all rows", step));
     }
 }
 
 /// Takes all steps, and looks at the database and at copies of it after each.
-fn assert_all_counted(rt: &impl Abort, alloc: Global, database: PathDb) -> Result<(), Fail> {
+fn assert_all_counted(rt: &impl TestHost, alloc: Global, database: PathDb) -> Result<(), Fail> {
     let mut database = database;
     for step in &STEPS {
         take(alloc, &mut database, step.what)?;
@@ -115,6 +116,7 @@ fn assert_all_counted(rt: &impl Abort, alloc: Global, database: PathDb) -> Resul
 
 #[test]
 fn rows_of_each_type_are_counted(rt: HostRuntime) -> Result<(), Fail> {
-    assert_all_counted(&rt, rt.alloc(), no_rows(rt.alloc()))?;
-    assert_all_counted(&rt, rt.alloc(), no_rows(rt.alloc()).without_indexes())
+    let host = Host(&rt);
+    assert_all_counted(&host, rt.alloc(), no_rows(rt.alloc()))?;
+    assert_all_counted(&host, rt.alloc(), no_rows(rt.alloc()).without_indexes())
 }

@@ -1,11 +1,12 @@
 //! Purges and removals.
 
+use crate::host::Host;
 use crate::rows::worked::{EXPIRY, ID, apply, count_rows, row_of};
 use path_db::{Command, Outcome, PathDb};
 use seg_core::SegType;
 use std::alloc::Global;
-use std::process::Abort;
 use std::test::Fail;
+use test_support::{TestHost, assert_same};
 
 /// The outcome of a purge of this number of rows.
 fn purged(purged: u32) -> Outcome {
@@ -50,18 +51,18 @@ const REMOVALS: [Drops; 3] = [
 ];
 
 /// Applies a command, and checks how many rows it drops, and how many are left.
-fn assert_drops(rt: &impl Abort, database: &mut PathDb, row: &Drops) -> Result<(), Fail> {
+fn assert_drops(rt: &impl TestHost, database: &mut PathDb, row: &Drops) -> Result<(), Fail> {
     let command = match row.what {
         What::Purge(moment) => Command::Purge(moment),
         What::Remove(kind) => Command::Remove(kind, ID),
     };
-    assert_eq!(rt; apply(database, &command)?, purged(row.dropped), "{row:?}");
-    assert_eq!(rt; count_rows(database), row.left, "{row:?}");
+    assert_same(rt, &apply(database, &command)?, &purged(row.dropped), row);
+    assert_same(rt, &count_rows(database), &row.left, row);
     Ok(())
 }
 
 /// Applies commands in turn to a database of the worked down segment.
-fn assert_all(rt: &impl Abort, alloc: Global, rows: &[Drops]) -> Result<(), Fail> {
+fn assert_all(rt: &impl TestHost, alloc: Global, rows: &[Drops]) -> Result<(), Fail> {
     let mut database = row_of(alloc, SegType::Down)?;
     for row in rows {
         assert_drops(rt, &mut database, row)?;
@@ -71,6 +72,7 @@ fn assert_all(rt: &impl Abort, alloc: Global, rows: &[Drops]) -> Result<(), Fail
 
 #[test]
 fn rows_are_dropped(rt: HostRuntime) -> Result<(), Fail> {
-    assert_all(&rt, rt.alloc(), &PURGES)?;
-    assert_all(&rt, rt.alloc(), &REMOVALS)
+    let host = Host(&rt);
+    assert_all(&host, rt.alloc(), &PURGES)?;
+    assert_all(&host, rt.alloc(), &REMOVALS)
 }

@@ -1,5 +1,7 @@
 //! Refused memory: a command is applied completely or not at all.
 
+use crate::checks::assert_bytes;
+use crate::host::Host;
 use crate::rows::records::written;
 use crate::rows::worked::{
     ID, apply, count_rows, dated_by, is_there, leaving_by, len_of, put, row_of,
@@ -8,8 +10,8 @@ use isd_as::IsdAs;
 use path_db::{Command, Outcome, PathDb, Registration};
 use seg_core::SegType;
 use std::alloc::{AllocError, Global};
-use std::process::Abort;
 use std::test::Fail;
+use test_support::{TestHost, assert_same};
 
 /// The command that registers sixteen segments of sixteen ids, the worked one among them.
 fn sixteen(alloc: Global) -> Result<Command, Fail> {
@@ -43,7 +45,7 @@ fn shown(database: &PathDb) -> View {
 /// Applies a command to a database of which this is shown. Where it is refused, the same is shown,
 /// and the command is applied again.
 fn apply_again(
-    rt: &impl Abort,
+    rt: &impl TestHost,
     database: &mut PathDb,
     command: &Command,
     before: View,
@@ -51,7 +53,7 @@ fn apply_again(
     match apply(database, command) {
         Ok(outcome) => Ok(outcome),
         Err(_) => {
-            assert_eq!(rt; shown(database), before);
+            assert_same(rt, &shown(database), &before, &"after the refusal");
             apply(database, command)
         }
     }
@@ -59,7 +61,7 @@ fn apply_again(
 
 /// Checks that sixteen rows are registered in a database of one core segment.
 fn assert_sixteen(
-    rt: &impl Abort,
+    rt: &impl TestHost,
     database: &mut PathDb,
     command: &Command,
 ) -> Result<(), AllocError> {
@@ -69,7 +71,7 @@ fn assert_sixteen(
         has_down: false,
         has_core: true,
     };
-    assert_eq!(rt; shown(database), before);
+    assert_same(rt, &shown(database), &before, &"before");
     let outcome = apply_again(rt, database, command, before)?;
     let inserted = Outcome {
         inserted: 16,
@@ -77,14 +79,14 @@ fn assert_sixteen(
         kept: 0,
         purged: 0,
     };
-    assert_eq!(rt; outcome, inserted);
+    assert_same(rt, &outcome, &inserted, &"the outcome");
     let after = View {
         rows: 17,
         bytes: 17 * 93,
         has_down: true,
         has_core: true,
     };
-    assert_eq!(rt; shown(database), after);
+    assert_same(rt, &shown(database), &after, &"after");
     Ok(())
 }
 
@@ -92,9 +94,10 @@ fn assert_sixteen(
 // database is unchanged, and the registration succeeds when it is tried again.
 #[test]
 fn refused_registration_changes_nothing(rt: HostRuntime) -> Result<(), Fail> {
+    let host = Host(&rt);
     let mut database = row_of(rt.alloc(), SegType::Core)?;
     let command = sixteen(rt.alloc())?;
-    Ok(assert_sixteen(&rt, &mut database, &command)?)
+    Ok(assert_sixteen(&host, &mut database, &command)?)
 }
 
 /// The command that registers eight newer segments with the ids of eight that are there, and eight
@@ -139,28 +142,28 @@ fn whole(alloc: Global, database: &PathDb) -> Result<(Vec<u8>, [usize; 3]), Fail
 
 /// Checks that a database has these rows, and shows this by its indexes.
 fn assert_whole(
-    rt: &impl Abort,
+    rt: &impl TestHost,
     alloc: Global,
     database: &PathDb,
     rows: &[u8],
     counts: [usize; 3],
 ) -> Result<(), Fail> {
     let (found, shown) = whole(alloc, database)?;
-    assert_eq!(rt; found.as_slice(), rows);
-    assert_eq!(rt; shown, counts);
+    assert_bytes(rt, &found, rows, "the rows");
+    assert_same(rt, &shown, &counts, &"by the indexes");
     Ok(())
 }
 
 /// Applies a command. Where it is refused, the database is unchanged, and the command is applied
 /// again.
 fn replace_again(
-    rt: &impl Abort,
+    rt: &impl TestHost,
     alloc: Global,
     database: &mut PathDb,
     command: &Command,
 ) -> Result<Outcome, Fail> {
     let (rows, counts) = whole(alloc, database)?;
-    assert_eq!(rt; counts, [8, 8, 8]);
+    assert_same(rt, &counts, &[8, 8, 8], &"by the indexes");
     match apply(database, command) {
         Ok(outcome) => Ok(outcome),
         Err(_) => {
@@ -172,7 +175,7 @@ fn replace_again(
 
 /// Checks that eight rows are replaced and eight inserted.
 fn assert_replaced(
-    rt: &impl Abort,
+    rt: &impl TestHost,
     alloc: Global,
     database: &mut PathDb,
     command: &Command,
@@ -184,8 +187,9 @@ fn assert_replaced(
         kept: 0,
         purged: 0,
     };
-    assert_eq!(rt; outcome, replaced);
-    assert_eq!(rt; whole(alloc, database)?.1, [16, 16, 16]);
+    assert_same(rt, &outcome, &replaced, &"the outcome");
+    let shown = whole(alloc, database)?.1;
+    assert_same(rt, &shown, &[16, 16, 16], &"by the indexes");
     Ok(())
 }
 
@@ -193,7 +197,8 @@ fn assert_replaced(
 // compared.
 #[test]
 fn refused_replacement_changes_nothing(rt: HostRuntime) -> Result<(), Fail> {
+    let host = Host(&rt);
     let mut database = eight(rt.alloc())?;
     let command = eight_and_eight(rt.alloc())?;
-    assert_replaced(&rt, rt.alloc(), &mut database, &command)
+    assert_replaced(&host, rt.alloc(), &mut database, &command)
 }

@@ -1,5 +1,7 @@
 //! The calls that read a database.
 
+use crate::checks::{assert_bytes, done};
+use crate::host::Host;
 use crate::rows::worked::{
     EXPIRY, ID, SEGMENT, apply, copy_of, count_rows, is_there, leaving_by, len_of, no_rows, put,
     row_of, segment,
@@ -9,38 +11,43 @@ use path_db::{Command, PathDb};
 use row_map::{Row, Rows};
 use seg_core::{SegType, Segment, write_segment};
 use std::alloc::{AllocError, Global};
-use std::process::Abort;
 use std::test::Fail;
+use test_support::{TestHost, assert_same};
 
 /// Registers the worked segment under types in turn, and checks how many bytes the rows have.
-fn assert_len_of_puts(rt: &impl Abort, alloc: Global, database: &mut PathDb) -> Result<(), Fail> {
+fn assert_len_of_puts(
+    rt: &impl TestHost,
+    alloc: Global,
+    database: &mut PathDb,
+) -> Result<(), Fail> {
     for (kind, len) in [
         (SegType::Down, 93),
         (SegType::Core, 186),
         (SegType::Core, 186),
     ] {
         put(alloc, database, kind, segment(alloc)?)?;
-        assert_eq!(rt; len_of(database), len);
+        assert_same(rt, &len_of(database), &len, &kind);
     }
     Ok(())
 }
 
 /// Drops both rows, and checks how many bytes are left.
-fn assert_len_of_drops(rt: &impl Abort, database: &mut PathDb) -> Result<(), Fail> {
+fn assert_len_of_drops(rt: &impl TestHost, database: &mut PathDb) -> Result<(), Fail> {
     apply(database, &Command::Remove(SegType::Down, ID))?;
-    assert_eq!(rt; len_of(database), 93);
+    assert_same(rt, &len_of(database), &93, &"after the removal");
     apply(database, &Command::Purge(EXPIRY))?;
-    assert_eq!(rt; len_of(database), 0);
+    assert_same(rt, &len_of(database), &0, &"after the purge");
     Ok(())
 }
 
 // A row of the worked segment, whose encoding has 88 bytes, has 93.
 #[test]
 fn encoded_len_is_kept(rt: HostRuntime) -> Result<(), Fail> {
+    let host = Host(&rt);
     let mut database = no_rows(rt.alloc());
-    assert_eq!(rt; len_of(&database), 0);
-    assert_len_of_puts(&rt, rt.alloc(), &mut database)?;
-    assert_len_of_drops(&rt, &mut database)
+    assert_same(&host, &len_of(&database), &0, &"no rows");
+    assert_len_of_puts(&host, rt.alloc(), &mut database)?;
+    assert_len_of_drops(&host, &mut database)
 }
 
 /// The interface by which the segment of a row leaves its first AS.
@@ -70,26 +77,32 @@ fn twelve(alloc: Global) -> Result<PathDb, Fail> {
 // The order of the ids is that of SHA-256's bytes.
 #[test]
 fn rows_are_in_the_order_of_their_keys(rt: HostRuntime) -> Result<(), Fail> {
+    let host = Host(&rt);
     let database = twelve(rt.alloc())?;
     let mut rows = database.rows();
     for kind in [SegType::Up, SegType::Down, SegType::Core] {
         for egress in [2, 1, 3, 4] {
-            assert_eq!(rt; next_of(&mut rows), Some((kind, egress)));
+            assert_same(&host, &next_of(&mut rows), &Some((kind, egress)), &"a row");
         }
     }
-    assert_eq!(rt; next_of(&mut rows), None);
+    assert_same(&host, &next_of(&mut rows), &None, &"the end");
     Ok(())
 }
 
 // A row of the worked segment has its id, and so has a copy.
 #[test]
-fn rows_have_ids(rt: HostRuntime) -> Result<(), Fail> {
-    let row = Row::new(SegType::Down, segment(rt.alloc())?);
-    let copy = row.try_clone()?;
+fn rows_have_ids(rt: HostRuntime) {
+    let host = Host(&rt);
+    let row = Row::new(SegType::Down, done(&rt, segment(rt.alloc())));
+    let copy = row.try_clone().expect(&rt, "a copy");
     for row in [&row, &copy] {
-        assert_eq!(rt; (row.kind, *row.id()), (SegType::Down, ID));
+        assert_same(
+            &host,
+            &(row.kind, *row.id()),
+            &(SegType::Down, ID),
+            &"a row",
+        );
     }
-    Ok(())
 }
 
 /// A segment's type and id, and whether it is in a database of the worked down segment.
@@ -108,40 +121,39 @@ const KEYS: [Key; 3] = [
 ];
 
 /// Checks that the worked segment is found, and no other.
-fn assert_found(rt: &impl Abort, database: &PathDb) {
+fn assert_found(rt: &impl TestHost, database: &PathDb) {
     for key in &KEYS {
-        assert_eq!(rt;
-            is_there(database, key.kind, &key.id),
-            key.is_there,
-            "{key:?}"
-        );
+        let found = is_there(database, key.kind, &key.id);
+        assert_same(rt, &found, &key.is_there, key);
     }
-    assert_eq!(rt; len_of(database), 93);
+    assert_same(rt, &len_of(database), &93, &"bytes");
 }
 
 // The worked segment is found under its type and its id alone, and in a copy too.
 #[test]
-fn segments_are_found(rt: HostRuntime) -> Result<(), Fail> {
-    let database = row_of(rt.alloc(), SegType::Down)?;
-    let copy = copy_of(&database)?;
-    assert_found(&rt, &database);
-    assert_found(&rt, &copy);
-    Ok(())
+fn segments_are_found(rt: HostRuntime) {
+    let host = Host(&rt);
+    let database = done(&rt, row_of(rt.alloc(), SegType::Down));
+    let copy = copy_of(&database).expect(&rt, "a copy");
+    assert_found(&host, &database);
+    assert_found(&host, &copy);
 }
 
 /// Checks that a purge of a database does not change its copy.
-fn assert_apart(rt: &impl Abort, database: &mut PathDb, copy: &PathDb) -> Result<(), Fail> {
+fn assert_apart(rt: &impl TestHost, database: &mut PathDb, copy: &PathDb) -> Result<(), Fail> {
     apply(database, &Command::Purge(EXPIRY))?;
-    assert_eq!(rt; (count_rows(database), count_rows(copy)), (0, 1));
+    let counts = (count_rows(database), count_rows(copy));
+    assert_same(rt, &counts, &(0, 1), &"rows, and the copy's");
     Ok(())
 }
 
 // A change of a database does not change its copy.
 #[test]
-fn copies_are_apart(rt: HostRuntime) -> Result<(), Fail> {
-    let mut database = row_of(rt.alloc(), SegType::Down)?;
-    let copy = copy_of(&database)?;
-    assert_apart(&rt, &mut database, &copy)
+fn copies_are_apart(rt: HostRuntime) {
+    let host = Host(&rt);
+    let mut database = done(&rt, row_of(rt.alloc(), SegType::Down));
+    let copy = copy_of(&database).expect(&rt, "a copy");
+    done(&rt, assert_apart(&host, &mut database, &copy));
 }
 
 /// A look into a database: the type of the segments, the numbers of the ASes from and to which
@@ -188,21 +200,21 @@ fn matching(database: &PathDb, look: &Look) -> Result<Vec<Segment>, AllocError> 
 }
 
 /// Checks that a segment is the worked one.
-fn assert_worked(rt: &impl Abort, alloc: Global, segment: &Segment) -> Result<(), Fail> {
+fn assert_worked(rt: &impl TestHost, alloc: Global, segment: &Segment) -> Result<(), Fail> {
     let written = write_segment(alloc, segment)?;
-    assert_eq!(rt; written.as_slice(), SEGMENT.as_slice());
+    assert_bytes(rt, &written, &SEGMENT, "the worked segment");
     Ok(())
 }
 
 /// Checks what a look into a database of the worked segment shows.
 fn assert_shown(
-    rt: &impl Abort,
+    rt: &impl TestHost,
     alloc: Global,
     database: &PathDb,
     look: &Look,
 ) -> Result<(), Fail> {
     let shown = matching(database, look)?;
-    assert_eq!(rt; shown.len(), look.shown, "{}", look.name);
+    assert_same(rt, &shown.len(), &look.shown, &look.name);
     for segment in &shown {
         assert_worked(rt, alloc, segment)?;
     }
@@ -210,28 +222,24 @@ fn assert_shown(
 }
 
 #[test]
-fn segments_are_shown(rt: HostRuntime) -> Result<(), Fail> {
-    let database = row_of(rt.alloc(), SegType::Down)?;
+fn segments_are_shown(rt: HostRuntime) {
+    let host = Host(&rt);
+    let database = done(&rt, row_of(rt.alloc(), SegType::Down));
     for look in &LOOKS {
-        assert_shown(&rt, rt.alloc(), &database, look)?;
+        done(&rt, assert_shown(&host, rt.alloc(), &database, look));
     }
-    Ok(())
 }
 
 // The same segments are shown by a database without its indexes, which takes further commands.
 #[test]
-fn segments_are_shown_without_indexes(rt: HostRuntime) -> Result<(), Fail> {
+fn segments_are_shown_without_indexes(rt: HostRuntime) {
+    let host = Host(&rt);
     let mut database = no_rows(rt.alloc()).without_indexes();
-    put(
-        rt.alloc(),
-        &mut database,
-        SegType::Down,
-        segment(rt.alloc())?,
-    )?;
+    let worked = done(&rt, segment(rt.alloc()));
+    done(&rt, put(rt.alloc(), &mut database, SegType::Down, worked));
     for look in &LOOKS {
-        assert_shown(&rt, rt.alloc(), &database, look)?;
+        done(&rt, assert_shown(&host, rt.alloc(), &database, look));
     }
-    apply(&mut database, &Command::Purge(EXPIRY))?;
-    assert_eq!(rt; count_rows(&database), 0);
-    Ok(())
+    apply(&mut database, &Command::Purge(EXPIRY)).expect(&rt, "the command is applied");
+    assert_same(&host, &count_rows(&database), &0, &"rows after the purge");
 }

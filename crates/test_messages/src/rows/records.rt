@@ -1,13 +1,14 @@
 //! Rows as records: the worked row and others like it, and the refusals after one byte was changed.
 
+use crate::checks::{assert_bytes, done};
+use crate::host::Host;
 use crate::rows::worked::{ID, count_rows, is_there, len_of};
 use path_db::PathDb;
 use path_records::{DbError, read_rows, write_rows};
 use seg_core::SegType;
 use std::alloc::Global;
-use std::process::Abort;
 use std::test::Fail;
-use test_support::leaving_by;
+use test_support::{TestHost, assert_same, leaving_by};
 
 /// The error for bytes that are no record.
 pub(crate) const BAD: DbError = DbError::BadRecord;
@@ -61,32 +62,38 @@ pub(crate) fn written(alloc: Global, database: &PathDb) -> Result<Vec<u8>, Fail>
 
 /// Checks that a database is written as these bytes.
 pub(crate) fn assert_written_as(
-    rt: &impl Abort,
+    rt: &impl TestHost,
     alloc: Global,
     database: &PathDb,
     bytes: &[u8],
 ) -> Result<(), Fail> {
     let written = written(alloc, database)?;
-    assert_eq!(rt; written.as_slice(), bytes);
+    assert_bytes(rt, &written, bytes, "the rows");
     Ok(())
 }
 
 /// Checks that a database has the worked row under each type.
-fn assert_three(rt: &impl Abort, database: &PathDb) {
-    assert_eq!(rt; (count_rows(database), len_of(database)), (3, 279));
+fn assert_three(rt: &impl TestHost, database: &PathDb) {
+    assert_same(
+        rt,
+        &(count_rows(database), len_of(database)),
+        &(3, 279),
+        &"rows and bytes",
+    );
     for kind in [SegType::Up, SegType::Down, SegType::Core] {
-        assert!(rt; is_there(database, kind, &ID));
+        assert_same(rt, &is_there(database, kind, &ID), &true, &kind);
     }
 }
 
 // The worked row under each type: it is read, its id is computed again, and it is written as it
 // was.
 #[test]
-fn rows_are_read_and_written(rt: HostRuntime) -> Result<(), Fail> {
-    let bytes = rows_of(rt.alloc(), &[1, 2, 3])?;
-    let database = read_again(rt.alloc(), &bytes)?;
-    assert_three(&rt, &database);
-    assert_written_as(&rt, rt.alloc(), &database, &bytes)
+fn rows_are_read_and_written(rt: HostRuntime) {
+    let host = Host(&rt);
+    let bytes = done(&rt, rows_of(rt.alloc(), &[1, 2, 3]));
+    let database = read_again(rt.alloc(), &bytes).expect(&rt, "the rows are read");
+    assert_three(&host, &database);
+    done(&rt, assert_written_as(&host, rt.alloc(), &database, &bytes));
 }
 
 /// The numbers of three rows' types, and how many rows are read.
@@ -128,22 +135,23 @@ fn two_rows(alloc: Global, first: u8, second: u8) -> Result<Vec<u8>, Fail> {
 
 // The first fault is reported: the second row's order before the third row's type.
 #[test]
-fn keys_rise(rt: HostRuntime) -> Result<(), Fail> {
+fn keys_rise(rt: HostRuntime) {
+    let host = Host(&rt);
     for (kinds, expected) in KINDS {
-        let bytes = rows_of(rt.alloc(), &kinds)?;
-        assert_eq!(rt; count_of(rt.alloc(), &bytes), expected, "{kinds:?}");
+        let bytes = done(&rt, rows_of(rt.alloc(), &kinds));
+        assert_same(&host, &count_of(rt.alloc(), &bytes), &expected, &kinds);
     }
     for row in &EGRESSES {
-        let bytes = two_rows(rt.alloc(), row.first, row.second)?;
+        let bytes = done(&rt, two_rows(rt.alloc(), row.first, row.second));
         let found = count_of(rt.alloc(), &bytes);
-        assert_eq!(rt; found, row.count, "{} {}", row.first, row.second);
+        assert_same(&host, &found, &row.count, &(row.first, row.second));
     }
-    Ok(())
 }
 
 // Rows of 93 bytes each: a part of a row is no row.
 #[test]
 fn rows_are_whole(rt: HostRuntime) -> Result<(), Fail> {
+    let host = Host(&rt);
     let bytes = rows_of(rt.alloc(), &[1, 2, 3])?;
     for len in 0..=bytes.len() {
         let expected = if len % 93 == 0 {
@@ -151,7 +159,7 @@ fn rows_are_whole(rt: HostRuntime) -> Result<(), Fail> {
         } else {
             Err(BAD)
         };
-        assert_eq!(rt; count_of(rt.alloc(), &bytes[..len]), expected, "{len}");
+        assert_same(&host, &count_of(rt.alloc(), &bytes[..len]), &expected, &len);
     }
     Ok(())
 }
@@ -191,11 +199,12 @@ const CHANGED_ROWS: [ChangedRow; 17] = [
 // Three rows with one byte changed: each begins 93 bytes after the one before, its segment 5 bytes
 // later.
 #[test]
-fn changed_rows(rt: HostRuntime) -> Result<(), Fail> {
-    let bytes = rows_of(rt.alloc(), &[1, 2, 3])?;
+fn changed_rows(rt: HostRuntime) {
+    let host = Host(&rt);
+    let bytes = done(&rt, rows_of(rt.alloc(), &[1, 2, 3]));
     for row in &CHANGED_ROWS {
-        let changed = changed(rt.alloc(), &bytes, row.at, row.byte)?;
-        assert_eq!(rt; count_of(rt.alloc(), &changed), row.count, "{}", row.what);
+        let changed = done(&rt, changed(rt.alloc(), &bytes, row.at, row.byte));
+        let count = count_of(rt.alloc(), &changed);
+        assert_same(&host, &count, &row.count, &row.what);
     }
-    Ok(())
 }

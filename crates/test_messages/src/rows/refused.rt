@@ -2,21 +2,23 @@
 //! refused in turn: the bytes from before the refused call stay, the call succeeds when it is tried
 //! again, and no other result depends on the refusal.
 
+use crate::checks::assert_bytes;
+use crate::host::Host;
 use crate::rows::commands::registration;
 use crate::rows::records::{assert_written_as, changed, read_again, rows_of};
 use path_db::{Command, PathDb};
 use path_records::{DatabaseReader, DbError, read_command, read_rows, write_command, write_rows};
 use std::alloc::{AllocError, Global};
-use std::process::Abort;
 use std::test::Fail;
+use test_support::{TestHost, assert_same, assert_true};
 
 /// The bytes before a record that is appended.
 const FRONT: [u8; 3] = [7, 8, 9];
 
 /// Checks that the vector has its earlier bytes, and after them these bytes.
-fn assert_behind_front(rt: &impl Abort, out: &[u8], bytes: &[u8]) {
-    assert_eq!(rt; out.get(..3), Some(&FRONT[..]));
-    assert_eq!(rt; out.get(3..), Some(bytes));
+fn assert_behind_front(rt: &impl TestHost, out: &[u8], bytes: &[u8]) {
+    assert_same(rt, &out.get(..3), &Some(&FRONT[..]), &"the front");
+    assert_same(rt, &out.get(3..), &Some(bytes), &"after the front");
 }
 
 /// The rows that are read, in one try.
@@ -31,7 +33,7 @@ fn write(database: &PathDb, out: &mut Vec<u8>) -> Result<(), AllocError> {
 
 /// Checks that a database is written as these bytes, after the earlier bytes.
 fn assert_appended(
-    rt: &impl Abort,
+    rt: &impl TestHost,
     alloc: Global,
     database: &PathDb,
     bytes: &[u8],
@@ -47,15 +49,16 @@ fn assert_appended(
 
 #[test]
 fn refused_memory_of_written_rows(rt: HostRuntime) -> Result<(), Fail> {
+    let host = Host(&rt);
     let bytes = rows_of(rt.alloc(), &[1, 2, 3])?;
     let database = read_once(rt.alloc(), &bytes)?;
-    assert_appended(&rt, rt.alloc(), &database, &bytes)
+    assert_appended(&host, rt.alloc(), &database, &bytes)
 }
 
 /// Checks that a database is written as these bytes, or that reading was refused with this error,
 /// where there is one. `NoMemory` is not accepted as a result.
 fn assert_rows(
-    rt: &impl Abort,
+    rt: &impl TestHost,
     alloc: Global,
     read: Result<PathDb, DbError>,
     bytes: &[u8],
@@ -63,16 +66,17 @@ fn assert_rows(
 ) -> Result<(), Fail> {
     match read {
         Ok(database) => {
-            assert_eq!(rt; refusal, None, "rows are read");
+            assert_same(rt, &refusal, &None, &"rows are read");
             assert_written_as(rt, alloc, &database, bytes)?;
         }
-        Err(found) => assert_eq!(rt; Some(found), refusal),
+        Err(found) => assert_same(rt, &Some(found), &refusal, &"rows are refused"),
     }
     Ok(())
 }
 
 #[test]
 fn refused_memory_of_read_rows(rt: HostRuntime) -> Result<(), Fail> {
+    let host = Host(&rt);
     for (kinds, refusal) in [
         ([1, 2, 3], None),
         ([1, 3, 2], Some(DbError::Order)),
@@ -80,7 +84,7 @@ fn refused_memory_of_read_rows(rt: HostRuntime) -> Result<(), Fail> {
     ] {
         let bytes = rows_of(rt.alloc(), &kinds)?;
         let read = read_again(rt.alloc(), &bytes);
-        assert_rows(&rt, rt.alloc(), read, &bytes, refusal)?;
+        assert_rows(&host, rt.alloc(), read, &bytes, refusal)?;
     }
     Ok(())
 }
@@ -96,6 +100,7 @@ fn read_in_pieces(alloc: Global, bytes: &[u8]) -> Result<PathDb, DbError> {
 
 #[test]
 fn refused_memory_of_rows_in_pieces(rt: HostRuntime) -> Result<(), Fail> {
+    let host = Host(&rt);
     for (kinds, refusal) in [
         ([1, 2, 3], None),
         ([1, 3, 2], Some(DbError::Order)),
@@ -106,7 +111,7 @@ fn refused_memory_of_rows_in_pieces(rt: HostRuntime) -> Result<(), Fail> {
             Err(DbError::NoMemory) => read_in_pieces(rt.alloc(), &bytes),
             read => read,
         };
-        assert_rows(&rt, rt.alloc(), read, &bytes, refusal)?;
+        assert_rows(&host, rt.alloc(), read, &bytes, refusal)?;
     }
     Ok(())
 }
@@ -123,7 +128,7 @@ const REMOVAL: [u8; 34] = [
 ];
 
 /// Checks that a command is written as these bytes, after the earlier bytes.
-fn assert_written(rt: &impl Abort, alloc: Global, bytes: &[u8]) -> Result<(), Fail> {
+fn assert_written(rt: &impl TestHost, alloc: Global, bytes: &[u8]) -> Result<(), Fail> {
     let command = read_command(alloc, bytes, true)?;
     let mut out = Vec::from_slice(alloc, &FRONT)?;
     if write_command(&command, &mut out).is_err() {
@@ -136,16 +141,17 @@ fn assert_written(rt: &impl Abort, alloc: Global, bytes: &[u8]) -> Result<(), Fa
 
 #[test]
 fn refused_memory_of_written_commands(rt: HostRuntime) -> Result<(), Fail> {
+    let host = Host(&rt);
     let registration = registration(rt.alloc(), 3)?;
-    assert_written(&rt, rt.alloc(), &registration)?;
-    assert_written(&rt, rt.alloc(), &PURGE)?;
-    assert_written(&rt, rt.alloc(), &REMOVAL)
+    assert_written(&host, rt.alloc(), &registration)?;
+    assert_written(&host, rt.alloc(), &PURGE)?;
+    assert_written(&host, rt.alloc(), &REMOVAL)
 }
 
 /// Checks that a command is read and written as these bytes, or refused as a bad record, and that
 /// only reads that may take memory are refused it.
 fn assert_read(
-    rt: &impl Abort,
+    rt: &impl TestHost,
     alloc: Global,
     bytes: &[u8],
     takes_memory: bool,
@@ -153,21 +159,21 @@ fn assert_read(
 ) -> Result<(), Fail> {
     let read = match read_command(alloc, bytes, true) {
         Err(DbError::NoMemory) => {
-            assert!(rt; takes_memory);
+            assert_true(rt, takes_memory, "the command takes memory");
             read_command(alloc, bytes, true)
         }
         read => read,
     };
     match read {
         Ok(command) => {
-            assert!(rt; is_command);
+            assert_true(rt, is_command, "a command is read");
             let mut written = Vec::new(alloc);
             write_command(&command, &mut written)?;
-            assert_eq!(rt; written.as_slice(), bytes);
+            assert_bytes(rt, &written, bytes, "the command");
         }
         Err(refusal) => {
-            assert!(rt; !is_command);
-            assert_eq!(rt; refusal, DbError::BadRecord);
+            assert_true(rt, !is_command, "a command is refused");
+            assert_same(rt, &refusal, &DbError::BadRecord, &"the refusal");
         }
     }
     Ok(())
@@ -175,14 +181,15 @@ fn assert_read(
 
 #[test]
 fn refused_memory_of_read_commands(rt: HostRuntime) -> Result<(), Fail> {
+    let host = Host(&rt);
     let three = registration(rt.alloc(), 3)?;
     let third_is_none = changed(rt.alloc(), &three, 188, 4)?;
     let seventeen = registration(rt.alloc(), 17)?;
-    assert_read(&rt, rt.alloc(), &three, true, true)?;
-    assert_read(&rt, rt.alloc(), &third_is_none, true, false)?;
-    assert_read(&rt, rt.alloc(), &seventeen, false, false)?;
-    assert_read(&rt, rt.alloc(), &PURGE, false, true)?;
-    assert_read(&rt, rt.alloc(), &REMOVAL, false, true)?;
-    assert_read(&rt, rt.alloc(), &PURGE[..8], false, false)?;
-    assert_read(&rt, rt.alloc(), &REMOVAL[..33], false, false)
+    assert_read(&host, rt.alloc(), &three, true, true)?;
+    assert_read(&host, rt.alloc(), &third_is_none, true, false)?;
+    assert_read(&host, rt.alloc(), &seventeen, false, false)?;
+    assert_read(&host, rt.alloc(), &PURGE, false, true)?;
+    assert_read(&host, rt.alloc(), &REMOVAL, false, true)?;
+    assert_read(&host, rt.alloc(), &PURGE[..8], false, false)?;
+    assert_read(&host, rt.alloc(), &REMOVAL[..33], false, false)
 }

@@ -1,12 +1,13 @@
 //! How many rows the purges of a database of many rows visit.
 
+use crate::checks::done;
+use crate::host::Host;
 use crate::rows::worked::{apply, copy_of, count_rows, no_rows};
 use path_db::{Command, PathDb, Registration};
 use seg_core::{SegType, Segment, read_segment};
 use std::alloc::Global;
-use std::process::Abort;
 use std::test::Fail;
-use test_support::{EXP_TIME, EXPIRY, SEGMENT};
+use test_support::{EXP_TIME, EXPIRY, SEGMENT, TestHost, assert_same};
 
 /// The offset in the worked segment of the number of its first AS, whose lower 21 bits are in three
 /// bytes.
@@ -62,7 +63,7 @@ fn many(alloc: Global) -> Result<PathDb, Fail> {
 /// Purges, and checks how many rows are dropped and that few were visited: a bucket of 65,536 of a
 /// type has about two of these rows.
 fn assert_purge(
-    rt: &impl Abort,
+    rt: &impl TestHost,
     database: &mut PathDb,
     moment: u64,
     dropped: u32,
@@ -70,28 +71,27 @@ fn assert_purge(
     let before = database.visited_by_purges();
     let outcome = apply(database, &Command::Purge(moment))?;
     let visited = database.visited_by_purges().saturating_sub(before);
-    assert_eq!(rt; outcome.purged, dropped);
-    assert!(rt;
-        visited <= (u64::from(dropped) + 1) * 64,
-        "{visited} rows for {dropped}"
-    );
+    assert_same(rt, &outcome.purged, &dropped, &moment);
+    let is_few = visited <= (u64::from(dropped) + 1) * 64;
+    assert_same(rt, &is_few, &true, &(visited, dropped));
     Ok(())
 }
 
 /// Purges of no row, of one and of 100 rows leave the others.
-fn assert_purges(rt: &impl Abort, database: &mut PathDb) -> Result<(), Fail> {
+fn assert_purges(rt: &impl TestHost, database: &mut PathDb) -> Result<(), Fail> {
     assert_purge(rt, database, EXPIRY - 3 * UNIT, 0)?;
     assert_purge(rt, database, EXPIRY - 2 * UNIT, 1)?;
     assert_purge(rt, database, EXPIRY - UNIT, 100)?;
     assert_purge(rt, database, EXPIRY - 1, 0)?;
-    assert_eq!(rt; count_rows(database), 100_000);
+    assert_same(rt, &count_rows(database), &100_000, &"rows");
     Ok(())
 }
 
 #[test]
-fn purges_visit_few_rows(rt: HostRuntime) -> Result<(), Fail> {
-    let mut database = many(rt.alloc())?;
-    let mut copy = copy_of(&database)?;
-    assert_purges(&rt, &mut database)?;
-    assert_purges(&rt, &mut copy)
+fn purges_visit_few_rows(rt: HostRuntime) {
+    let host = Host(&rt);
+    let mut database = done(&rt, many(rt.alloc()));
+    let mut copy = copy_of(&database).expect(&rt, "a copy");
+    done(&rt, assert_purges(&host, &mut database));
+    done(&rt, assert_purges(&host, &mut copy));
 }

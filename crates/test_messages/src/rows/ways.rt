@@ -1,12 +1,14 @@
 //! How many rows a lookup visits in a database of 100,000.
 
+use crate::checks::done;
+use crate::host::Host;
 use crate::rows::worked::{no_rows, put};
 use isd_as::IsdAs;
 use path_db::PathDb;
 use seg_core::{SegType, read_segment};
 use std::alloc::Global;
-use std::process::Abort;
 use std::test::Fail;
+use test_support::{TestHost, assert_same};
 
 /// A segment of two entries whose three AS numbers are 0.
 const EMPTY: [u8; 91] = [
@@ -126,20 +128,20 @@ const LOOKS: [Look; 10] = [
 ];
 
 /// Checks what a look shows, and how many rows it visits.
-fn assert_look(rt: &impl Abort, database: &PathDb, look: &Look) -> Result<(), Fail> {
+fn assert_look(rt: &impl TestHost, database: &PathDb, look: &Look) -> Result<(), Fail> {
     let start = IsdAs::from_u64(look.start);
     let end = IsdAs::from_u64(look.end);
     let (shown, visited) = database.matching_counted(SegType::Core, start, end, 0, 64)?;
-    assert_eq!(rt; shown.len(), look.shown, "{look:?}");
-    assert!(rt; visited <= look.most, "{look:?} {visited}");
+    assert_same(rt, &shown.len(), &look.shown, look);
+    assert_same(rt, &(visited <= look.most), &true, &(look, visited));
     Ok(())
 }
 
 #[test]
-fn short_ways_are_found(rt: HostRuntime) -> Result<(), Fail> {
-    let database = filled(rt.alloc())?;
+fn short_ways_are_found(rt: HostRuntime) {
+    let host = Host(&rt);
+    let database = done(&rt, filled(rt.alloc()));
     for look in &LOOKS {
-        assert_look(&rt, &database, look)?;
+        done(&rt, assert_look(&host, &database, look));
     }
-    Ok(())
 }

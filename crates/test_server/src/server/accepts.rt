@@ -1,12 +1,12 @@
 //! Listeners that fail.
 
+use crate::server::checks::assert_same;
 use crate::server::stores::{LEAST, assert_opens_to, formatted, opened};
 use crate::server::worlds::{Counts, options};
 use path_server::{AcceptFailure, Listener, Listeners, RunError, after_failure, serve_store};
 use std::io;
 use std::net::{OpenListener, SocketAddr, TcpStream};
 use std::sync::atomic::{AtomicUsize, Ordering};
-use std::test::Fail;
 
 /// The numbers of Linux's errors of accept(2), and what is done after them.
 const FAILURES: [(i32, AcceptFailure); 14] = [
@@ -27,12 +27,11 @@ const FAILURES: [(i32, AcceptFailure); 14] = [
 ];
 
 #[test]
-fn failures_by_their_number(rt: HostRuntime) -> Result<(), Fail> {
+fn failures_by_their_number(rt: HostRuntime) {
     for (number, wanted) in &FAILURES {
         let failure = after_failure(&io::Error::from_raw_os_error(*number));
-        assert_eq!(rt; failure, *wanted);
+        assert_same(&rt, &failure, wanted, number);
     }
-    Ok(())
 }
 
 /// Fails by these errors, one after the other, and is broken then.
@@ -55,7 +54,7 @@ impl OpenListener for Script {
 impl Listener for Script {}
 
 #[test]
-fn a_broken_listener_ends_the_server(rt: HostRuntime) -> Result<(), Fail> {
+fn a_broken_listener_ends_the_server(rt: HostRuntime) {
     let alloc = rt.alloc();
     let store = opened(&rt, alloc, formatted(&rt, alloc, LEAST));
     let options = options(&rt, alloc, 0);
@@ -72,8 +71,7 @@ fn a_broken_listener_ends_the_server(rt: HostRuntime) -> Result<(), Fail> {
         &options,
         &counts,
     );
-    assert_eq!(rt; served, Err(RunError::Net));
-    assert_eq!(rt; counts.stopped(), 0);
+    assert_same(&rt, &served, &Err(RunError::Net), &"served");
+    assert_same(&rt, &counts.stopped(), &0, &"stopped");
     let _device = assert_opens_to(&rt, alloc, device, 0, 0);
-    Ok(())
 }

@@ -1,16 +1,18 @@
 //! What a server's second listener answers to requests that it refuses, and to peers that send
 //! nothing.
 
+use crate::server::checks::{assert_same, assert_true};
 use crate::server::peers::{EMPTY_LOOKUP, NO_DESTINATION, Peer};
 use crate::server::stores::{LEAST, assert_opens_to, formatted};
 use crate::server::watching::{GET_NUMBERS, answer_to, connect, listen_for_status, received};
-use crate::server::worlds::{Clients, Counts, Outside, listen, options, serve_watched};
+use crate::server::worlds::{
+    Clients, Counts, Outside, assert_served, listen, options, serve_watched,
+};
 use std::alloc::Global;
 use std::io;
 use std::io::Write;
 use std::net::{Shutdown, SocketAddr, TcpStream};
 use std::os::fd::OwnedFd;
-use std::test::Fail;
 use std::time::{Duration, Instant};
 
 /// Asks for other things than the page.
@@ -70,7 +72,8 @@ fn assert_refused<R: Outside>(
     line: &str,
 ) -> io::Result<()> {
     let answer = answer_to(rt, alloc, at, request)?;
-    assert!(&rt; is_refusal(answer.as_str(), line), "{request}: {answer}");
+    let answer = answer.as_str();
+    assert_same(&rt, &is_refusal(answer, line), &true, &(request, answer));
     Ok(())
 }
 
@@ -94,7 +97,7 @@ impl Clients for Asking {
 }
 
 #[test]
-fn other_requests_are_refused(rt: HostRuntime) -> Result<(), Fail> {
+fn other_requests_are_refused(rt: HostRuntime) {
     let alloc = rt.alloc();
     let device = formatted(&rt, alloc, LEAST);
     let options = options(&rt, alloc, 1);
@@ -109,10 +112,9 @@ fn other_requests_are_refused(rt: HostRuntime) -> Result<(), Fail> {
         &clients,
         &Counts::new(),
     );
-    assert_eq!(rt; served, Ok(1));
-    assert!(rt; seen?);
+    let seen = assert_served(&rt, served, seen, 1);
+    assert_true(&rt, seen, "a session is served after the refusals");
     let _device = assert_opens_to(&rt, alloc, device, 0, 0);
-    Ok(())
 }
 
 /// One peer is silent at the listener for requests, while a session is served; another one asks for
@@ -150,7 +152,7 @@ impl Clients for Hushed {
 }
 
 #[test]
-fn silent_peers_are_closed_soon(rt: HostRuntime) -> Result<(), Fail> {
+fn silent_peers_are_closed_soon(rt: HostRuntime) {
     let alloc = rt.alloc();
     let device = formatted(&rt, alloc, LEAST);
     let options = options(&rt, alloc, 1);
@@ -165,10 +167,9 @@ fn silent_peers_are_closed_soon(rt: HostRuntime) -> Result<(), Fail> {
         &clients,
         &Counts::new(),
     );
-    assert_eq!(rt; served, Ok(1));
-    assert!(rt; seen?);
+    let seen = assert_served(&rt, served, seen, 1);
+    assert_true(&rt, seen, "one peer is closed soon, the others are served");
     let _device = assert_opens_to(&rt, alloc, device, 0, 0);
-    Ok(())
 }
 
 /// Many peers are silent at the listener for requests, and another one asks for the numbers after
@@ -219,7 +220,7 @@ impl Clients for Crowd {
 }
 
 #[test]
-fn silent_peers_hold_up_no_other(rt: HostRuntime) -> Result<(), Fail> {
+fn silent_peers_hold_up_no_other(rt: HostRuntime) {
     let alloc = rt.alloc();
     let device = formatted(&rt, alloc, LEAST);
     let options = options(&rt, alloc, 1);
@@ -234,10 +235,9 @@ fn silent_peers_hold_up_no_other(rt: HostRuntime) -> Result<(), Fail> {
         &clients,
         &Counts::new(),
     );
-    assert_eq!(rt; served, Ok(1));
-    assert_eq!(rt; seen?, [true, true, true]);
+    let seen = assert_served(&rt, served, seen, 1);
+    assert_same(&rt, &seen, &[true; 3], &"served, answered and prompt");
     let _device = assert_opens_to(&rt, alloc, device, 0, 0);
-    Ok(())
 }
 
 /// Two sessions, one after the other.
@@ -256,13 +256,17 @@ impl Clients for Twice {
 // The second listener is shut down before the server begins, so that its first accept says that it
 // is broken.
 #[test]
-fn a_broken_second_listener_ends_its_thread_alone(rt: HostRuntime) -> Result<(), Fail> {
+fn a_broken_second_listener_ends_its_thread_alone(rt: HostRuntime) {
     let alloc = rt.alloc();
     let device = formatted(&rt, alloc, LEAST);
     let options = options(&rt, alloc, 2);
     let (listener, _at) = listen(&rt);
-    let stop = TcpStream::from(OwnedFd::from(listener.try_clone()?));
-    stop.shutdown(Shutdown::Both)?;
+    let other = listener
+        .try_clone()
+        .expect(&rt, "the listener has a second handle");
+    let stop = TcpStream::from(OwnedFd::from(other));
+    stop.shutdown(Shutdown::Both)
+        .expect(&rt, "the listener is shut down");
     let counts = Counts::new();
     let (device, served, seen) = serve_watched(
         &rt,
@@ -273,10 +277,8 @@ fn a_broken_second_listener_ends_its_thread_alone(rt: HostRuntime) -> Result<(),
         &Twice,
         &counts,
     );
-    assert_eq!(rt; served, Ok(2));
-    let [first, second] = seen?;
-    assert!(rt; first && second);
-    assert_eq!(rt; counts.stopped(), 0);
+    let seen = assert_served(&rt, served, seen, 2);
+    assert_same(&rt, &seen, &[true; 2], &"sessions that are answered");
+    assert_same(&rt, &counts.stopped(), &0, &"stopped");
     let _device = assert_opens_to(&rt, alloc, device, 0, 0);
-    Ok(())
 }

@@ -1,13 +1,13 @@
 //! How sessions end.
 
-use crate::server::peers::{EMPTY_LOOKUP, NO_DESTINATION, Peer, replies};
+use crate::server::checks::{assert_same, assert_true};
+use crate::server::peers::{EMPTY_LOOKUP, NO_DESTINATION, Peer, assert_replies, replies};
 use crate::server::rows::{FOUND, LOOKUP, NOTHING, REGISTERED, REGISTRATION};
 use crate::server::stores::{LEAST, assert_opens_to, formatted};
-use crate::server::worlds::{Clients, Counts, Outside, options, serve_clients};
+use crate::server::worlds::{Clients, Counts, Outside, assert_served, options, serve_clients};
 use std::alloc::Global;
 use std::io;
 use std::net::SocketAddr;
-use std::test::Fail;
 use std::time::Duration;
 
 /// Ends sessions by faults of their frames: by no kind, by a length that no frame has, and within a
@@ -34,7 +34,7 @@ impl Clients for Faults {
 }
 
 #[test]
-fn frame_faults_end_their_session_alone(rt: HostRuntime) -> Result<(), Fail> {
+fn frame_faults_end_their_session_alone(rt: HostRuntime) {
     let alloc = rt.alloc();
     let device = formatted(&rt, alloc, LEAST);
     let options = options(&rt, alloc, 4);
@@ -46,14 +46,10 @@ fn frame_faults_end_their_session_alone(rt: HostRuntime) -> Result<(), Fail> {
         &Faults,
         &Counts::new(),
     );
-    assert_eq!(rt; served, Ok(4));
+    let seen = assert_served(&rt, served, seen, 4);
     let wanted = [PLACE_0, NO_DESTINATION, NO_DESTINATION, NOTHING];
-    let seen = seen?;
-    for (number, (replies, wanted)) in seen.iter().zip(&wanted).enumerate() {
-        assert_eq!(rt; replies.as_str(), *wanted, "session {number}");
-    }
+    assert_replies(&rt, &seen, &wanted);
     let _device = assert_opens_to(&rt, alloc, device, 0, 1);
-    Ok(())
 }
 
 /// Sends each byte by itself.
@@ -71,16 +67,15 @@ impl Clients for Slow {
 }
 
 #[test]
-fn bytes_may_come_one_by_one(rt: HostRuntime) -> Result<(), Fail> {
+fn bytes_may_come_one_by_one(rt: HostRuntime) {
     let alloc = rt.alloc();
     let device = formatted(&rt, alloc, LEAST);
     let options = options(&rt, alloc, 1);
     let (device, served, seen) = serve_clients(&rt, alloc, device, &options, &Slow, &Counts::new());
-    assert_eq!(rt; served, Ok(1));
-    let seen = seen?;
-    assert_eq!(rt; seen.as_str().strip_prefix(REGISTERED), Some(FOUND));
+    let seen = assert_served(&rt, served, seen, 1);
+    let found = seen.as_str().strip_prefix(REGISTERED);
+    assert_same(&rt, &found, &Some(FOUND), &"found");
     let _device = assert_opens_to(&rt, alloc, device, 1, 1);
-    Ok(())
 }
 
 /// Two peers: the first one is silent until the server ends its session, and the second one is
@@ -101,7 +96,7 @@ impl Clients for SilentPeer {
 }
 
 #[test]
-fn silent_peers_are_given_up(rt: HostRuntime) -> Result<(), Fail> {
+fn silent_peers_are_given_up(rt: HostRuntime) {
     let alloc = rt.alloc();
     let device = formatted(&rt, alloc, LEAST);
     let mut options = options(&rt, alloc, 2);
@@ -114,10 +109,8 @@ fn silent_peers_are_given_up(rt: HostRuntime) -> Result<(), Fail> {
         &SilentPeer,
         &Counts::new(),
     );
-    assert_eq!(rt; served, Ok(2));
-    let (is_served, received) = seen?;
-    assert!(rt; is_served);
-    assert_eq!(rt; received.as_str(), "");
+    let (is_served, received) = assert_served(&rt, served, seen, 2);
+    assert_true(&rt, is_served, "the second peer is served");
+    assert_same(&rt, &received.as_str(), &"", &"received");
     let _device = assert_opens_to(&rt, alloc, device, 0, 0);
-    Ok(())
 }

@@ -1,16 +1,18 @@
 //! A device that holds a sync for long, while peers wait for their commits, give up and come again.
 
+use crate::server::checks::{assert_same, assert_true};
 use crate::server::doors::{Door, Holds, Latch, nap};
 use crate::server::peers::{Peer, replies, seated};
 use crate::server::rows::{FOUND, LOOKUP, NOTHING, PURGE, REGISTERED, REGISTRATION};
 use crate::server::stores::{LEAST, assert_opens_to, formatted};
-use crate::server::worlds::{Clients, Counts, Met, Outside, World, options, serve_clients};
+use crate::server::worlds::{
+    Clients, Counts, Met, Outside, World, assert_served, options, serve_clients,
+};
 use path_server::Options;
 use sector_dev::MemDevice;
 use std::alloc::Global;
 use std::io;
 use std::net::SocketAddr;
-use std::test::Fail;
 use test_fault_devices::HeldDevice;
 
 /// How many of the 64 seats are for sessions without commands under way.
@@ -105,21 +107,20 @@ impl Clients for GivingUp<'_> {
 // The 120 commands of the peers that gave up go on: each purge has its place, before that of a
 // purge that comes later.
 #[test]
-fn seats_are_given_back_while_the_device_hangs(rt: HostRuntime) -> Result<(), Fail> {
+fn seats_are_given_back_while_the_device_hangs(rt: HostRuntime) {
     let alloc = rt.alloc();
     let door = Door::new();
     let mut options = options(&rt, alloc, 0);
     options.spare = SPARE;
     let clients = GivingUp { door: &door };
     let (device, _served, seen) = meet_held(&rt, alloc, &door, &options, &clients);
-    let (is_held, answered, last) = seen?;
-    assert!(rt; is_held);
-    assert_eq!(rt; answered, ROUNDS);
-    assert_eq!(rt; last, [true; 3]);
-    assert_eq!(rt; door.latch(&rt), Latch::Open);
+    let (is_held, answered, last) = seen.expect(&rt, "the clients meet the server");
+    assert_true(&rt, is_held, "a sync is held");
+    assert_same(&rt, &answered, &ROUNDS, &"rounds that are answered");
+    assert_same(&rt, &last, &[true; 3], &"the last replies");
+    assert_same(&rt, &door.latch(&rt), &Latch::Open, &"latch");
     let (device, _gate) = device.into_parts();
     let _device = assert_opens_to(&rt, alloc, device, 1, 2 + ROUNDS * PEERS);
-    Ok(())
 }
 
 /// Has one more session send a command than have room, while a sync is held.
@@ -189,24 +190,23 @@ impl Clients for Waiting<'_> {
 }
 
 #[test]
-fn spare_seats_have_no_commands_under_way(rt: HostRuntime) -> Result<(), Fail> {
+fn spare_seats_have_no_commands_under_way(rt: HostRuntime) {
     let alloc = rt.alloc();
     let door = Door::new();
     let mut options = options(&rt, alloc, 0);
     options.spare = SPARE;
     let clients = Waiting { door: &door };
     let (device, _served, seen) = meet_held(&rt, alloc, &door, &options, &clients);
-    let (seen, outcomes) = seen?;
-    assert_eq!(rt; seen, [true; 3]);
+    let (seen, outcomes) = seen.expect(&rt, "the clients meet the server");
+    assert_same(&rt, &seen, &[true; 3], &"held, answered and acknowledged");
     let wanted = Outcomes {
         acknowledged: ROOMS - 1,
         busy: 1,
     };
-    assert_eq!(rt; outcomes, wanted);
-    assert_eq!(rt; door.latch(&rt), Latch::Open);
+    assert_same(&rt, &outcomes, &wanted, &"purges");
+    assert_same(&rt, &door.latch(&rt), &Latch::Open, &"latch");
     let (device, _gate) = device.into_parts();
     let _device = assert_opens_to(&rt, alloc, device, 1, ROOMS as u64);
-    Ok(())
 }
 
 /// A peer sends a command and ends its side while a sync is held, and waits for the reply.
@@ -238,17 +238,15 @@ impl Clients for Ending<'_> {
 
 // The purge that is not awaited has the place 1.
 #[test]
-fn a_peer_that_has_ended_its_side_is_not_awaited(rt: HostRuntime) -> Result<(), Fail> {
+fn a_peer_that_has_ended_its_side_is_not_awaited(rt: HostRuntime) {
     let alloc = rt.alloc();
     let door = Door::new();
     let options = options(&rt, alloc, 2);
     let clients = Ending { door: &door };
     let (device, served, seen) = meet_held(&rt, alloc, &door, &options, &clients);
-    assert_eq!(rt; served, Ok(2));
-    let (seen, given_up) = seen?;
-    assert_eq!(rt; seen, [true; 3]);
-    assert_eq!(rt; given_up.as_str(), NOT_AWAITED);
+    let (seen, given_up) = assert_served(&rt, served, seen, 2);
+    assert_same(&rt, &seen, &[true; 3], &"held, acknowledged and next");
+    assert_same(&rt, &given_up.as_str(), &NOT_AWAITED, &"given up");
     let (device, _gate) = device.into_parts();
     let _device = assert_opens_to(&rt, alloc, device, 1, 3);
-    Ok(())
 }

@@ -1,13 +1,13 @@
 //! Servers that are asked to end.
 
+use crate::server::checks::assert_same;
 use crate::server::peers::{EMPTY_LOOKUP, NO_DESTINATION, Peer};
 use crate::server::rows::{REGISTERED, REGISTRATION};
 use crate::server::stores::{LEAST, assert_opens_to, formatted};
-use crate::server::worlds::{Clients, Counts, Outside, options, serve_clients};
+use crate::server::worlds::{Clients, Counts, Outside, assert_served, options, serve_clients};
 use std::alloc::Global;
 use std::io;
 use std::net::SocketAddr;
-use std::test::Fail;
 
 /// Registers, asks the server to end, and waits until the server ends the session.
 #[derive(Drop)]
@@ -29,7 +29,7 @@ impl Clients for Staying<'_> {
 }
 
 #[test]
-fn an_open_session_ends_after_the_grace(rt: HostRuntime) -> Result<(), Fail> {
+fn an_open_session_ends_after_the_grace(rt: HostRuntime) {
     let alloc = rt.alloc();
     let device = formatted(&rt, alloc, LEAST);
     let mut options = options(&rt, alloc, 0);
@@ -37,10 +37,9 @@ fn an_open_session_ends_after_the_grace(rt: HostRuntime) -> Result<(), Fail> {
     let counts = Counts::new();
     let clients = Staying { counts: &counts };
     let (device, served, seen) = serve_clients(&rt, alloc, device, &options, &clients, &counts);
-    assert_eq!(rt; served, Ok(1));
-    assert_eq!(rt; seen?, [true; 3]);
-    assert_eq!(rt; counts.ready(), 1);
-    assert_eq!(rt; counts.stopped(), 0);
+    let seen = assert_served(&rt, served, seen, 1);
+    assert_same(&rt, &seen, &[true; 3], &"acknowledged, answered and silent");
+    assert_same(&rt, &counts.ready(), &1, &"ready");
+    assert_same(&rt, &counts.stopped(), &0, &"stopped");
     let _device = assert_opens_to(&rt, alloc, device, 1, 1);
-    Ok(())
 }

@@ -1,15 +1,15 @@
 //! Peers that are slow, and the seats that they hold.
 
+use crate::server::checks::{assert_same, assert_true};
 use crate::server::doors::nap;
 use crate::server::peers::{EMPTY_LOOKUP, NO_DESTINATION, Peer};
 use crate::server::seats::NO_SEAT;
 use crate::server::stores::{LEAST, assert_opens_to, formatted};
-use crate::server::worlds::{Clients, Counts, Outside, options, serve_clients};
+use crate::server::worlds::{Clients, Counts, Outside, assert_served, options, serve_clients};
 use std::alloc::Global;
 use std::io;
 use std::io::ErrorKind;
 use std::net::SocketAddr;
-use std::test::Fail;
 use std::thread::sleep;
 use std::time::{Clock, Duration, Instant};
 
@@ -37,19 +37,17 @@ impl Clients for Dripping {
 }
 
 #[test]
-fn a_frame_has_to_be_whole_within_the_idle_time(rt: HostRuntime) -> Result<(), Fail> {
+fn a_frame_has_to_be_whole_within_the_idle_time(rt: HostRuntime) {
     let alloc = rt.alloc();
     let device = formatted(&rt, alloc, LEAST);
     let mut options = options(&rt, alloc, 2);
     options.idle = Some(Duration::from_secs(2));
     let counts = Counts::new();
     let (device, served, seen) = serve_clients(&rt, alloc, device, &options, &Dripping, &counts);
-    assert_eq!(rt; served, Ok(2));
-    let (received, is_served) = seen?;
-    assert_eq!(rt; received.as_str(), "");
-    assert!(rt; is_served);
+    let (received, is_served) = assert_served(&rt, served, seen, 2);
+    assert_same(&rt, &received.as_str(), &"", &"received");
+    assert_true(&rt, is_served, "the other peer is served");
     let _device = assert_opens_to(&rt, alloc, device, 0, 0);
-    Ok(())
 }
 
 /// How many requests a peer sends at one time.
@@ -119,7 +117,7 @@ impl Clients for Flooding {
 }
 
 #[test]
-fn a_peer_that_reads_nothing_leaves_its_seat(rt: HostRuntime) -> Result<(), Fail> {
+fn a_peer_that_reads_nothing_leaves_its_seat(rt: HostRuntime) {
     let alloc = rt.alloc();
     let device = formatted(&rt, alloc, LEAST);
     let mut options = options(&rt, alloc, 2);
@@ -127,12 +125,10 @@ fn a_peer_that_reads_nothing_leaves_its_seat(rt: HostRuntime) -> Result<(), Fail
     options.peer_sessions = 1;
     let counts = Counts::new();
     let (device, served, seen) = serve_clients(&rt, alloc, device, &options, &Flooding, &counts);
-    assert_eq!(rt; served, Ok(2));
-    let (refused, waited) = seen?;
-    assert_eq!(rt; refused.as_str(), NO_SEAT);
-    assert!(rt; counts.address_full() >= 1);
-    assert_eq!(rt; counts.turned_away(), 0);
-    assert!(rt; waited < LONGEST);
+    let (refused, waited) = assert_served(&rt, served, seen, 2);
+    assert_same(&rt, &refused.as_str(), &NO_SEAT, &"refused");
+    assert_true(&rt, counts.address_full() >= 1, "an address is full");
+    assert_same(&rt, &counts.turned_away(), &0, &"turned away");
+    assert_same(&rt, &(waited < LONGEST), &true, &waited);
     let _device = assert_opens_to(&rt, alloc, device, 0, 0);
-    Ok(())
 }

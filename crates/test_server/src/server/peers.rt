@@ -1,10 +1,12 @@
 //! Peers of a server.
 
+use crate::server::checks::assert_same;
 use crate::server::worlds::Outside;
 use std::alloc::Global;
 use std::io;
 use std::io::{ErrorKind, Read, Write};
 use std::net::{Shutdown, SocketAddr, TcpStream};
+use std::process::Abort;
 use std::time::Duration;
 
 /// How long a peer waits for the server, in seconds.
@@ -103,6 +105,13 @@ pub(crate) fn replies<R: Outside>(
     let mut peer = Peer::connect(rt, alloc, to)?;
     peer.send(requests)?;
     peer.end()
+}
+
+/// Sees that sessions were replied this, each by its number.
+pub(crate) fn assert_replies(rt: &impl Abort, seen: &[String; 4], wanted: &[&str; 4]) {
+    for (number, (replies, wanted)) in seen.iter().zip(wanted).enumerate() {
+        assert_same(rt, &replies.as_str(), wanted, &number);
+    }
 }
 
 /// A peer that has a seat. An earlier session may not have left its own yet, so the peer asks

@@ -1,10 +1,11 @@
 //! A server that purges by itself.
 
+use crate::server::checks::{assert_same, assert_true};
 use crate::server::doors::nap;
 use crate::server::peers::{EMPTY_LOOKUP, NO_DESTINATION, Peer};
 use crate::server::rows::{FOUND, LOOKUP, REGISTERED, REGISTRATION};
 use crate::server::stores::{LEAST, assert_opens_to, failing, formatted, opened};
-use crate::server::worlds::{Clients, Counts, Outside, options, serve_clients};
+use crate::server::worlds::{Clients, Counts, Outside, assert_served, options, serve_clients};
 use path_server::Options;
 use std::alloc::Global;
 use std::io;
@@ -48,20 +49,19 @@ impl Clients for Staying {
 
 // Each purge takes a place of its own, and drops nothing that is valid.
 #[test]
-fn server_purges_by_itself(rt: HostRuntime) -> Result<(), Fail> {
+fn server_purges_by_itself(rt: HostRuntime) {
     let alloc = rt.alloc();
     let device = formatted(&rt, alloc, LEAST);
     let options = purging(&rt, alloc, Duration::from_millis(PERIOD));
     let counts = Counts::new();
     let (device, served, seen) = serve_clients(&rt, alloc, device, &options, &Staying, &counts);
-    assert_eq!(rt; served, Ok(1));
-    assert_eq!(rt; seen?, [true; 2]);
-    assert_eq!(rt; counts.not_purged(), 0);
+    let seen = assert_served(&rt, served, seen, 1);
+    assert_same(&rt, &seen, &[true; 2], &"open and found");
+    assert_same(&rt, &counts.not_purged(), &0, &"not purged");
     let store = opened(&rt, alloc, device);
     let place = store.place();
-    assert!(rt; place > 1);
+    assert_true(&rt, place > 1, "a purge has a place");
     let _device = assert_opens_to(&rt, alloc, store.into_device(), 1, place);
-    Ok(())
 }
 
 /// Registers once, and ends its session.
@@ -77,16 +77,15 @@ impl Clients for Leaving {
 
 // The server ends before its first period does.
 #[test]
-fn end_does_not_wait_for_a_period(rt: HostRuntime) -> Result<(), Fail> {
+fn end_does_not_wait_for_a_period(rt: HostRuntime) {
     let alloc = rt.alloc();
     let device = formatted(&rt, alloc, LEAST);
     let options = purging(&rt, alloc, Duration::from_secs(1_000_000));
     let counts = Counts::new();
     let (device, served, seen) = serve_clients(&rt, alloc, device, &options, &Leaving, &counts);
-    assert_eq!(rt; served, Ok(1));
-    assert_eq!(rt; seen?, true);
+    let seen = assert_served(&rt, served, seen, 1);
+    assert_true(&rt, seen, "the registration is acknowledged");
     let _device = assert_opens_to(&rt, alloc, device, 1, 1);
-    Ok(())
 }
 
 /// Waits until a purge was refused, and for some more periods.
@@ -122,9 +121,9 @@ fn refused_purges_are_reported_once(rt: HostRuntime) -> Result<(), Fail> {
     let counts = Counts::new();
     let clients = Refused { counts: &counts };
     let (_device, served, seen) = serve_clients(&rt, alloc, device, &options, &clients, &counts);
-    assert_eq!(rt; served, Ok(1));
-    assert_eq!(rt; seen?, true);
-    assert_eq!(rt; counts.not_purged(), 1);
-    assert_eq!(rt; counts.stopped(), 1);
+    assert_same(&rt, &served, &Ok(1), &"sessions");
+    assert_true(&rt, seen?, "the session goes on");
+    assert_same(&rt, &counts.not_purged(), &1, &"not purged");
+    assert_same(&rt, &counts.stopped(), &1, &"stopped");
     Ok(())
 }

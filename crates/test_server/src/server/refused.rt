@@ -2,6 +2,7 @@
 //! refused in turn: a server whose actors are not given, or the thread of its second listener, ends
 //! by that, and reports no fault of its device.
 
+use crate::server::checks::{assert_same, assert_true};
 use crate::server::stores::{LEAST, assert_opens_to, formatted, opened};
 use crate::server::worlds::{Counts, World};
 use path_server::{Listener, Listeners, Options, RunError, serve_store};
@@ -9,7 +10,6 @@ use seg_lookup::Roster;
 use std::alloc::Global;
 use std::io;
 use std::net::{OpenListener, SocketAddr, TcpStream};
-use std::test::Fail;
 use std::time::Duration;
 
 /// A listener that is none.
@@ -55,30 +55,28 @@ fn has_threads<R: World>(rt: R, alloc: Global, status: Option<Broken>) -> bool {
         &options,
         &counts,
     );
-    assert_eq!(&rt; counts.stopped(), 0);
+    assert_same(&rt, &counts.stopped(), &0, &"stopped");
     let _device = assert_opens_to(&rt, alloc, device, 0, 0);
     if served == Err(RunError::NoMemory) {
-        assert_eq!(&rt; counts.ready(), 0);
+        assert_same(&rt, &counts.ready(), &0, &"ready without threads");
         return false;
     }
-    assert_eq!(&rt; served, Err(RunError::Net));
-    assert_eq!(&rt; counts.ready(), 1);
+    assert_same(&rt, &served, &Err(RunError::Net), &"served");
+    assert_same(&rt, &counts.ready(), &1, &"ready");
     true
 }
 
 // At most one allocation is refused, so that of two servers one has its actors.
 #[test]
-fn refused_memory_of_actors(rt: HostRuntime) -> Result<(), Fail> {
+fn refused_memory_of_actors(rt: HostRuntime) {
     let first = has_threads(&rt, rt.alloc(), None);
     let second = has_threads(&rt, rt.alloc(), None);
-    assert!(rt; first || second);
-    Ok(())
+    assert_true(&rt, first || second, "one of two servers has its threads");
 }
 
 #[test]
-fn refused_memory_of_a_second_listener(rt: HostRuntime) -> Result<(), Fail> {
+fn refused_memory_of_a_second_listener(rt: HostRuntime) {
     let first = has_threads(&rt, rt.alloc(), Some(Broken));
     let second = has_threads(&rt, rt.alloc(), Some(Broken));
-    assert!(rt; first || second);
-    Ok(())
+    assert_true(&rt, first || second, "one of two servers has its threads");
 }

@@ -1,5 +1,6 @@
 //! A second listener, whose sessions only look up.
 
+use crate::server::checks::assert_same;
 use crate::server::peers::{EMPTY_LOOKUP, NO_DESTINATION, Peer, replies};
 use crate::server::rows::{FOUND, LOOKUP, NOTHING, PURGE, REGISTERED, REGISTRATION};
 use crate::server::stores::{LEAST, assert_opens_to, formatted};
@@ -70,8 +71,8 @@ fn commands_are_refused_at_the_listener_of_lookups(rt: HostRuntime) -> Result<()
     let clients = Asking { lookups };
     let counts = Counts::new();
     let (served, seen) = meet_both(&rt, alloc, listener, &options, &clients, &counts);
-    assert_eq!(rt; served, 2);
-    assert_eq!(rt; seen?, [true; 6]);
+    assert_same(&rt, &served, &2, &"sessions");
+    assert_same(&rt, &seen?, &[true; 6], &"replies");
     Ok(())
 }
 
@@ -112,7 +113,7 @@ impl Clients for Filling {
 
 // More seats for lookups are wanted than there may be. The server ends as its listener is shut down.
 #[test]
-fn each_listener_has_seats_of_its_own(rt: HostRuntime) -> Result<(), Fail> {
+fn each_listener_has_seats_of_its_own(rt: HostRuntime) {
     let alloc = rt.alloc();
     let mut options = options(&rt, alloc, 0);
     options.lookup_seats = MOST_SESSIONS;
@@ -120,9 +121,9 @@ fn each_listener_has_seats_of_its_own(rt: HostRuntime) -> Result<(), Fail> {
     let clients = Filling { lookups };
     let counts = Counts::new();
     let (served, seen) = meet_both(&rt, alloc, listener, &options, &clients, &counts);
-    assert_eq!(rt; served, 0);
-    assert_eq!(rt; seen?, [true; 3]);
-    assert_eq!(rt; counts.turned_away(), 1);
-    assert_eq!(rt; counts.lookups_turned_away(), 1);
-    Ok(())
+    assert_same(&rt, &served, &0, &"sessions");
+    let seen = seen.expect(&rt, "the clients meet the server");
+    assert_same(&rt, &seen, &[true; 3], &"refused, full and registered");
+    assert_same(&rt, &counts.turned_away(), &1, &"turned away");
+    assert_same(&rt, &counts.lookups_turned_away(), &1, &"lookups");
 }

@@ -1,13 +1,15 @@
 //! Sessions as they should be.
 
-use crate::server::peers::{Peer, replies};
+use crate::server::checks::assert_same;
+use crate::server::peers::{Peer, assert_replies, replies};
 use crate::server::stores::{LEAST, assert_opens_to, formatted};
-use crate::server::worlds::{Clients, Counts, Outside, World, options, serve_clients};
+use crate::server::worlds::{
+    Clients, Counts, Outside, World, assert_served, options, serve_clients,
+};
 use seg_check::Keyed;
 use std::alloc::Global;
 use std::io;
 use std::net::SocketAddr;
-use std::test::Fail;
 pub(crate) use test_support::digits::{FOUND_2096 as FOUND, LOOKUP, REGISTER_2096 as REGISTRATION};
 
 /// The place 0, and one segment inserted.
@@ -54,7 +56,7 @@ const TALKED: [&str; 4] = [
 ];
 
 #[test]
-fn register_then_lookup(rt: HostRuntime) -> Result<(), Fail> {
+fn register_then_lookup(rt: HostRuntime) {
     let alloc = rt.alloc();
     let device = formatted(&rt, alloc, LEAST);
     let options = options(&rt, alloc, 4);
@@ -66,13 +68,9 @@ fn register_then_lookup(rt: HostRuntime) -> Result<(), Fail> {
         &Talks,
         &Counts::new(),
     );
-    assert_eq!(rt; served, Ok(4));
-    let seen = seen?;
-    for (replies, wanted) in seen.iter().zip(&TALKED) {
-        assert_eq!(rt; replies.as_str(), *wanted);
-    }
+    let seen = assert_served(&rt, served, seen, 4);
+    assert_replies(&rt, &seen, &TALKED);
     let _device = assert_opens_to(&rt, alloc, device, 1, 5);
-    Ok(())
 }
 
 /// Registers a segment that nobody has signed, and looks it up.
@@ -90,7 +88,7 @@ impl Clients for Unsigned {
 }
 
 #[test]
-fn signatures_are_checked_by_the_key(rt: HostRuntime) -> Result<(), Fail> {
+fn signatures_are_checked_by_the_key(rt: HostRuntime) {
     let alloc = rt.alloc();
     let device = formatted(&rt, alloc, LEAST);
     let mut options = options(&rt, alloc, 1);
@@ -103,11 +101,10 @@ fn signatures_are_checked_by_the_key(rt: HostRuntime) -> Result<(), Fail> {
         &Unsigned,
         &Counts::new(),
     );
-    assert_eq!(rt; served, Ok(1));
-    let seen = seen?;
-    assert_eq!(rt; seen.as_str().strip_prefix(NO_SIGNATURE), Some(NOTHING));
+    let seen = assert_served(&rt, served, seen, 1);
+    let found = seen.as_str().strip_prefix(NO_SIGNATURE);
+    assert_same(&rt, &found, &Some(NOTHING), &"found");
     let _device = assert_opens_to(&rt, alloc, device, 0, 0);
-    Ok(())
 }
 
 /// The refusal of a time that lies in the future.
@@ -143,13 +140,8 @@ fn assert_early<R: World>(
     let mut options = options(&rt, alloc, 4);
     options.future = bound;
     let (device, served, seen) = serve_clients(rt, alloc, device, &options, &Early, &Counts::new());
-    assert_eq!(&rt; served, Ok(4));
-    let Ok(seen) = seen else {
-        panic!(&rt; "a session failed");
-    };
-    for (replies, wanted) in seen.iter().zip(&wanted) {
-        assert_eq!(&rt; replies.as_str(), *wanted);
-    }
+    let seen = assert_served(&rt, served, seen, 4);
+    assert_replies(&rt, &seen, &wanted);
     let _device = assert_opens_to(&rt, alloc, device, rows, place);
 }
 

@@ -1,13 +1,15 @@
 //! The 64 seats of a server.
 
+use crate::server::checks::{assert_same, assert_true};
 use crate::server::doors::nap;
 use crate::server::peers::{Peer, seated};
 use crate::server::stores::{LEAST, assert_opens_to, formatted, opened};
-use crate::server::worlds::{Clients, Counts, Outside, listen, options, serve_clients};
+use crate::server::worlds::{
+    Clients, Counts, Outside, assert_served, listen, options, serve_clients,
+};
 use path_server::{Listeners, serve_store};
 use std::alloc::Global;
 use std::net::{SocketAddr, TcpStream};
-use std::test::Fail;
 use std::{io, thread};
 
 /// How many sessions there may be at one time.
@@ -36,20 +38,19 @@ impl Clients for Crowd {
 }
 
 #[test]
-fn the_65th_is_turned_away(rt: HostRuntime) -> Result<(), Fail> {
+fn the_65th_is_turned_away(rt: HostRuntime) {
     let alloc = rt.alloc();
     let device = formatted(&rt, alloc, LEAST);
     let options = options(&rt, alloc, 65);
     let counts = Counts::new();
     let (device, served, seen) = serve_clients(&rt, alloc, device, &options, &Crowd, &counts);
-    assert_eq!(rt; served, Ok(65));
-    for reply in &seen? {
-        assert_eq!(rt; reply.as_str(), NO_SEAT);
+    let seen = assert_served(&rt, served, seen, 65);
+    for reply in &seen {
+        assert_same(&rt, &reply.as_str(), &NO_SEAT, &"a peer without a seat");
     }
-    assert!(rt; counts.turned_away() >= 1);
-    assert_eq!(rt; counts.stopped(), 0);
+    assert_true(&rt, counts.turned_away() >= 1, "a peer is turned away");
+    assert_same(&rt, &counts.stopped(), &0, &"stopped");
     let _device = assert_opens_to(&rt, alloc, device, 0, 0);
-    Ok(())
 }
 
 /// How often a peer tries to connect to a server that has closed its listener.
@@ -69,7 +70,7 @@ fn is_closed_soon<R: Outside>(rt: R, alloc: Global, to: SocketAddr) -> io::Resul
 }
 
 #[test]
-fn the_listener_is_closed_after_the_last(rt: HostRuntime) -> Result<(), Fail> {
+fn the_listener_is_closed_after_the_last(rt: HostRuntime) {
     let alloc = rt.alloc();
     let device = formatted(&rt, alloc, LEAST);
     let options = options(&rt, alloc, 1);
@@ -90,8 +91,7 @@ fn the_listener_is_closed_after_the_last(rt: HostRuntime) -> Result<(), Fail> {
         },
         || is_closed_soon(&rt, alloc, to),
     );
-    assert_eq!(rt; served, Ok(1));
-    assert!(rt; is_closed?);
+    let is_closed = assert_served(&rt, served, is_closed, 1);
+    assert_true(&rt, is_closed, "the listener is closed soon");
     let _device = assert_opens_to(&rt, alloc, device, 0, 0);
-    Ok(())
 }

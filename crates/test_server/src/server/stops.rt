@@ -1,14 +1,14 @@
 //! A sync that is held, and a device that fails, while sessions are open.
 
+use crate::server::checks::assert_same;
 use crate::server::doors::{Door, Holds, Latch};
 use crate::server::peers::{EMPTY_LOOKUP, NO_DESTINATION, Peer};
 use crate::server::rows::{FOUND, LOOKUP, NOTHING, PURGE, REGISTERED, REGISTRATION};
 use crate::server::stores::{LEAST, assert_opens_to, failing, formatted};
-use crate::server::worlds::{Clients, Counts, Outside, options, serve_clients};
+use crate::server::worlds::{Clients, Counts, Outside, assert_served, options, serve_clients};
 use std::alloc::Global;
 use std::io;
 use std::net::SocketAddr;
-use std::test::Fail;
 use test_fault_devices::HeldDevice;
 
 /// One session registers while a sync of its group is held, and another looks up meanwhile; then
@@ -47,7 +47,7 @@ impl Clients for Holding<'_> {
 }
 
 #[test]
-fn held_sync_lookup(rt: HostRuntime) -> Result<(), Fail> {
+fn held_sync_lookup(rt: HostRuntime) {
     let alloc = rt.alloc();
     let door = Door::new();
     let holds = Holds {
@@ -65,12 +65,11 @@ fn held_sync_lookup(rt: HostRuntime) -> Result<(), Fail> {
         &clients,
         &Counts::new(),
     );
-    assert_eq!(rt; served, Ok(2));
-    assert_eq!(rt; seen?, [true; 6]);
-    assert_eq!(rt; door.latch(&rt), Latch::Open);
+    let seen = assert_served(&rt, served, seen, 2);
+    assert_same(&rt, &seen, &[true; 6], &"seen");
+    assert_same(&rt, &door.latch(&rt), &Latch::Open, &"latch");
     let (device, _gate) = device.into_parts();
     let _device = assert_opens_to(&rt, alloc, device, 1, 1);
-    Ok(())
 }
 
 /// The most lookups while a stop is not reported yet.
@@ -120,16 +119,15 @@ impl Clients for Failing<'_> {
 }
 
 #[test]
-fn lookups_go_on_after_a_fault(rt: HostRuntime) -> Result<(), Fail> {
+fn lookups_go_on_after_a_fault(rt: HostRuntime) {
     let alloc = rt.alloc();
     let device = failing(&rt, alloc);
     let options = options(&rt, alloc, 2);
     let counts = Counts::new();
     let clients = Failing { counts: &counts };
     let (_device, served, seen) = serve_clients(&rt, alloc, device, &options, &clients, &counts);
-    assert_eq!(rt; served, Ok(2));
-    assert_eq!(rt; seen?, [true; 6]);
-    assert_eq!(rt; counts.stopped(), 1);
-    assert_eq!(rt; counts.turned_away(), 0);
-    Ok(())
+    let seen = assert_served(&rt, served, seen, 2);
+    assert_same(&rt, &seen, &[true; 6], &"seen");
+    assert_same(&rt, &counts.stopped(), &1, &"stopped");
+    assert_same(&rt, &counts.turned_away(), &0, &"turned away");
 }

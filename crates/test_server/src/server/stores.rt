@@ -1,5 +1,6 @@
 //! Stores on devices in memory.
 
+use crate::server::checks::{assert_same, assert_true};
 use sector_dev::{Device, MemDevice};
 use std::alloc::Global;
 use std::process::Abort;
@@ -20,15 +21,13 @@ const MANY: u64 = 1000;
 /// A new store of these sizes. Where memory is refused, it is asked for once more.
 pub(crate) fn formatted(rt: &impl Abort, alloc: Global, geometry: Geometry) -> MemDevice {
     let sectors = geometry.sectors();
-    assert!(rt; sectors <= 4096);
+    assert_true(rt, sectors <= 4096, "the device is small");
     let made = match MemDevice::new(alloc, sectors) {
         Err(_) => MemDevice::new(alloc, sectors),
         made => made,
     };
-    let Ok(mut device) = made else {
-        panic!(rt; "out of memory");
-    };
-    assert_eq!(rt; format(&mut device, geometry), Ok(()));
+    let mut device = made.expect(rt, "the device has memory");
+    assert_same(rt, &format(&mut device, geometry), &Ok(()), &"format");
     device
 }
 
@@ -57,10 +56,10 @@ pub(crate) fn assert_opens_to<D: Device>(
 ) -> D {
     let store = opened(rt, alloc, device);
     let database = store.db();
-    assert_eq!(rt; database.rows().count(), rows, "rows");
+    assert_same(rt, &database.rows().count(), &rows, &"rows");
     let bytes = ROW.saturating_mul(rows as u64);
-    assert_eq!(rt; database.encoded_len(), bytes, "bytes");
-    assert_eq!(rt; store.place(), place, "place");
+    assert_same(rt, &database.encoded_len(), &bytes, &"bytes");
+    assert_same(rt, &store.place(), &place, &"place");
     store.into_device()
 }
 

@@ -1,17 +1,19 @@
 //! Requests of a server's numbers, at its second listener.
 
+use crate::server::checks::assert_same;
 use crate::server::doors::{Door, Holds, Latch};
 use crate::server::page::is_page;
 use crate::server::peers::{EMPTY_LOOKUP, NO_DESTINATION, Peer};
 use crate::server::rows::{FOUND, LOOKUP, PURGE, REGISTERED, REGISTRATION};
 use crate::server::stores::{LEAST, assert_opens_to, failing, formatted};
-use crate::server::worlds::{Clients, Counts, Outside, World, listen, options, serve_watched};
+use crate::server::worlds::{
+    Clients, Counts, Outside, World, assert_served, listen, options, serve_watched,
+};
 use path_server::set_accept_timeout;
 use std::alloc::Global;
 use std::io;
 use std::io::{ErrorKind, Read, Write};
 use std::net::{Shutdown, SocketAddr, TcpListener, TcpStream};
-use std::test::Fail;
 use std::time::Duration;
 use test_fault_devices::HeldDevice;
 
@@ -36,7 +38,7 @@ const GET_PLOTS: &str = "GET / HTTP/1.1\r\nHost: localhost\r\n\r\n";
 /// A listener for requests of the numbers, and its address.
 pub(crate) fn listen_for_status<R: World>(rt: R) -> (Option<TcpListener>, SocketAddr) {
     let (listener, at) = listen(rt);
-    assert!(&rt; set_accept_timeout(&listener).is_ok());
+    set_accept_timeout(&listener).expect(&rt, "accepts are bounded");
     (Some(listener), at)
 }
 
@@ -118,7 +120,7 @@ impl Clients for Counting {
     fn meet<R: Outside>(&self, rt: R, alloc: Global, to: SocketAddr) -> io::Result<String> {
         let mut peer = Peer::connect(rt, alloc, to)?;
         for (request, reply) in &ASKED {
-            assert!(&rt; peer.asks(*request, *reply)?, "{request}");
+            assert_same(&rt, &peer.asks(*request, *reply)?, &true, request);
         }
         let answer = answer_to(rt, alloc, self.at, GET_NUMBERS)?;
         drop(peer);
@@ -127,7 +129,7 @@ impl Clients for Counting {
 }
 
 #[test]
-fn page_after_a_session(rt: HostRuntime) -> Result<(), Fail> {
+fn page_after_a_session(rt: HostRuntime) {
     let alloc = rt.alloc();
     let device = formatted(&rt, alloc, LEAST);
     let options = options(&rt, alloc, 1);
@@ -142,11 +144,9 @@ fn page_after_a_session(rt: HostRuntime) -> Result<(), Fail> {
         &clients,
         &Counts::new(),
     );
-    assert_eq!(rt; served, Ok(1));
-    let answer = seen?;
+    let answer = assert_served(&rt, served, seen, 1);
     assert!(rt; is_page(answer.as_str()), "{answer}");
     let _device = assert_opens_to(&rt, alloc, device, 1, 4);
-    Ok(())
 }
 
 /// Asks for the page and for the health while a sync is held under the state's lock, and for the
@@ -216,7 +216,7 @@ impl Clients for Waiting<'_> {
 }
 
 #[test]
-fn page_while_a_sync_is_held(rt: HostRuntime) -> Result<(), Fail> {
+fn page_while_a_sync_is_held(rt: HostRuntime) {
     let alloc = rt.alloc();
     let door = Door::new();
     let holds = Holds {
@@ -236,7 +236,7 @@ fn page_while_a_sync_is_held(rt: HostRuntime) -> Result<(), Fail> {
         &clients,
         &Counts::new(),
     );
-    assert_eq!(rt; served, Ok(1));
+    let seen = assert_served(&rt, served, seen, 1);
     let wanted = Held {
         is_open: true,
         is_held: true,
@@ -247,11 +247,10 @@ fn page_while_a_sync_is_held(rt: HostRuntime) -> Result<(), Fail> {
         is_acknowledged: true,
         call_has_ended: true,
     };
-    assert_eq!(rt; seen?, wanted);
-    assert_eq!(rt; door.latch(&rt), Latch::Open);
+    assert_same(&rt, &seen, &wanted, &"seen");
+    assert_same(&rt, &door.latch(&rt), &Latch::Open, &"latch");
     let (device, _gate) = device.into_parts();
     let _device = assert_opens_to(&rt, alloc, device, 1, 1);
-    Ok(())
 }
 
 /// Whether each of these requests has this answer.
@@ -320,7 +319,7 @@ impl Clients for Stopping {
 }
 
 #[test]
-fn health_before_and_after_a_fault(rt: HostRuntime) -> Result<(), Fail> {
+fn health_before_and_after_a_fault(rt: HostRuntime) {
     let alloc = rt.alloc();
     let device = failing(&rt, alloc);
     let options = options(&rt, alloc, 1);
@@ -330,7 +329,7 @@ fn health_before_and_after_a_fault(rt: HostRuntime) -> Result<(), Fail> {
     let (_device, served, seen) = serve_watched(
         &rt, alloc, device, status, &options, &clients, &counts,
     );
-    assert_eq!(rt; served, Ok(1));
+    let seen = assert_served(&rt, served, seen, 1);
     let wanted = Stopped {
         is_acknowledged: true,
         is_healthy_before: true,
@@ -338,6 +337,5 @@ fn health_before_and_after_a_fault(rt: HostRuntime) -> Result<(), Fail> {
         has_stopped_after: true,
         plots_are_shown: true,
     };
-    assert_eq!(rt; seen?, wanted);
-    Ok(())
+    assert_same(&rt, &seen, &wanted, &"seen");
 }

@@ -1,5 +1,6 @@
 //! Servers beside their clients.
 
+use crate::server::checks::assert_same;
 use crate::server::stores::opened;
 use isd_as::IsdAs;
 use path_server::{Listeners, Options, Report, Reports, RunError, serve_store, set_accept_timeout};
@@ -139,7 +140,9 @@ impl Reports for Counts {
 /// The options of a server for this number of sessions, whose peers may be silent for ten seconds.
 pub(crate) fn options(rt: &impl Abort, alloc: Global, sessions: u64) -> Options {
     let mut cores = Vec::new(alloc);
-    assert!(rt; cores.push(IsdAs::from_u64(CORE)).is_ok());
+    cores
+        .push(IsdAs::from_u64(CORE))
+        .expect(rt, "the core AS has room");
     Options {
         cores: Roster::new(cores),
         key: None,
@@ -158,15 +161,25 @@ pub(crate) fn options(rt: &impl Abort, alloc: Global, sessions: u64) -> Options 
 /// saw.
 pub(crate) type Met<D, T> = (D, Result<u64, RunError>, io::Result<T>);
 
+/// Sees that a server ended after this number of sessions, and that its clients met it: what they
+/// saw.
+pub(crate) fn assert_served<T>(
+    rt: &impl Abort,
+    served: Result<u64, RunError>,
+    seen: io::Result<T>,
+    sessions: u64,
+) -> T {
+    assert_same(rt, &served, &Ok(sessions), &"sessions");
+    seen.expect(rt, "the clients meet the server")
+}
+
 /// A listener at a free port, whose accepts are bounded, and its address.
 pub(crate) fn listen<R: World>(rt: R) -> (TcpListener, SocketAddr) {
-    let Ok(listener) = TcpListener::bind(&rt, "127.0.0.1:0") else {
-        panic!(rt; "no port is free");
-    };
-    assert!(&rt; set_accept_timeout(&listener).is_ok());
-    let Ok(to) = listener.local_addr() else {
-        panic!(rt; "no address");
-    };
+    let listener = TcpListener::bind(&rt, "127.0.0.1:0").expect(&rt, "a port is free");
+    set_accept_timeout(&listener).expect(&rt, "accepts are bounded");
+    let to = listener
+        .local_addr()
+        .expect(&rt, "the listener has an address");
     (listener, to)
 }
 
@@ -219,9 +232,9 @@ pub(crate) fn serve_beside<R: World, D: Device + Drop + Send, C: Clients + Sync>
 ) -> Met<D, C::Seen> {
     let Others { lookups, status } = others;
     let (sessions, to) = listen(rt);
-    let Ok(other) = sessions.try_clone() else {
-        panic!(rt; "no second handle");
-    };
+    let other = sessions
+        .try_clone()
+        .expect(&rt, "the listener has a second handle");
     // A second handle of the listening socket, with a stream's methods.
     let stop = TcpStream::from(OwnedFd::from(other));
     let ((device, served), seen) = thread::join(

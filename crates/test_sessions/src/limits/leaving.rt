@@ -10,7 +10,6 @@ use session_limits::Limits;
 use std::alloc::Global;
 use std::process::Abort;
 use std::sync::Wait;
-use std::test::Fail;
 use std::time::Clock;
 use test_fault_devices::HeldDevice;
 use test_hub_scripts::doors::{Door, Holds, Latch};
@@ -84,7 +83,7 @@ impl Talk for Left<'_> {
 
 // The three commands go on. The purge of the last session has the place after them.
 #[test]
-fn commands_go_on_for_which_nobody_waits(rt: HostRuntime) -> Result<(), Fail> {
+fn commands_go_on_for_which_nobody_waits(rt: HostRuntime) {
     let alloc = rt.alloc();
     let door = Door::new(Latch::Open);
     let holds = Holds {
@@ -105,5 +104,4 @@ fn commands_go_on_for_which_nobody_waits(rt: HostRuntime) -> Result<(), Fail> {
     assert_replied(&rt, alloc, written, &replies);
     let (device, _gate) = device.into_parts();
     assert_opens_to(&rt, alloc, device, 1, 4);
-    Ok(())
 }

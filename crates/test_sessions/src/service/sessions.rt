@@ -16,7 +16,6 @@ use std::io;
 use std::io::Read;
 use std::process::Abort;
 use std::sync::Wait;
-use std::test::Fail;
 use std::thread::Threads;
 use std::time::Clock;
 
@@ -206,7 +205,7 @@ impl Talk for Pair {
 }
 
 #[test]
-fn learnt_receipt_is_shown(rt: HostRuntime) -> Result<(), Fail> {
+fn learnt_receipt_is_shown(rt: HostRuntime) {
     let alloc = rt.alloc();
     let (device, written) = talked(&rt, alloc, new_store(&rt, alloc), Pair { alloc });
     let replies = [
@@ -217,5 +216,4 @@ fn learnt_receipt_is_shown(rt: HostRuntime) -> Result<(), Fail> {
     ];
     assert_replied(&rt, alloc, written, &replies);
     assert_opens_to(&rt, alloc, device, 0, 2);
-    Ok(())
 }
