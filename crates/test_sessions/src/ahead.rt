@@ -5,7 +5,9 @@
 
 mod ahead;
 mod broken;
+mod clocks;
 mod crowds;
 mod frames;
+mod host;
 mod memory;
 mod turns;

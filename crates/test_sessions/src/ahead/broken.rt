@@ -2,10 +2,8 @@
 //! not at all, and a later session sees a state that is a front.
 
 use crate::ahead::crowds::{Sessions, crowded, served};
-use crate::bytes::push;
-use crate::checks::assert_same;
-use crate::host::Host;
-use crate::service::frames::{PURGE, joined};
+use crate::ahead::frames::{PURGE, joined, push};
+use crate::ahead::host::Host;
 use path_hub::{Hub, HubName, Senders};
 use path_session::FrameError;
 use sector_dev::Device;
@@ -147,10 +145,10 @@ impl Breaks {
             room,
         };
         let ended = served(hub, senders, self.alloc, 0, &frames, &mut writer);
-        assert_same(rt, &ended, &wanted, &name);
+        assert_eq!(rt; ended, wanted, "{name}");
         let replies = joined(rt, self.alloc, &REPLIES);
         let (front, _rest) = replies.split_at(room.min(replies.len()));
-        assert_same(rt, &writer.taken.as_slice(), &front, &name);
+        assert_eq!(rt; writer.taken.as_slice(), front, "{name}");
     }
 }
 
@@ -177,15 +175,14 @@ impl Sessions for Breaks {
     ) {
         let rt = hub.handle();
         self.break_off(hub, senders);
-        let name = self.row.name;
         let early = shown_now(hub);
-        assert_same(rt, &FRONTS.contains(&early), &true, &(name, early));
+        assert!(rt; FRONTS.contains(&early), "{}: {early:x}", self.row.name);
         let purge = joined(rt, self.alloc, &[PURGE]);
         let mut replies = Vec::new(self.alloc);
         let ended = served(hub, senders, self.alloc, 0, &purge, &mut replies);
-        assert_same(rt, &ended, &Ok(1), &name);
-        assert_same(rt, &replies, &joined(rt, self.alloc, &[LATER]), &name);
-        assert_same(rt, &shown_now(hub), &FRONTS[5], &name);
+        assert_eq!(rt; ended, Ok(1));
+        assert_eq!(rt; replies, joined(rt, self.alloc, &[LATER]));
+        assert_eq!(rt; shown_now(hub), FRONTS[5], "{}", self.row.name);
     }
 }
 

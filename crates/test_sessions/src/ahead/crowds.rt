@@ -1,13 +1,13 @@
 //! Sessions beside each other over one hub, each in a thread of its own.
 
-use crate::checks::assert_same;
-use crate::host::Host;
-use crate::service::clocks::Counts;
-use crate::service::stores::cores;
+use crate::ahead::clocks::Counts;
+use crate::ahead::host::Host;
+use isd_as::IsdAs;
 use path_hub::{Hub, HubName, Patient, Senders, Workload, with_workload};
 use path_session::{FrameError, HubService, serve};
 use sector_dev::Device;
 use seg_check::TrustAll;
+use seg_lookup::Roster;
 use std::alloc::Global;
 use std::io::Write;
 use std::process::Abort;
@@ -102,8 +102,18 @@ pub(crate) fn crowded<
             with_workload(rt, alloc, opened(&Host(rt), alloc, device), 1, &crowd)
         }
     };
-    assert_same(&rt, &attended, &Ok(count), &"attended");
+    assert_eq!(&rt; attended, Ok(count));
     device
+}
+
+/// The one core AS, 1-ff00:0:110. Where memory is refused, it is asked for once more.
+fn cores(rt: &impl Abort, alloc: Global) -> Roster {
+    let core = IsdAs::from_u64(0x0001_ff00_0000_0110);
+    let mut cores = Vec::new(alloc);
+    if cores.push(core).is_err() {
+        cores.push(core).expect(rt, "no memory");
+    }
+    Roster::new(cores)
 }
 
 /// Serves the frames of an input over a writer, by a clock whose first moment is the one after

@@ -1,7 +1,6 @@
 //! Times that lie in the future. `SEGMENT` was made at 1,700,000,000, which is moment
 //! 3,400,000,000. A bound of ten seconds is one of 20 half seconds.
 
-use crate::checks::{assert_same, assert_true};
 use crate::limits::sessions::replied;
 use crate::service::clocks::Counts;
 use crate::service::frames::{
@@ -269,9 +268,8 @@ impl Talk for OneByOne {
             place_or_code(limited.remove(2, &ID)),
         ];
         let found = limited.lookup(self.alloc, ends).map(|found| found.1.len());
-        let wanted = [Err(FUTURE), Err(FUTURE), Ok(0), Ok(1), Ok(2)];
-        assert_same(rt, &answers, &wanted, &"answers");
-        assert_true(rt, matches!(found, Ok(0)), "the lookup finds nothing");
+        assert_eq!(rt; answers, [Err(FUTURE), Err(FUTURE), Ok(0), Ok(1), Ok(2)]);
+        assert!(rt; matches!(found, Ok(0)));
         hub.give_back(limited.into_service().into_reader());
         Some(Vec::new(self.alloc))
     }
@@ -281,6 +279,6 @@ impl Talk for OneByOne {
 fn messages_one_by_one(rt: HostRuntime) {
     let alloc = rt.alloc();
     let (device, written) = talked(&rt, alloc, new_store(&rt, alloc), OneByOne { alloc });
-    assert_true(&rt, written.is_some(), "there is a reader");
+    assert!(rt; written.is_some());
     assert_opens_to(&rt, alloc, device, 0, 3);
 }

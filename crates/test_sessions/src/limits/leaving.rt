@@ -10,6 +10,7 @@ use session_limits::Limits;
 use std::alloc::Global;
 use std::process::Abort;
 use std::sync::Wait;
+use std::test::Fail;
 use std::time::Clock;
 use test_fault_devices::HeldDevice;
 use test_hub_scripts::doors::{Door, Holds, Latch};
@@ -83,7 +84,7 @@ impl Talk for Left<'_> {
 
 // The three commands go on. The purge of the last session has the place after them.
 #[test]
-fn commands_go_on_for_which_nobody_waits(rt: HostRuntime) {
+fn commands_go_on_for_which_nobody_waits(rt: HostRuntime) -> Result<(), Fail> {
     let alloc = rt.alloc();
     let door = Door::new(Latch::Open);
     let holds = Holds {
@@ -104,4 +105,5 @@ fn commands_go_on_for_which_nobody_waits(rt: HostRuntime) {
     assert_replied(&rt, alloc, written, &replies);
     let (device, _gate) = device.into_parts();
     assert_opens_to(&rt, alloc, device, 1, 4);
+    Ok(())
 }

@@ -1,6 +1,5 @@
 //! Room for sessions with commands under way.
 
-use crate::checks::{assert_same, assert_true};
 use crate::service::clocks::Counts;
 use crate::service::frames::{LOOKUP, REGISTER, joined};
 use crate::service::stores::{assert_opens_to, cores, new_store};
@@ -71,27 +70,21 @@ fn share<S: Service, O: Service>(
     let Some(purge) = one.hand_in(alloc, Message::Purge(0)) else {
         panic!(rt; "a purge is not taken");
     };
-    assert_same(rt, &rooms.taken(), &1, &"rooms of two commands");
+    assert_eq!(rt; rooms.taken(), 1);
     // The other one gets no room, also when it asks again, and its lookup is answered.
-    let busy = Err(BUSY);
-    assert_same(rt, &refused(rt, alloc, other), &busy, &"handed in");
-    let again = other.purge(u64::MAX);
-    assert_same(rt, &place_or_code(again), &busy, &"asked again");
+    assert_eq!(rt; refused(rt, alloc, other), Err(BUSY));
+    assert_eq!(rt; place_or_code(other.purge(u64::MAX)), Err(BUSY));
     let _early = found(rt, alloc, other, bodies);
     // The room is given back with the answer to the last command.
-    let registered = one.settle(register);
-    assert_same(rt, &place_or_code(registered), &Ok(0), &"registered");
-    assert_same(rt, &rooms.taken(), &1, &"rooms of one command");
-    let early = other.purge(u64::MAX);
-    assert_same(rt, &place_or_code(early), &busy, &"asked between");
-    let purged = one.settle(purge);
-    assert_same(rt, &place_or_code(purged), &Ok(1), &"purged");
-    assert_same(rt, &rooms.taken(), &0, &"rooms of no command");
+    assert_eq!(rt; place_or_code(one.settle(register)), Ok(0));
+    assert_eq!(rt; rooms.taken(), 1);
+    assert_eq!(rt; place_or_code(other.purge(u64::MAX)), Err(BUSY));
+    assert_eq!(rt; place_or_code(one.settle(purge)), Ok(1));
+    assert_eq!(rt; rooms.taken(), 0);
     // No refused purge was handed in: the next place is 2, and the row is there.
-    let next = other.purge(0);
-    assert_same(rt, &place_or_code(next), &Ok(2), &"the other's purge");
-    assert_same(rt, &rooms.taken(), &0, &"rooms after it");
-    assert_same(rt, &found(rt, alloc, other, bodies), &1, &"found");
+    assert_eq!(rt; place_or_code(other.purge(0)), Ok(2));
+    assert_eq!(rt; rooms.taken(), 0);
+    assert_eq!(rt; found(rt, alloc, other, bodies), 1);
 }
 
 /// Two sessions, of which one at a time has room for its commands.
@@ -148,13 +141,11 @@ impl Talk for Two {
         share(rt, alloc, (&mut one, &mut other), &rooms, bodies);
         // A session that ends with a command under way gives its room back.
         let left = one.hand_in(alloc, Message::Purge(0));
-        let under_way = (left.is_some(), rooms.taken());
-        assert_same(rt, &under_way, &(true, 1), &"a command under way");
+        assert_eq!(rt; (left.is_some(), rooms.taken()), (true, 1));
         drop(left);
         hub.give_back(one.into_service().into_reader());
-        assert_same(rt, &rooms.taken(), &0, &"rooms after a session");
-        let last = other.purge(0);
-        assert_same(rt, &place_or_code(last), &Ok(4), &"the last purge");
+        assert_eq!(rt; rooms.taken(), 0);
+        assert_eq!(rt; place_or_code(other.purge(0)), Ok(4));
         hub.give_back(other.into_service().into_reader());
         Some(Vec::new(alloc))
     }
@@ -164,6 +155,6 @@ impl Talk for Two {
 fn room_for_one_session(rt: HostRuntime) {
     let alloc = rt.alloc();
     let (device, written) = talked(&rt, alloc, new_store(&rt, alloc), Two { alloc });
-    assert_true(&rt, written.is_some(), "there are two readers");
+    assert!(rt; written.is_some());
     assert_opens_to(&rt, alloc, device, 1, 5);
 }

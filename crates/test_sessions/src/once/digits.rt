@@ -1,6 +1,5 @@
 //! Sessions in hexadecimal digits.
 
-use crate::checks::assert_same;
 use crate::once::streams::{Narrow, Pieces, WhenFull, in_pieces};
 use crate::once::worked::*;
 use cli_once::{SessionFault, once_in_hex};
@@ -34,14 +33,12 @@ fn hexadecimal_streams(rt: HostRuntime) {
         failing: 2,
     };
     let failed = in_hex(alloc, &mut reader, &mut lines, &none, 1_000);
-    let wanted = Err(SessionFault::Frame(FrameError::Read));
-    assert_same(&rt, &failed, &wanted, &"a read that fails");
+    assert_eq!(rt; failed, Err(SessionFault::Frame(FrameError::Read)));
 
     let mut reader = in_pieces(text.as_bytes(), 10);
     let short = in_hex(alloc, &mut reader, &mut lines, &none, 3);
-    let wanted = Err(SessionFault::Frame(FrameError::Turns));
-    assert_same(&rt, &short, &wanted, &"too many reads");
-    assert_same(&rt, &lines.len(), &0, &"written");
+    assert_eq!(rt; short, Err(SessionFault::Frame(FrameError::Turns)));
+    assert_eq!(rt; lines.len(), 0);
 
     let mut writer = Narrow {
         taken: Vec::new(alloc),
@@ -49,8 +46,6 @@ fn hexadecimal_streams(rt: HostRuntime) {
         when_full: WhenFull::TakesNone,
     };
     let full = in_hex(alloc, &mut text.as_bytes(), &mut writer, &none, 1_000);
-    let wanted = Err(SessionFault::Frame(FrameError::Write));
-    assert_same(&rt, &full, &wanted, &"a full writer");
-    let front = b"0000001".as_slice();
-    assert_same(&rt, &writer.taken.as_slice(), &front, &"taken");
+    assert_eq!(rt; full, Err(SessionFault::Frame(FrameError::Write)));
+    assert_eq!(rt; writer.taken.as_slice(), b"0000001".as_slice());
 }

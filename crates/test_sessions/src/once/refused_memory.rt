@@ -3,7 +3,6 @@
 //! replies, or one reply is the code of want of memory. Then that message changed nothing, or its
 //! command was taken, and the later replies go on from there.
 
-use crate::checks::{assert_same, assert_true};
 use crate::once::worked::{FOUND, LOOKUP, NONE_FOUND, REGISTER, session};
 use cli_once::cores_of;
 use seg_lookup::Roster;
@@ -107,13 +106,11 @@ fn is_whole(rt: &impl Abort, alloc: Global) -> Result<bool, Fail> {
     let (outcome, output) = served(alloc)?;
     let whole = replies_but(alloc, MESSAGES.len(), true)?;
     if outcome == Err(FrameError::NoMemory) || outcome == Err(FrameError::Write) {
-        let is_front = whole.as_slice().starts_with(output.as_slice());
-        assert_true(rt, is_front, "a front of the replies is written");
+        assert!(rt; whole.as_slice().starts_with(output.as_slice()));
         return Ok(false);
     }
-    assert_same(rt, &outcome, &Ok(5), &"replies");
-    let may_be = may_be_written(alloc, output.as_slice())?;
-    assert_true(rt, may_be, "one message at most is refused");
+    assert_eq!(rt; outcome, Ok(5));
+    assert!(rt; may_be_written(alloc, output.as_slice())?);
     Ok(whole.as_slice() == output.as_slice())
 }
 
@@ -122,6 +119,6 @@ fn is_whole(rt: &impl Abort, alloc: Global) -> Result<bool, Fail> {
 fn refused_memory_of_sessions(rt: HostRuntime) -> Result<(), Fail> {
     let first = is_whole(&rt, rt.alloc())?;
     let second = is_whole(&rt, rt.alloc())?;
-    assert_true(&rt, first || second, "one of two sessions is whole");
+    assert!(rt; first || second);
     Ok(())
 }

@@ -2,7 +2,6 @@
 //! is refused for it changes nothing, and is answered when it comes again; lookups show no less
 //! after it than before; and a session goes on after it.
 
-use crate::checks::{assert_same, assert_true};
 use crate::service::clocks::Counts;
 use crate::service::frames::{FOUND, LOOKUP, REGISTER, joined};
 use crate::service::stores::{assert_opens_to, cores, new_store};
@@ -106,7 +105,7 @@ fn assert_found(
     wanted: usize,
 ) {
     let count = found(rt, alloc, service, bodies);
-    assert_same(rt, &count, &wanted, &"found");
+    assert_eq!(rt; count, wanted);
 }
 
 /// What a command is answered, which is made once more where memory is refused. The lookup finds as
@@ -133,7 +132,7 @@ fn answer_again(
 
 /// Sees the place of a command and what it did.
 fn assert_ack(rt: &impl Abort, ack: Ack, wanted: (u64, Outcome)) {
-    assert_same(rt, &(ack.place, ack.outcome), &wanted, &"acknowledged");
+    assert_eq!(rt; (ack.place, ack.outcome), wanted);
 }
 
 /// Makes the calls of a service: the commands, and the lookup before them and after each.
@@ -188,7 +187,7 @@ impl Talk for Again {
 fn refused_messages_may_come_again(rt: HostRuntime) {
     let alloc = rt.alloc();
     let (device, replies) = talked(&rt, alloc, new_store(&rt, alloc), Again { alloc });
-    assert_true(&rt, replies.is_some(), "there is a reader");
+    assert!(rt; replies.is_some());
     assert_opens_to(&rt, alloc, device, 0, 4);
 }
 
@@ -218,16 +217,15 @@ fn is_whole(
 ) -> bool {
     let whole = replies_but(rt, alloc, LOOKUPS);
     if ended == Err(FrameError::NoMemory) {
-        let is_front = whole.as_slice().starts_with(written);
-        assert_true(rt, is_front, "a front of the replies is written");
+        assert!(rt; whole.as_slice().starts_with(written));
         return false;
     }
-    assert_same(rt, &ended, &Ok(LOOKUPS as u64), &"replies");
+    assert_eq!(rt; ended, Ok(LOOKUPS as u64));
     if whole.as_slice() == written {
         return true;
     }
     let refused = (0..LOOKUPS).any(|number| replies_but(rt, alloc, number).as_slice() == written);
-    assert_true(rt, refused, "one lookup is refused");
+    assert!(rt; refused);
     false
 }
 
@@ -290,13 +288,13 @@ impl Talk for Sessions {
             senders.begin(),
         );
         let ack = answer_again(rt, self.alloc, &mut service, bodies, (Act::Register, 0));
-        assert_same(rt, &ack.place, &0, &"place");
+        assert_eq!(rt; ack.place, 0);
         hub.give_back(service.into_reader());
         let (ended, written) = looked_up(hub, senders, self.alloc)?;
         let first = is_whole(rt, self.alloc, ended, &written);
         let (ended, written) = looked_up(hub, senders, self.alloc)?;
         let second = is_whole(rt, self.alloc, ended, &written);
-        assert_true(rt, first || second, "one of two sessions is whole");
+        assert!(rt; first || second);
         Some(Vec::new(self.alloc))
     }
 }
@@ -305,6 +303,6 @@ impl Talk for Sessions {
 fn sessions_go_on_after_refused_lookups(rt: HostRuntime) {
     let alloc = rt.alloc();
     let (device, replies) = talked(&rt, alloc, new_store(&rt, alloc), Sessions { alloc });
-    assert_true(&rt, replies.is_some(), "there is a reader");
+    assert!(rt; replies.is_some());
     assert_opens_to(&rt, alloc, device, 1, 1);
 }

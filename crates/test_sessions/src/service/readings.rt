@@ -1,6 +1,5 @@
 //! The machine's clock, over readings that are given here.
 
-use crate::checks::assert_same;
 use path_session::{Now, SystemNow};
 use std::io;
 use std::io::ErrorKind;
@@ -47,6 +46,6 @@ fn half_seconds_since_1970(rt: HostRuntime) {
     };
     let mut now = SystemNow::new(&clock);
     for (_reading, moment) in READINGS {
-        assert_same(&rt, &now.now(), &moment, &"moment");
+        assert_eq!(rt; now.now(), moment);
     }
 }

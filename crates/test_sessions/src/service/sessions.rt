@@ -16,6 +16,7 @@ use std::io;
 use std::io::Read;
 use std::process::Abort;
 use std::sync::Wait;
+use std::test::Fail;
 use std::thread::Threads;
 use std::time::Clock;
 
@@ -205,7 +206,7 @@ impl Talk for Pair {
 }
 
 #[test]
-fn learnt_receipt_is_shown(rt: HostRuntime) {
+fn learnt_receipt_is_shown(rt: HostRuntime) -> Result<(), Fail> {
     let alloc = rt.alloc();
     let (device, written) = talked(&rt, alloc, new_store(&rt, alloc), Pair { alloc });
     let replies = [
@@ -216,4 +217,5 @@ fn learnt_receipt_is_shown(rt: HostRuntime) {
     ];
     assert_replied(&rt, alloc, written, &replies);
     assert_opens_to(&rt, alloc, device, 0, 2);
+    Ok(())
 }

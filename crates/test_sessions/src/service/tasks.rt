@@ -1,7 +1,6 @@
 //! A workload of one task, which uses a hub in a thread beside its actors. The wait for it has a
 //! limit.
 
-use crate::checks::assert_same;
 use crate::service::clocks::Counts;
 use crate::service::stores::opened;
 use path_hub::{Hub, HubName, Patient, Senders, Workload, with_workload};
@@ -106,7 +105,7 @@ pub(crate) fn talked<
         task.invite_again();
         with_workload(rt, alloc, opened(&rt, alloc, device), 1, &task)
     };
-    assert_same(&rt, &attended, &Ok(1), &"attended");
+    assert_eq!(&rt; attended, Ok(1));
     let replies = task.replies.lock(&rt).take();
     (device, replies)
 }

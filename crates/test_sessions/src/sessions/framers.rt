@@ -1,7 +1,6 @@
 //! Streams that come in pieces.
 
-use crate::bytes::joined;
-use crate::checks::{assert_same, assert_true};
+use crate::sessions::same::assert_same;
 use crate::sessions::worked::{LOOKUP, REGISTER, stream};
 use session_core::{Fed, FrameError, Framer, Message};
 use std::alloc::{AllocError, Global};
@@ -41,9 +40,10 @@ fn assert_taken<C: Debug>(
     piece: &[u8],
     fault: Option<FrameError>,
     case: &C,
-) {
-    let found = taker.take(piece).expect(rt, "the piece has memory");
+) -> Result<(), Fail> {
+    let found = taker.take(piece)?;
     assert_same(rt, &found, &fault, case);
+    Ok(())
 }
 
 /// Checks that the messages of a case are these.
@@ -52,17 +52,11 @@ fn assert_messages<C: Debug>(rt: &impl Abort, found: &[Message], wanted: &[Messa
 }
 
 /// The two messages of the worked stream.
-fn both(rt: &impl Abort, alloc: Global) -> Vec<Message> {
-    let segment = Vec::from_slice(alloc, &REGISTER[5..]).expect(rt, "the segment has memory");
-    let ends = Vec::from_slice(alloc, &LOOKUP[5..]).expect(rt, "the lookup has memory");
+fn both(alloc: Global) -> Result<Vec<Message>, AllocError> {
     let mut messages = Vec::new(alloc);
-    messages
-        .push(Message::Register(segment))
-        .expect(rt, "the first message has room");
-    messages
-        .push(Message::Lookup(ends))
-        .expect(rt, "the second message has room");
-    messages
+    messages.push(Message::Register(Vec::from_slice(alloc, &REGISTER[5..])?))?;
+    messages.push(Message::Lookup(Vec::from_slice(alloc, &LOOKUP[5..])?))?;
+    Ok(messages)
 }
 
 /// Takes the two parts of a stream, and checks that its messages are these.
@@ -71,36 +65,40 @@ fn assert_cut(
     taker: &mut Taker,
     (front, rest): (&[u8], &[u8]),
     wanted: &[Message],
-) {
+) -> Result<(), Fail> {
     let cut = front.len();
-    assert_taken(rt, taker, front, None, &cut);
-    assert_taken(rt, taker, rest, None, &cut);
+    assert_taken(rt, taker, front, None, &cut)?;
+    assert_taken(rt, taker, rest, None, &cut)?;
     assert_messages(rt, &taker.messages, wanted, &cut);
+    Ok(())
 }
 
 #[test]
-fn any_cut(rt: HostRuntime) {
+fn any_cut(rt: HostRuntime) -> Result<(), Fail> {
     let bytes = stream();
-    let wanted = both(&rt, rt.alloc());
+    let wanted = both(rt.alloc())?;
     for cut in 0..=bytes.len() {
         let mut taker = Taker::new(rt.alloc());
-        assert_cut(&rt, &mut taker, bytes.split_at(cut), &wanted);
+        assert_cut(&rt, &mut taker, bytes.split_at(cut), &wanted)?;
     }
+    Ok(())
 }
 
 /// Takes bytes one by one, and checks that none of them is a fault.
-fn assert_bytes_taken(rt: &impl Abort, taker: &mut Taker, bytes: &[u8]) {
+fn assert_bytes_taken(rt: &impl Abort, taker: &mut Taker, bytes: &[u8]) -> Result<(), Fail> {
     for byte in bytes {
-        assert_taken(rt, taker, &[*byte], None, byte);
+        assert_taken(rt, taker, &[*byte], None, byte)?;
     }
+    Ok(())
 }
 
 #[test]
-fn byte_by_byte(rt: HostRuntime) {
-    let wanted = both(&rt, rt.alloc());
+fn byte_by_byte(rt: HostRuntime) -> Result<(), Fail> {
+    let wanted = both(rt.alloc())?;
     let mut taker = Taker::new(rt.alloc());
-    assert_bytes_taken(&rt, &mut taker, &stream());
+    assert_bytes_taken(&rt, &mut taker, &stream())?;
     assert_messages(&rt, &taker.messages, &wanted, &"byte by byte");
+    Ok(())
 }
 
 /// Frames with a fault that their last byte shows, and no earlier byte.
@@ -129,33 +127,43 @@ const FAULTS: [(&[u8], FrameError); 20] = [
 
 /// Takes a frame byte by byte and two more pieces, and checks where the fault is reported, and that
 /// there is no message.
-fn assert_fault(rt: &impl Abort, taker: &mut Taker, frame: &[u8], fault: FrameError) {
+fn assert_fault(
+    rt: &impl Abort,
+    taker: &mut Taker,
+    frame: &[u8],
+    fault: FrameError,
+) -> Result<(), Fail> {
     for (at, byte) in frame.iter().enumerate() {
         let shown = if at + 1 == frame.len() {
             Some(fault)
         } else {
             None
         };
-        assert_taken(rt, taker, &[*byte], shown, &frame);
+        assert_taken(rt, taker, &[*byte], shown, &frame)?;
     }
-    assert_taken(rt, taker, &LOOKUP, Some(fault), &frame);
-    assert_taken(rt, taker, &[], Some(fault), &frame);
+    assert_taken(rt, taker, &LOOKUP, Some(fault), &frame)?;
+    assert_taken(rt, taker, &[], Some(fault), &frame)?;
     assert_same(rt, &taker.messages.is_empty(), &true, &frame);
+    Ok(())
 }
 
 // A fault is reported at the byte that shows it, and again for each piece from then on, without a
 // message.
 #[test]
-fn frame_faults(rt: HostRuntime) {
+fn frame_faults(rt: HostRuntime) -> Result<(), Fail> {
     for (frame, fault) in &FAULTS {
         let mut taker = Taker::new(rt.alloc());
-        assert_fault(&rt, &mut taker, frame, *fault);
+        assert_fault(&rt, &mut taker, frame, *fault)?;
     }
+    Ok(())
 }
 
 /// The worked stream, this frame, and one more after it.
-fn with_fault(rt: &impl Abort, alloc: Global, frame: &[u8]) -> Vec<u8> {
-    joined(rt, alloc, &[&stream(), frame, &LOOKUP])
+fn with_fault(alloc: Global, frame: &[u8]) -> Result<Vec<u8>, Fail> {
+    let mut piece = Vec::from_slice(alloc, &stream())?;
+    piece.extend_from_slice(frame)?;
+    piece.extend_from_slice(&LOOKUP)?;
+    Ok(piece)
 }
 
 /// The result of one piece.
@@ -171,50 +179,57 @@ fn assert_fed(rt: &impl Abort, fed: &Fed, wanted: &[Message], fault: FrameError,
 
 // The messages before a fault in one piece are returned, and nothing after it.
 #[test]
-fn messages_before_a_fault(rt: HostRuntime) {
-    let wanted = both(&rt, rt.alloc());
+fn messages_before_a_fault(rt: HostRuntime) -> Result<(), Fail> {
+    let wanted = both(rt.alloc())?;
     for (frame, fault) in &FAULTS {
-        let piece = with_fault(&rt, rt.alloc(), frame);
-        let fed = fed(rt.alloc(), &piece).expect(&rt, "its messages have memory");
-        assert_fed(&rt, &fed, &wanted, *fault, frame);
+        let piece = with_fault(rt.alloc(), frame)?;
+        assert_fed(&rt, &fed(rt.alloc(), &piece)?, &wanted, *fault, frame);
     }
+    Ok(())
 }
 
 /// A frame of the greatest length.
-fn greatest(rt: &impl Abort, alloc: Global) -> Vec<u8> {
-    let mut frame = Vec::from_slice(alloc, b"\0\x02\0\x01\x02").expect(rt, "the head has memory");
-    frame.resize(131_077, 7).expect(rt, "the body has memory");
-    frame
+fn greatest(alloc: Global) -> Result<Vec<u8>, Fail> {
+    let mut frame = Vec::from_slice(alloc, b"\0\x02\0\x01\x02")?;
+    frame.resize(131_077, 7)?;
+    Ok(frame)
 }
 
 /// Takes that frame in pieces of this size, and checks that no message comes before the last one.
-fn assert_pieces(rt: &impl Abort, taker: &mut Taker, frame: &[u8], size: usize) {
-    assert_true(rt, size > 0, "pieces have a size");
+fn assert_pieces(
+    rt: &impl Abort,
+    taker: &mut Taker,
+    frame: &[u8],
+    size: usize,
+) -> Result<(), Fail> {
+    assert!(rt; size > 0);
     for piece in frame.chunks(size) {
         assert_same(rt, &taker.messages.is_empty(), &true, &size);
-        assert_taken(rt, taker, piece, None, &size);
+        assert_taken(rt, taker, piece, None, &size)?;
     }
+    Ok(())
 }
 
 /// Checks that the only message is a lookup with the body of the frame.
-fn assert_lookup(rt: &impl Abort, alloc: Global, messages: &[Message]) {
-    assert_same(rt, &messages.len(), &1, &"messages");
+fn assert_lookup(rt: &impl Abort, alloc: Global, messages: &[Message]) -> Result<(), Fail> {
+    assert_eq!(rt; messages.len(), 1);
     for message in messages {
-        let body = vec![in alloc; 7; 131_072].expect(rt, "the body has memory");
-        let is_lookup = *message == Message::Lookup(body);
-        assert_true(rt, is_lookup, "the message is a lookup with that body");
+        let body = vec![in alloc; 7; 131_072]?;
+        assert!(rt; *message == Message::Lookup(body));
     }
+    Ok(())
 }
 
 // A frame of the greatest length, in pieces of each size.
 #[test]
-fn greatest_frame(rt: HostRuntime) {
-    let frame = greatest(&rt, rt.alloc());
+fn greatest_frame(rt: HostRuntime) -> Result<(), Fail> {
+    let frame = greatest(rt.alloc())?;
     for size in [999, 65_536, 131_076, 200_000] {
         let mut taker = Taker::new(rt.alloc());
-        assert_pieces(&rt, &mut taker, &frame, size);
-        assert_lookup(&rt, rt.alloc(), &taker.messages);
+        assert_pieces(&rt, &mut taker, &frame, size)?;
+        assert_lookup(&rt, rt.alloc(), &taker.messages)?;
     }
+    Ok(())
 }
 
 /// Whether this is the first or the second message of the worked stream.
@@ -256,6 +271,6 @@ fn refused_memory_keeps_the_stream(rt: HostRuntime) -> Result<(), Fail> {
         let fed = fed_again(&mut framer, piece)?;
         place = assert_worked(&rt, &fed.messages, place);
     }
-    assert_same(&rt, &place, &2, &"messages");
+    assert_eq!(rt; place, 2);
     Ok(())
 }
