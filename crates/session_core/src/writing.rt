@@ -15,6 +15,10 @@ use seg_core::{SegType, Segment, write_response_of_type};
 use std::alloc::{AllocError, Global};
 use whole_writes::WriteFailed;
 
+/// The bytes of a response from which on it is joined with its head before both are written: half
+/// of what a connection gathers.
+const LONG: usize = 4_096;
+
 /// Writes a reply. Where memory is refused, nothing of the reply is written.
 pub(crate) fn write_reply<W: Sink>(
     alloc: Global,
@@ -88,7 +92,8 @@ fn write_found<W: Sink>(
     let Ok(response) = write_response_of_type(alloc, kind, segments) else {
         return Err(FrameError::NoMemory);
     };
-    write_both(writer, &found_head(response.len()), response.as_slice())
+    let head = found_head(response.len());
+    write_parts(alloc, writer, &head, response.as_slice())
 }
 
 /// Writes the frame of a page.
@@ -102,7 +107,28 @@ fn write_listed<W: Sink>(alloc: Global, writer: &mut W, listing: &Listing) -> Re
         return Err(FrameError::NoMemory);
     };
     let head = listed_head(listing.more, response.len());
-    write_both(writer, &head, response.as_slice())
+    write_parts(alloc, writer, &head, response.as_slice())
+}
+
+/// Writes all bytes of a reply's head and of its body. A long body is joined with the head before,
+/// as a connection that does not gather it would send the head alone. Where memory for that is
+/// refused, the head is written before the body.
+fn write_parts<W: Sink>(
+    alloc: Global,
+    writer: &mut W,
+    head: &[u8],
+    body: &[u8],
+) -> Result<(), FrameError>
+    ensures ok { OnOk result (Appends (W.contents writer.old) (W.contents writer.new) (head.now ++ body.now)) }
+    ensures err { IfErr result (ReplyWriteFails (W.contents writer.old) (W.contents writer.new) (head.now ++ body.now)) }
+{
+    if body.len() < LONG {
+        return write_both(writer, head, body);
+    }
+    match joined(alloc, head, body) {
+        Ok(whole) => write_all(writer, whole.as_slice()),
+        Err(_) => write_both(writer, head, body),
+    }
 }
 
 /// Writes all bytes of two byte strings.
@@ -112,6 +138,16 @@ fn write_both<W: Sink>(writer: &mut W, head: &[u8], body: &[u8]) -> Result<(), F
 {
     write_all(writer, head)?;
     write_all(writer, body)
+}
+
+/// The bytes of two byte strings, one after the other.
+fn joined(alloc: Global, head: &[u8], body: &[u8]) -> Result<Vec<u8>, AllocError>
+    ensures { IfOk result (λ whole. whole.items ≡ head.now ++ body.now) }
+{
+    let mut whole = Vec::with_capacity(alloc, head.len().saturating_add(body.len()))?;
+    whole.extend_from_slice(head)?;
+    whole.extend_from_slice(body)?;
+    Ok(whole)
 }
 
 /// Writes all of the bytes. A write that takes no byte is an error, and no failed write is
