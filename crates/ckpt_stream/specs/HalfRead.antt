@@ -1,5 +1,5 @@
 -- How far a sealed half is read.
-use Rattle.std.specs.Prelude.{◌≡◌, ℕ, suc, ◌+◌, ◌-◌, ◌*◌, ◌^◌, ◌≤◌, true, List, Some, None, Result, Ok, Err}
+use Rattle.std.specs.Prelude.{◌≡◌, ℕ, suc, ◌+◌, ◌-◌, ◌*◌, ◌^◌, ◌≤◌, true, List, length, Some, None, Result, Ok, Err}
 use Rattle.byte_lists.specs.Content.{part}
 use Rattle.byte_lists.specs.Sectors.{sectors_of}
 use Rattle.byte_lists.specs.declared.format.TheConstants.{SECTOR}
@@ -53,11 +53,11 @@ IsWithin geometry (Rows rows) = FitsArea geometry rows.front
 IsWithin geometry (Settled settled) = FitsArea geometry settled.front
 IsWithin geometry (Planned planned) = FitsArea geometry planned.front
 
--- A bound on the number of pieces that are still to be read or settled.
+-- A bound on the number of pieces that are still to be read, named or settled.
 abbrev pub pieces_to_come : HalfRead → ℕ
 pieces_to_come Unread = all_pieces
 pieces_to_come (Journal journal) = 2 ^ 67 + pieces_left journal.scanner
-pieces_to_come (Rows rows) = 2 ^ 66 + (sectors_of (BEFORE_ROWS + rows.front.size) - rows.first)
+pieces_to_come (Rows rows) = 2 ^ 66 + (sectors_of (BEFORE_ROWS + rows.front.size) - rows.first) + (length rows.journal.commands.items - rows.named)
 pieces_to_come (Settled settled) = suc (steps_to_settle settled.settling)
 pieces_to_come (Planned planned) = 0
 

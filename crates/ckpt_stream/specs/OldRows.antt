@@ -1,5 +1,5 @@
 -- How the rows of a sealed half are read on.
-use Rattle.std.specs.Prelude.{◌≡◌, ℕ, ◌+◌, ◌-◌, ◌*◌, ◌≤◌, List, ◌++◌, length, take, Option, None, Result, Ok, Err}
+use Rattle.std.specs.Prelude.{◌≡◌, ℕ, ◌+◌, ◌-◌, ◌*◌, ◌<◌, ◌≤◌, List, [], ◌++◌, length, take, Option, None, Result, Ok, Err}
 use Rattle.byte_lists.specs.Content.{part}
 use Rattle.byte_lists.specs.Sectors.{sectors_of}
 use Rattle.byte_lists.specs.declared.format.TheConstants.{SECTOR}
@@ -12,7 +12,7 @@ use Rattle.ckpt_pair.specs.Rows.{as_counted}
 use Rattle.ckpt_pair.specs.Stream.{StreamView, HasStreamed}
 use Rattle.store_open.specs.declared.error.OpenError.{OpenError}
 use Rattle.store_open.specs.declared.error.OpenError.TheVariants.{NotAStore, Device, Pair, Journal, NoMemory}
-use Rattle.row_edits.specs.Planner.{HasSeen, IsPlanOf}
+use Rattle.row_edits.specs.Planner.{HasSeen, IsFresh, IsPlanOf}
 use Rattle.row_edits.specs.Settling.{Settles}
 use Rattle.store_layout.specs.declared.format.TheConstants.{BEFORE_ROWS}
 use Rattle.ckpt_stream.specs.Sums.{sums_in}
@@ -22,8 +22,11 @@ use Rattle.ckpt_stream.specs.declared.settled.PlannedRows.{PlannedRows}
 
 -- The rows in the first sectors of an area are read and planned.
 pub record AreRowsRead (rows : RowsRead) : Type 0 where
-  -- The planner has seen the rows.
-  pub seen : HasSeen rows.journal.commands.items rows.note.value rows.planner
+  -- The planner plans for these commands, and has seen the rows.
+  pub seen : HasSeen (take rows.named rows.journal.commands.items) rows.note.value rows.planner
+  pub named : rows.named ≤ length rows.journal.commands.items
+  -- It has seen none before it plans for all commands.
+  pub fresh : rows.named < length rows.journal.commands.items → IsFresh rows.planner × (rows.note.value ≡ [])
   -- The bytes of these sectors after the front were pushed to the stream, which has returned the
   -- rows.
   pub pushed : List ℕ

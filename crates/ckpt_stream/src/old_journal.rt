@@ -63,7 +63,7 @@ pub(crate) fn scan_on<D: Device>(
             if !scan.sealed {
                 return Err(SealedError::Damaged);
             }
-            Ok(HalfRead::Rows(start_rows(alloc, front, scan)?))
+            Ok(HalfRead::Rows(start_rows(alloc, front, scan)))
         }
     }
 }

@@ -39,6 +39,14 @@ use store_open::{OpenError, SealedError};
 /// The most sectors that a call reads of the rows.
 pub(crate) const READ_SECTORS: u64 = 64;
 
+/// The commands of the journal that a call names to the planner. A call passes over all keys that
+/// are named already, so from 16 times as many commands on it names a sixteenth of these: all calls
+/// together pass over some 16 times as many keys as there are, and not over their square.
+const NAMED: usize = 512;
+
+/// The part of the commands named that a call may name beside them.
+const PART: usize = 16;
+
 /// The bytes of as many sectors.
 const READ: usize = READ_SECTORS as usize * SECTOR;
 
@@ -49,7 +57,10 @@ pub(crate) struct RowsRead {
     pub(crate) front: Front,
     /// The half's journal.
     pub(crate) journal: Scan,
-    /// The rows so far, planned for the journal's commands.
+    /// The number of the journal's first commands for which the planner plans. No row is read before
+    /// it plans for all of them.
+    pub(crate) named: usize,
+    /// The rows so far, planned for these commands.
     pub(crate) planner: Planner,
     /// The bytes that are read and are no whole row yet.
     pub(crate) stream: RowStream,
@@ -62,29 +73,33 @@ pub(crate) struct RowsRead {
 }
 
 /// The rows of an area before its first sector is read.
-pub(crate) fn start_rows(alloc: Global, front: Front, journal: Scan) -> Result<RowsRead, AllocError>
-    ensures front { IfOk result (λ rows. rows.front ≡ front) }
-    ensures journal { IfOk result (λ rows. rows.journal ≡ journal) }
-    ensures first { IfOk result (λ rows. rows.first ≡ 0) }
-    ensures sums { IfOk result (λ rows. rows.sums.items ≡ []) }
-    ensures none { IfOk result (λ rows. HasStreamed front.size front.count [] rows.note.value rows.stream) }
-    ensures read { IfOk result AreRowsRead }
+pub(crate) fn start_rows(alloc: Global, front: Front, journal: Scan) -> RowsRead
+    ensures front { result.front ≡ front }
+    ensures journal { result.journal ≡ journal }
+    ensures first { result.first ≡ 0 }
+    ensures sums { result.sums.items ≡ [] }
+    ensures none { HasStreamed front.size front.count [] result.note.value result.stream }
+    ensures read { AreRowsRead result }
+    ensures few { pieces_to_come (Rows result) < 2 ^ 67 }
 {
-    let planner = Planner::new(alloc, &journal.commands)?;
+    let _count = journal.commands.len();
+    let planner = Planner::new(alloc);
     let stream = RowStream::new(alloc, front.size, front.count);
-    Ok(RowsRead {
+    RowsRead {
         front,
         journal,
+        named: 0,
         planner,
         stream,
         note: no_rows(),
         sums: Vec::new(alloc),
         first: 0,
-    })
+    }
 }
 
-/// Reads on in the rows of a half: at most 64 sectors. Where all sectors are read, what the journal's
-/// commands leave has to be settled next.
+/// Names some commands of the journal to the planner. Once all are named, it reads on in the rows of
+/// a half: at most 64 sectors. Where all sectors are read, what the journal's commands leave has to be
+/// settled next.
 pub(crate) fn rows_on<D: Device>(
     alloc: Global,
     device: &mut D,
@@ -102,12 +117,41 @@ pub(crate) fn rows_on<D: Device>(
     ensures nearer { IfOk result (λ next. pieces_to_come next ≤ pieces_to_come (Rows rows) - 1) }
     ensures reads { IsHonest (D.disk device.old) → ReadsOn (geometry_view geometry) half (reads_of (D.disk device.old)) (Rows rows) result }
 {
+    let mut rows = rows;
+    if rows.named < rows.journal.commands.len() {
+        name_next(&mut rows)?;
+        return Ok(HalfRead::Rows(rows));
+    }
     if rows.first == sectors_before_end(rows.front.size) {
         return Ok(HalfRead::Settled(settle_rows(rows)?));
     }
-    let mut rows = rows;
     read_row_sectors(alloc, device, geometry.area_at(half), &mut rows)?;
     Ok(HalfRead::Rows(rows))
+}
+
+/// Has the planner plan for the next commands of the journal.
+fn name_next(rows: &mut RowsRead) -> Result<(), AllocError>
+    requires read { AreRowsRead rows.old }
+    requires more { rows.old.named < length rows.old.journal.commands.items }
+    ensures same { rows.new ≡ record {
+      front = rows.old.front;
+      journal = rows.old.journal;
+      named = rows.new.named;
+      planner = rows.new.planner;
+      stream = rows.old.stream;
+      note = rows.old.note;
+      sums = rows.old.sums;
+      first = rows.old.first;
+    } }
+    ensures read { OnOk result (AreRowsRead rows.new) }
+    ensures further { OnOk result (rows.old.named < rows.new.named) }
+{
+    let commands = &rows.journal.commands;
+    let most = NAMED.max(rows.named / PART);
+    let end = rows.named.saturating_add(most).min(commands.len());
+    rows.planner.name(&commands[rows.named..end])?;
+    rows.named = end;
+    Ok(())
 }
 
 /// The number of sectors from the start of an area to the end of its rows, which have `size` bytes.
@@ -127,9 +171,11 @@ fn read_row_sectors<D: Device>(
     requires room { SECTOR * area + BEFORE_ROWS + rows.old.front.size ≤ SECTOR * (D.disk device.old).sectors }
     requires read { AreRowsRead rows.old }
     requires more { rows.old.first < sectors_of (BEFORE_ROWS + rows.old.front.size) }
+    requires named { length rows.old.journal.commands.items ≤ rows.old.named }
     ensures looks { LooksFor result (D.disk device.old) (D.disk device.new) }
     ensures front { rows.new.front ≡ rows.old.front }
     ensures journal { rows.new.journal ≡ rows.old.journal }
+    ensures named { rows.new.named ≡ rows.old.named }
     ensures read { OnOk result (AreRowsRead rows.new) }
     ensures further { OnOk result (rows.old.first < rows.new.first) }
     ensures streamed { IsHonest (D.disk device.old) → GoesOnInRows area (reads_of (D.disk device.old)) rows.old rows.new result }
@@ -176,6 +222,7 @@ fn see_rows(
 fn settle_rows(rows: RowsRead) -> Result<RowsSettled, OpenError>
     requires read { AreRowsRead rows }
     requires all { rows.first ≡ sectors_of (BEFORE_ROWS + rows.front.size) }
+    requires named { length rows.journal.commands.items ≤ rows.named }
     ensures front { IfOk result (λ settled. settled.front ≡ rows.front) }
     ensures place { IfOk result (λ settled. settled.place ≡ rows.journal.place) }
     ensures after { IfOk result (λ settled. settled.after.value ≡ database_after_all settled.note.value rows.journal.commands.items) }

@@ -1,5 +1,5 @@
 -- The greatest of purges: for `touched`.
-use Rattle.std.proofs.Common.{◌≡◌, ℕ, ◌<◌, max, Bool, true, false, List, ◌∷◌, if◌then◌else◌, refl, sym, ap, ◌∙◌, arith}
+use Rattle.std.proofs.Common.{◌≡◌, ℕ, ◌<◌, max, Bool, true, false, List, [], ◌∷◌, ◌++◌, if◌then◌else◌, refl, sym, ap, ◌∙◌, arith}
 use Rattle.std.specs.Prelude.{Option, nat_lt}
 use Rattle.std.proofs.lemmas.Bool.{ltb-true, lt-ltb, false≢true}
 use Rattle.path_db.specs.declared.command.Command.{Command}
@@ -42,6 +42,15 @@ outlives_next new old command commands row is =
     ap (λ (b : Bool). if b then outlives commands row else false) is
     ∙ nested (is_beyond old row) (outlives_one command row) (outlives commands row)
     ∙ ap (λ (b : Bool). if is_beyond old row then b else false) (sym (one_more command commands row))
+
+-- commands that come one after the other
+pub outlives_both : (commands more : List Command) (row : RowView) → outlives (commands ++ more) row ≡ (if outlives commands row then outlives more row else false)
+outlives_both [] more row = refl
+outlives_both (command ∷ commands) more row =
+    one_more command (commands ++ more) row
+    ∙ ap (λ (b : Bool). if outlives_one command row then b else false) (outlives_both commands more row)
+    ∙ sym (nested (outlives_one command row) (outlives commands row) (outlives more row))
+    ∙ ap (λ (b : Bool). if b then outlives more row else false) (sym (one_more command commands row))
 
 pub test_ends : (b : Bool) → (if b then true else false) ≡ b
 test_ends true = refl

@@ -1,12 +1,14 @@
 -- What a planner has seen after one row more: for `planner`.
-use Rattle.std.proofs.Common.{◌≡◌, ℕ, ◌+◌, List, [], ◌∷◌, ◌++◌, length, Bool, refl, sym, ap, ◌∙◌, subst, arith}
+use Rattle.std.proofs.Common.{◌≡◌, ℕ, ◌+◌, List, [], ◌∷◌, ◌++◌, length, Bool, true, false, if◌then◌else◌, refl, sym, ap, ◌∙◌, subst, arith}
 use Rattle.std.specs.Prelude.{Option, map}
+use Rattle.std.specs.Ordering.{is_eq}
+use Rattle.std.proofs.lemmas.List.{append_assoc}
 use Rattle.path_db.specs.declared.command.Command.{Command}
 use Rattle.row_map.specs.Database.{RowView}
 use Rattle.path_records.specs.declared.key.Key.{Key}
 use Rattle.path_records.specs.Key.{key_bytes}
 use Rattle.row_edits.specs.declared.planner.Planner.{Planner}
-use Rattle.row_edits.specs.Merging.{keys_named_by, KeysRise, Includes, outlives, merged}
+use Rattle.row_edits.specs.Merging.{order_of, keys_named, keys_named_by, has_key, KeysRise, Includes, outlives, merged}
 use Rattle.row_edits.specs.declared.edit.Edit.{Edit}
 use Rattle.row_edits.specs.Planning.{is_beyond, IsPlanned, IsAfterKeyPuts}
 use Rattle.row_edits.specs.Planner.{HasSeen, PlansOn}
@@ -35,6 +37,34 @@ nothing_planned keys p = record {
   counts = λ left rows. all_left (length (merged left p (map key_bytes keys) rows));
   finds = λ rows. refl;
 }
+
+-- the keys of commands that come one after the other
+pub named_by_both : (commands more : List Command) → keys_named_by (commands ++ more) ≡ keys_named_by commands ++ keys_named_by more
+named_by_both [] more = refl
+named_by_both (command ∷ commands) more =
+    ap (λ (ks : List (List ℕ)). keys_named command ++ ks) (named_by_both commands more)
+    ∙ sym (append_assoc (keys_named command) (keys_named_by commands) (keys_named_by more))
+
+pub has_both : (ks ls : List (List ℕ)) (k : List ℕ) → has_key (ks ++ ls) k ≡ (if has_key ks k then true else has_key ls k)
+has_both [] ls k = refl
+has_both (l ∷ ks) ls k = ap (λ (b : Bool). if is_eq (order_of k l) then true else b) (has_both ks ls k) ∙ first_or (is_eq (order_of k l)) (has_key ks k) (has_key ls k)
+  where
+    first_or : (a b c : Bool) → (if a then true else (if b then true else c)) ≡ (if (if a then true else b) then true else c)
+    first_or true b c = refl
+    first_or false b c = refl
+
+-- keys that cover those of commands, with those of more commands, cover the keys of all of them
+pub covers_both : (old new : List (List ℕ)) (commands more : List Command) → Includes old (keys_named_by commands)
+    → ((k : List ℕ) → has_key new k ≡ has_key (old ++ keys_named_by more) k) → Includes new (keys_named_by (commands ++ more))
+covers_both old new commands more covers just k has =
+    just k ∙ has_both old (keys_named_by more) k
+    ∙ either_way (has_key (keys_named_by commands) k) (has_key old k) (has_key (keys_named_by more) k) (covers k)
+    (sym (has_both (keys_named_by commands) (keys_named_by more) k) ∙ sym (ap (λ (ks : List (List ℕ)). has_key ks k) (named_by_both commands more)) ∙ has)
+  where
+    either_way : (n o m : Bool) → (n ≡ true → o ≡ true) → (if n then true else m) ≡ true → (if o then true else m) ≡ true
+    either_way true o m so is = ap (λ (b : Bool). if b then true else m) (so refl)
+    either_way false true m so is = refl
+    either_way false false m so is = is
 
 -- what a new planner has seen
 pub nothing_seen : (commands : List Command) (planner : Planner) → KeysRise (map key_bytes planner.keys.items) → Includes (map key_bytes planner.keys.items) (keys_named_by commands)

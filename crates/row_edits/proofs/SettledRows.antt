@@ -1,17 +1,16 @@
 -- What commands leave under keys, one command and one key after the other: for `settling` and `planner`.
 use Rattle.std.proofs.Common.{◌≡◌, ℕ, zero, suc, ◌+◌, ◌<◌, ◌≤◌, Bool, true, false, not, cond, List, [], ◌∷◌, ◌++◌, length, drop, get_or, if◌then◌else◌, refl, sym, ap, ◌∙◌, subst, append_assoc, add-one, arith}
-use Rattle.std.specs.Prelude.{Option, Some, None, map}
+use Rattle.std.specs.Prelude.{Option, Some, map}
 use Rattle.std.specs.List.{AllByRecursion, filter}
 use Rattle.std.specs.Option.{option_map, option_to_list}
 use Rattle.std.specs.Ordering.{is_eq, ordering_reverse}
-use Rattle.std.specs.declared.cmp.Ordering.{Ordering}
-use Rattle.std.specs.declared.cmp.Ordering.TheVariants.{Less, Greater}
+use Rattle.std.specs.declared.cmp.Ordering.TheVariants.{Less}
 use Rattle.std.proofs.lemmas.Cmp.{nat_list_cmp_total}
 use Rattle.std.proofs.Math.Seq.{drop-cons}
 use Rattle.path_db.specs.declared.command.Command.{Command}
 use Rattle.path_db.specs.declared.command.Command.TheVariants.{Register, Remove}
 use Rattle.row_map.specs.declared.row.Row.{Row}
-use Rattle.row_map.specs.Database.{RowView, key_of, is_under, row_under}
+use Rattle.row_map.specs.Database.{RowView, is_under, row_under}
 use Rattle.row_map.specs.Put.{database_after_put, database_after_puts}
 use Rattle.path_db.specs.Command.{database_after, database_after_all}
 use Rattle.row_map.specs.Row.{row_view}

@@ -34,6 +34,13 @@ pub record HasSeen (commands : List Command) (seen : List RowView) (planner : Pl
   -- The planner has planned the rows.
   pub planned : HasPlanned seen planner
 
+-- A planner has seen no row.
+pub record IsFresh (planner : Planner) : Type 0 where
+  pub at : planner.at ≡ 0
+  pub kept : planner.kept ≡ 0
+  pub edits : planner.edits.items ≡ []
+  pub olds : planner.olds ≡ []
+
 -- What the edit of a row does to a planner, where `found` is whether the row's key is one of the
 -- planner's.
 pub record PlansOn (found : Bool) (row : RowView) (old new : Planner) : Type 0 where

@@ -5,7 +5,7 @@ ghost use Rattle.path_db.specs.declared.command.Command.{Command};
 ghost use Rattle.row_map.specs.Database.{RowView, IsDatabase, row_len};
 ghost use Rattle.row_map.specs.Row.{row_view};
 ghost use Rattle.row_edits.specs.Planning.{is_beyond};
-ghost use Rattle.row_edits.specs.Planner.{HasSeen, PlansOn};
+ghost use Rattle.row_edits.specs.Planner.{HasSeen, IsFresh, PlansOn};
 ghost use Rattle.row_edits.specs.Settling.{Settles, steps_to_settle};
 
 use crate::edit::Edit;
@@ -18,6 +18,7 @@ use row_map::{ROW_HEAD, Row};
 use seg_check::expiry;
 use seg_core::encoded_len;
 use std::alloc::{AllocError, Global};
+use std::mem::replace;
 
 /// Plans how commands change rows, which it sees one after the other in the order of their keys. It
 /// keeps the keys that the commands name, an edit for each run of rows, and a database of the rows
@@ -35,24 +36,37 @@ pub struct Planner {
 }
 
 impl Planner {
-    /// A planner for commands that has seen no row. It computes the id of each segment that they
-    /// register.
-    pub fn new(alloc: Global, commands: &[Command]) -> Result<Planner, AllocError>
-        ensures { IfOk result (λ planner. HasSeen commands.now [] planner) }
+    /// A planner for no command that has seen no row.
+    pub fn new(alloc: Global) -> Planner
+        ensures seen { HasSeen [] [] result }
+        ensures fresh { IsFresh result }
     {
-        let keys = touched_keys(alloc, commands)?;
-        let purged = greatest_purge(commands);
+        let keys = Vec::new(alloc);
         let edits = Vec::new(alloc);
         let olds = PathDb::new(alloc).without_indexes();
-        Ok(Planner {
+        Planner {
             keys,
             at: 0,
-            purged,
+            purged: None,
             edits,
             kept: 0,
             alloc,
             olds,
-        })
+        }
+    }
+
+    /// Has a planner that has seen no row plan for further commands, after its own. It takes the id
+    /// of each segment that they register. Where memory is refused, the planner cannot be used any
+    /// more.
+    pub fn name(&mut self, commands: &[Command]) -> Result<(), AllocError>
+        ensures seen { OnOk result ((before : List Command)
+            → IsFresh self.old → HasSeen before [] self.old → HasSeen (before ++ commands.now) [] self.new) }
+        ensures fresh { OnOk result (IsFresh self.old → IsFresh self.new) }
+    {
+        let before = replace(&mut self.keys, Vec::new(self.alloc));
+        self.keys = touched_keys(self.alloc, before, commands)?;
+        self.purged = greatest_purge(self.purged, commands);
+        Ok(())
     }
 
     /// Sees the next row. Where memory is refused, the planner cannot be used any more.

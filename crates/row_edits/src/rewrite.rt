@@ -12,13 +12,15 @@ use path_records::PIECE;
 use row_map::{MOST_ROW_BYTES, Row};
 use std::alloc::{AllocError, Global};
 use std::marker::Model;
+use std::mem::replace;
 
 /// The bytes of the buffer: a piece, and the greatest record of a row.
 const BUFFER: usize = PIECE + MOST_ROW_BYTES;
 
 /// Turns the records before commands into the records after them, in pieces. The records before are
 /// given in windows, which may be cut anywhere, and the bytes that are made are taken from the
-/// buffer. The buffer has 147,461 bytes; after `new` a rewrite takes no memory.
+/// buffer. The buffer has 147,461 bytes; after `new` a rewrite takes no memory. A row is dropped as
+/// its record is made, so that the end of a rewrite drops no rows that were put.
 #[derive(Drop)]
 pub struct Rewrite {
     edits: Vec<Edit>,
@@ -196,13 +198,14 @@ impl Rewrite {
         }
     }
 
-    /// Puts the next row, where there is one.
+    /// Puts the next row, where there is one, and drops it.
     fn put_next(&mut self)
         requires { length self.old.out < PIECE }
         ensures { self.new ≡ with_next_row self.old.rows self.old }
     {
         if self.next < self.rows.len() {
-            self.used = put_if_any(&mut self.buffer, self.used, &self.rows[self.next]);
+            let row = replace(&mut self.rows[self.next], None);
+            self.used = put_if_any(&mut self.buffer, self.used, &row);
             self.next += 1;
         }
     }

@@ -5,7 +5,7 @@ ghost use Rattle.std.specs.Option.{option_map};
 ghost use Rattle.row_map.specs.Drops.{is_valid_beyond};
 ghost use Rattle.row_map.specs.Database.{RowView, key_of};
 ghost use Rattle.path_records.specs.Key.{key_bytes};
-ghost use Rattle.row_edits.specs.Merging.{keys_named, keys_named_by, outlives, outlives_one, has_key, KeysRise, Includes};
+ghost use Rattle.row_edits.specs.Merging.{keys_named, keys_named_by, outlives, outlives_one, has_key, KeysRise};
 ghost use Rattle.row_edits.specs.Planning.{is_beyond};
 ghost use Rattle.row_edits.specs.Touched.{IsKeyOrder, is_key_above, risen};
 
@@ -14,13 +14,13 @@ use path_records::Key;
 use seg_core::{SegType, Segment};
 use std::alloc::{AllocError, Global};
 
-/// The greatest moment of the purges among commands, in half seconds since 1970, where there are
-/// any. A row that no command names is left after the commands exactly where it expires after that
-/// moment.
-pub fn greatest_purge(commands: &[Command]) -> Option<u64>
-    ensures { (row : RowView) → is_beyond result row ≡ outlives commands.now row }
+/// The greatest one of a moment and the moments of the purges among commands, in half seconds since
+/// 1970, where there are any. A row that no command names is left after the commands exactly where it
+/// expires after their greatest moment.
+pub fn greatest_purge(before: Option<u64>, commands: &[Command]) -> Option<u64>
+    ensures { (row : RowView) → is_beyond result row ≡ (if is_beyond before row then outlives commands.now row else false) }
 {
-    let mut greatest = None;
+    let mut greatest = before;
     for command in commands {
         greatest = with_purge(greatest, command);
     }
@@ -47,24 +47,30 @@ fn later(greatest: Option<u64>, moment: u64) -> u64
     }
 }
 
-/// The keys that commands name, each once, in their order: those of the rows that they register,
-/// and those that they remove. The call computes the id of each segment that is registered.
-pub fn touched_keys(alloc: Global, commands: &[Command]) -> Result<Vec<Key>, AllocError>
+/// These keys and those that commands name, each once, in their order. A command names the keys of
+/// the rows that it registers, and the one that it removes. Where the keys before are in their
+/// order, they are not sorted anew, so that few commands cost little beside many keys.
+pub fn touched_keys(
+    alloc: Global,
+    before: Vec<Key>,
+    commands: &[Command],
+) -> Result<Vec<Key>, AllocError>
     ensures rise { IfOk result (λ keys. KeysRise (map key_bytes keys.items)) }
-    ensures covers { IfOk result (λ keys. Includes (map key_bytes keys.items) (keys_named_by commands.now)) }
-    ensures named { IfOk result (λ keys. Includes (keys_named_by commands.now) (map key_bytes keys.items)) }
+    ensures just { IfOk result (λ keys. (k : List ℕ)
+        → has_key (map key_bytes keys.items) k ≡ has_key (map key_bytes before.items ++ keys_named_by commands.now) k) }
 {
-    let mut keys = named_keys(alloc, commands)?;
-    sort_keys(&mut keys);
+    let mut keys = before;
+    push_all_named(&mut keys, commands)?;
+    sort_keys(&mut keys)?;
     without_repeats(alloc, &keys)
 }
 
-/// Sorts keys.
-fn sort_keys(keys: &mut Vec<Key>)
-    ensures order { IsKeyOrder keys.new.items }
-    ensures same { (k : List ℕ) → has_key (map key_bytes keys.new.items) k ≡ has_key (map key_bytes keys.old.items) k }
+/// Sorts keys. Keys that are in their order are a run, which is merged with the others.
+fn sort_keys(keys: &mut Vec<Key>) -> Result<(), AllocError>
+    ensures order { OnOk result (IsKeyOrder keys.new.items) }
+    ensures same { OnOk result ((k : List ℕ) → has_key (map key_bytes keys.new.items) k ≡ has_key (map key_bytes keys.old.items) k) }
 {
-    keys.sort_unstable_by(|one, other| one.order(other));
+    keys.sort_by(|one, other| one.order(other))
 }
 
 /// The keys that are above all those before them. Of keys in their order this is each key once.
@@ -92,15 +98,14 @@ fn is_above(last: Option<Key>, key: &Key) -> bool
     }
 }
 
-/// The keys that commands name, in the order in which the commands name them.
-fn named_keys(alloc: Global, commands: &[Command]) -> Result<Vec<Key>, AllocError>
-    ensures { IfOk result (λ keys. map key_bytes keys.items ≡ keys_named_by commands.now) }
+/// Appends the keys that commands name, in the order in which the commands name them.
+fn push_all_named(keys: &mut Vec<Key>, commands: &[Command]) -> Result<(), AllocError>
+    ensures { OnOk result (map key_bytes keys.new.items ≡ map key_bytes keys.old.items ++ keys_named_by commands.now) }
 {
-    let mut keys = Vec::new(alloc);
     for command in commands {
-        push_named(&mut keys, command)?;
+        push_named(keys, command)?;
     }
-    Ok(keys)
+    Ok(())
 }
 
 /// Appends the keys that a command names.

@@ -35,15 +35,15 @@ returns-then-not-scan-clause-reads g c honest on =
     (subst (λ (p : Progress). ScansOn (limits_of c.args.journal.scanner.version) bytes head.place (Ok p)) c.in-Done.is (c.in_ok-scanner.ensures.scan honest head.place on.read)))
     unsealed
 
-pub returns-in_ok-start_rows-in-Done-clause-reads : goal.returns-in_ok-start_rows-in-Done-clause-reads
-returns-in_ok-start_rows-in-Done-clause-reads g c honest on =
+pub returns-else-not-scan-clause-reads : goal.returns-else-not-scan-clause-reads
+returns-else-not-scan-clause-reads g c honest on =
     let geometry = geometry_view c.args.geometry in
     let reads = reads_of (g.D.Device.disk c.args.device.now) in
     let bytes = journal_of geometry c.args.half reads in
     let head = head_view c.args.journal.front.head in
     let sealed : c.in-Done.scan.sealed ≡ true = search (rules, c.if-not-scan.false) in
-    let front = c.in_ok-start_rows-in-Done.ensures.front in
-    let journal = c.in_ok-start_rows-in-Done.ensures.journal in
+    let front = c.start_rows.ensures.front in
+    let journal = c.start_rows.ensures.journal in
     let scanned : journal_scan command_format (limits_of head.version) bytes head.place ≡ Ok (reading_of c.in-Done.scan) =
     subst (λ (v : ℕ). journal_scan command_format (limits_of v) bytes head.place ≡ Ok (reading_of c.in-Done.scan)) on.version
     (subst (λ (p : Progress). ScansOn (limits_of c.args.journal.scanner.version) bytes head.place (Ok p)) c.in-Done.is (c.in_ok-scanner.ensures.scan honest head.place on.read)) in
@@ -54,7 +54,7 @@ returns-in_ok-start_rows-in-Done-clause-reads g c honest on =
             ∙ ap (λ (s : Scan). let r : Result (Reading Command) JournalRefusal = Ok (reading_of s) in r) (sym journal);
         sealed = ap (λ (s : Scan). s.sealed) journal ∙ sealed;
       };
-      streamed = streamed_start (area_at geometry c.args.half) reads c.in_ok-start_rows-in-Done.field-0 c.args.journal.front front c.in_ok-start_rows-in-Done.ensures.first c.in_ok-start_rows-in-Done.ensures.none;
-      summed = c.in_ok-start_rows-in-Done.ensures.sums
-          ∙ sym (ap (λ (n : ℕ). sums_in n 0 (part (512 * area_at geometry c.args.half + 32) c.in_ok-start_rows-in-Done.field-0.front.size reads)) c.in_ok-start_rows-in-Done.ensures.first);
+      streamed = streamed_start (area_at geometry c.args.half) reads c.start_rows.result c.args.journal.front front c.start_rows.ensures.first c.start_rows.ensures.none;
+      summed = c.start_rows.ensures.sums
+          ∙ sym (ap (λ (n : ℕ). sums_in n 0 (part (512 * area_at geometry c.args.half + 32) c.start_rows.result.front.size reads)) c.start_rows.ensures.first);
     }

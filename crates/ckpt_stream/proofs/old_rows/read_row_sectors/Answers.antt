@@ -44,7 +44,7 @@ returns-clause-summed g c honest was =
     let shown : c.deref.result.now ≡ c.read_sectors.new.window =
     c.deref.ensures.value ∙ with_items_is c.in_ok-window.window c.read_sectors.new.window (omega (arith, c.in_ok-read_sectors.ensures.window, c.in_ok-window.ensures.len, c.deref_mut.ensures.len)) in
     on_ok (AreSummedOn c.args.area reads
-    (record { front = rows.front; journal = rows.journal; planner = c.see_rows.new.planner; stream = c.see_rows.new.stream; note = c.see_rows.new.note; sums = c.push_sums.new.sums; first = rows.first + c.min-count.result }))
+    (record { front = rows.front; journal = rows.journal; named = rows.named; planner = c.see_rows.new.planner; stream = c.see_rows.new.stream; note = c.see_rows.new.note; sums = c.push_sums.new.sums; first = rows.first + c.min-count.result }))
     c.see_rows.result
     (c.in_ok-push_sums.ensures
     ∙ more_summed rows.first c.min-count.result rows.sums.items before c.row_part-part.result.now c.requires.read.summed was
@@ -73,7 +73,9 @@ returns-clause-read g c =
     let pushed = read.pushed ++ take (512 * c.min-count.result - (32 - c.min-start.result)) (drop (32 - c.min-start.result) c.deref-2.result.now) in
     let before = c.in_ok-push.ensures.pushed rows.front.size rows.front.count read.pushed rows.note.value read.streamed in
     on_both _ _ _ c.see_rows.result c.see_rows.ensures.seen c.see_rows.ensures.streamed (λ seen streamed. record {
-      seen = seen rows.journal.commands.items read.seen;
+      seen = seen (take rows.named rows.journal.commands.items) read.seen;
+      named = read.named;
+      fresh = λ less. absurd (omega (arith, less, c.requires.named));
       pushed = pushed;
       long = pushed_long read.pushed c.deref-2.result.now rows.first c.min-count.result (32 - c.min-start.result) read.long low some from
           (omega (arith, c.min-count.ensures, ap length shown, c.in_ok-read_sectors.ensures.window, c.in_ok-window.ensures.len, c.deref_mut.ensures.len));
@@ -100,7 +102,7 @@ returns-clause-streamed g c honest =
     λ streamed. subst (λ (l : List ℕ). HasStreamed c.args.rows.now.front.size c.args.rows.now.front.count l c.args.rows.now.note.value c.push.new.self) bytes
     (c.in_ok-push.ensures.pushed rows.front.size rows.front.count (part At (512 * rows.first - 32) reads) rows.note.value streamed) in
     goes_on c.args.area reads rows
-    (record { front = rows.front; journal = rows.journal; planner = c.see_rows.new.planner; stream = c.see_rows.new.stream; note = c.see_rows.new.note; sums = c.push_sums.new.sums; first = rows.first + c.min-count.result })
+    (record { front = rows.front; journal = rows.journal; named = rows.named; planner = c.see_rows.new.planner; stream = c.see_rows.new.stream; note = c.see_rows.new.note; sums = c.push_sums.new.sums; first = rows.first + c.min-count.result })
     c.see_rows.result
     (λ streamed. on_both _ _ _ c.see_rows.result c.see_rows.ensures.streamed c.see_rows.ensures.streamed
     (λ more again. more rows.front.size rows.front.count (part At (512 * (rows.first + c.min-count.result) - 32) reads) (after streamed)))

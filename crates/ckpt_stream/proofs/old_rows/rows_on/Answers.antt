@@ -17,13 +17,13 @@ use Rattle.ckpt_stream.proofs.old_rows.rows_on.Goals as goal
 
 pub returns-in_err-settle_rows-clause-looks : goal.returns-in_err-settle_rows-clause-looks
 returns-in_err-settle_rows-clause-looks g c =
-    let made = err_from_is_err_and c.from_residual.result c.from_residual.ensures.1 in
-    looks_refused_rows c.from_residual.result c.in_err-settle_rows.field-0.0 c.args.rows.note.value c.args.rows.stream (g.D.Device.disk c.args.device.now) (g.D.Device.disk c.args.device.now)
+    let made = err_from_is_err_and c.from_residual-in_err-settle_rows.result c.from_residual-in_err-settle_rows.ensures.1 in
+    looks_refused_rows c.from_residual-in_err-settle_rows.result c.in_err-settle_rows.field-0.0 c.args.rows.note.value c.args.rows.stream (g.D.Device.disk c.args.device.now) (g.D.Device.disk c.args.device.now)
     (made.1 ∙ ap (λ (x : SealedError). Err x) made.2) c.in_err-settle_rows.ensures.refused (stays_same (g.D.Device.disk c.args.device.now))
 
 pub returns-in_err-settle_rows-clause-reads : goal.returns-in_err-settle_rows-clause-reads
 returns-in_err-settle_rows-clause-reads g c honest on =
-    let made = err_from_is_err_and c.from_residual.result c.from_residual.ensures.1 in
+    let made = err_from_is_err_and c.from_residual-in_err-settle_rows.result c.from_residual-in_err-settle_rows.ensures.1 in
     let e = c.in_err-settle_rows.field-0.0 in
     let geometry = geometry_view c.args.geometry in
     let reads = reads_of (g.D.Device.disk c.args.device.now) in

@@ -1,6 +1,9 @@
 -- All rows.
-use Rattle.std.proofs.Common.{◌≤◌, ◌∙◌, length, ap, arith}
+use Rattle.std.proofs.Common.{◌≤◌, ◌∙◌, List, length, ap, subst, arith}
+use Rattle.std.proofs.lemmas.List.{take_all}
+use Rattle.path_db.specs.declared.command.Command.{Command}
 use Rattle.path_db.specs.Command.{database_after_all}
+use Rattle.row_edits.specs.Planner.{HasSeen}
 use Rattle.ckpt_stream.proofs.OldRows.{rows_sized}
 use Rattle.ckpt_stream.proofs.old_rows.settle_rows.Goals as goal
 
@@ -13,7 +16,8 @@ returns-clause-settled c =
     let read = c.requires.read in
     let inside : c.args.rows.front.size ≤ length c.requires.read.pushed = omega (arith, read.long, c.requires.all) in
     let streamed = c.in_ok-see_rows.ensures.streamed rows.front.size rows.front.count read.pushed read.streamed in
-    let seen = c.in_ok-see_rows.ensures.seen rows.journal.commands.items read.seen in
+    let seen = c.in_ok-see_rows.ensures.seen rows.journal.commands.items
+    (subst (λ (l : List Command). HasSeen l rows.note.value rows.planner) (take_all rows.named rows.journal.commands.items c.requires.named) read.seen) in
     record {
       commands = rows.journal.commands.items;
       settles = c.in_ok-settling.ensures.settles c.see_rows.new.note.value seen streamed.cursor.database;

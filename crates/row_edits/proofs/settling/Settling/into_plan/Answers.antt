@@ -1,4 +1,4 @@
-use Rattle.std.proofs.Common.{◌≡◌, ◌+◌, ◌-◌, ◌^◌, min, refl, arith}
+use Rattle.std.proofs.Common.{◌≡◌, ◌-◌, ◌^◌, min, refl, arith}
 use Rattle.row_edits.specs.Edits.{bytes_kept}
 use Rattle.row_edits.proofs.Folds.{plan_of}
 use Rattle.row_edits.proofs.settling.Settling.into_plan.Goals as goal
