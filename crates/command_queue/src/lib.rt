@@ -8,19 +8,29 @@
 //! To the layer above: `CommandQueue::hand_in` returns a claim of the command that was passed, with
 //! the next number, and the command's `Sender` notes it. `CommandQueue::take` returns the command
 //! that waits longest, with a claim of that command. `Claim::same_number_means_same_command` shows
-//! that two claims of one number are of one command.
+//! that two claims of one number are of one command. Who submits commands notes them in
+//! `Submitted`. `CommandQueue::end` then says that they are a part of what was handed in, in the
+//! same order and each once, and that each `Sender` that has ended had noted all that was handed in
+//! of it.
 #![tactic(auto)]
 
 mod claim;
+mod desk;
 mod history;
 mod leave;
 mod not_queued;
 mod numbering;
 mod queue;
+mod rule;
 mod sender;
+mod steps;
+mod submitted;
 
 pub use claim::Claim;
+pub use desk::Queued;
 pub use history::{History, NewHistory, QueueName};
 pub use not_queued::{MOST_WAITING, NotQueued};
-pub use queue::{CommandQueue, HandedIn};
-pub use sender::{Sender, Senders};
+pub use queue::{CommandQueue, HandedIn, NewQueue};
+pub use rule::{QueuePass, QueueRule, QueueTable, QueueView, SenderList, SentCommand};
+pub use sender::{EndedSenders, Sender, Senders};
+pub use submitted::{Numbered, Submitted};

@@ -1,10 +1,16 @@
 //! The numbers of the commands that are handed in.
 
-ghost use Rattle.std.specs.Prelude.{◌≡◌, ◌+◌, ◌-◌, ◌<◌, ◌^◌, length, slice_get, Some, IfSome, IfNone, OnSome};
+ghost use Rattle.std.specs.Prelude.{◌≡◌, ◌+◌, ◌-◌, ◌<◌, ◌^◌, [], ◌∷◌, ◌++◌, length, slice_get, Some, IfSome, IfNone, OnSome};
+ghost use Rattle.command_queue.specs.Handed.{handed_with};
 ghost use Rattle.command_queue.specs.History.{head_of};
+ghost use Rattle.command_queue.specs.Orders.{commands_of};
+ghost use Rattle.command_queue.specs.Passes.{AddsOne};
 
 use crate::claim::Claim;
-use crate::history::{Add, History, NewHistory, Nothing, QueueName};
+use crate::desk::Desk;
+use crate::history::{Add, History, Nothing, QueueName};
+use crate::sender::Sender;
+use crate::submitted::Numbered;
 use logbook::{Offer, Seen, Word};
 use path_db::Command;
 use std::marker::PhantomData;
@@ -17,24 +23,39 @@ pub(crate) struct Numbering<J: QueueName> {
     next: u64,
     seen: Seen<Command, u64, History>,
     head: Word<Command, u64, History>,
-    of: PhantomData<J>,
+    desk: Desk<J>,
     ghost history_is: { seen.book ≡ J.history },
     ghost head_is: { head ≡ head_of J.history },
     ghost counted: { next ≡ length seen.log },
+    ghost noted: { commands_of desk ≡ seen.log },
+}
+
+/// What is given for a command that is handed in: a claim for who waits for its answer, one for who
+/// submits it, and what it is submitted by.
+#[derive(Drop)]
+pub(crate) struct Given<J: QueueName> {
+    pub(crate) claim: Claim<J>,
+    pub(crate) theirs: Claim<J>,
+    pub(crate) numbered: Numbered<J>,
 }
 
 impl<J: QueueName> Numbering<J> {
     /// The numbers of a history that no queue has yet: the next one is 0.
-    pub(crate) fn new(history: NewHistory) -> Numbering<J>
-        requires { history.seen.book ≡ J.history }
-        ensures { result.next ≡ 0 }
+    pub(crate) fn new(
+        head: Word<Command, u64, History>,
+        seen: Seen<Command, u64, History>,
+        desk: Desk<J>,
+    ) -> Numbering<J>
+        requires history { seen.book ≡ J.history }
+        requires head { head ≡ head_of seen.book }
+        requires empty { (seen.log ≡ []) × (desk ≡ []) }
+        ensures { (result.next ≡ 0) × (result.desk ≡ desk) }
     {
-        let NewHistory { head, seen } = history;
         Numbering {
             next: 0,
             seen,
             head,
-            of: PhantomData,
+            desk,
         }
     }
 
@@ -45,15 +66,19 @@ impl<J: QueueName> Numbering<J> {
         self.next
     }
 
-    /// Gives the next number to a command, and returns two claims of it. Where the word of the
+    /// Gives the next number to a command of a sender, which notes it. Where the word of the
     /// history is found changed, no number is given. Only these numbers change the word, so only a
     /// defect of the program leads there.
-    pub(crate) fn give(&mut self, command: &Command) -> Option<(Claim<J>, Claim<J>)>
+    #[tactic(auto, using(crate::proofs::Noting::noted_too, crate::proofs::Noting::as_many))]
+    pub(crate) fn give(&mut self, sender: &mut Sender<J>, command: &Command) -> Option<Given<J>>
         requires { self.old.next < 2 ^ 64 - 1 }
-        ensures claims { IfSome result (λ both. (both.0.command.value ≡ command.now) × (both.1.command.value ≡ command.now)) }
-        ensures number { IfSome result (λ both. (both.0.number ≡ self.old.next) × (both.1.number ≡ self.old.next)) }
+        ensures claims { IfSome result (λ g. (g.claim.command.value ≡ command.now) × (g.theirs.command.value ≡ command.now)) }
+        ensures number { IfSome result (λ g. (g.claim.number ≡ self.old.next) × (g.theirs.number ≡ self.old.next)) }
+        ensures numbered { IfSome result (λ g. g.numbered ≡ record { number = self.old.next; command = command.now }) }
         ensures next { OnSome result (self.new.next ≡ self.old.next + 1) }
-        ensures same { IfNone result (self.new.next ≡ self.old.next) }
+        ensures history { OnSome result (AddsOne command.now self.old.desk self.new.desk) }
+        ensures sent { OnSome result (sender.new ≡ handed_with command.now sender.old) }
+        ensures same { IfNone result ((self.new.next ≡ self.old.next) × (self.new.desk ≡ self.old.desk) × (sender.new ≡ sender.old)) }
     {
         let number = self.next;
         let mut seen = self.seen.again();
@@ -67,13 +92,29 @@ impl<J: QueueName> Numbering<J> {
         if found != number {
             return None;
         }
-        let both = (
-            claim_of(&seen, number, command),
-            claim_of(&seen, number, command),
-        );
+        let claim = claim_of(&seen, number, command);
+        let theirs = claim_of(&seen, number, command);
+        let numbered = self.desk.note(sender, number, command);
         self.seen = seen;
         self.next = number + 1;
-        Some(both)
+        Some(Given {
+            claim,
+            theirs,
+            numbered,
+        })
+    }
+
+    /// What is known of all commands that were handed in.
+    pub(crate) fn into_desk(self) -> Desk<J>
+        ensures { result ≡ self.desk }
+    {
+        let Numbering {
+            next: _,
+            seen: _seen,
+            head: _head,
+            desk,
+        } = self;
+        desk
     }
 }
 

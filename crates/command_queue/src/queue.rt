@@ -1,34 +1,40 @@
 //! The queue: commands that were handed in and not taken yet.
 
-ghost use Rattle.std.specs.Prelude.{◌≡◌, ◌==◌, ◌+◌, ◌-◌, ◌^◌, ◌<◌, ◌≤◌, ◌++◌, ◌∷◌, [], length, map, min, true, false, Option, Some, None, unwrap_or, IfOk, IfErr, IfSome, OnOk, OnErr, MatchOption, IfNone};
+ghost use Rattle.std.specs.Prelude.{◌≡◌, ◌==◌, if◌then◌else◌, ◌+◌, ◌-◌, ◌^◌, ◌<◌, ◌≤◌, ◌++◌, ◌∷◌, [], length, map, min, true, false, Option, Some, None, unwrap_or, IfOk, IfErr, IfSome, OnOk, OnErr, MatchOption, IfNone};
 ghost use Rattle.std.specs.VecDeque.{deque_len, deque_capacity};
 ghost use Rattle.group_core.specs.declared.submit_error.SubmitError.{SubmitError};
 ghost use Rattle.command_queue.specs.Handed.{handed_with};
 ghost use Rattle.command_queue.specs.Numbering.{last_numbers};
-ghost use Rattle.command_queue.specs.Refusals.{queue_refusal};
+ghost use Rattle.command_queue.specs.Orders.{commands_of, IsWithin, AreAllOf};
+ghost use Rattle.command_queue.specs.Passes.{AddsOne};
+ghost use Rattle.command_queue.specs.Refusals.{queue_refusal, pass_refusal};
 ghost use Rattle.command_queue.specs.declared.not_queued.NotQueued.TheVariants.{NoMemory};
 
 use crate::claim::Claim;
+use crate::desk::{Desk, NewDesk, Queued};
 use crate::history::{NewHistory, QueueName};
 use crate::leave::Leave;
 use crate::not_queued::{NotQueued, refusal};
-use crate::numbering::Numbering;
-use crate::sender::{Sender, Senders};
+use crate::numbering::{Given, Numbering};
+use crate::sender::{EndedSenders, Sender, Senders};
+use crate::submitted::{Numbered, Submitted};
 use path_db::Command;
 use std::alloc::Global;
 use std::collections::VecDeque;
-use std::snapshot::Snapshot;
 
 /// A command that waits, its claim, and where its answer goes.
 #[derive(Drop)]
 pub struct HandedIn<J: QueueName, T> {
     /// The claim of the command.
     pub claim: Claim<J>,
+    /// What it is submitted by, once.
+    pub numbered: Numbered<J>,
     /// The command.
     pub command: Command,
     /// Where the answer goes.
     pub reply_to: T,
     ghost same: { command ≡ claim.command.value },
+    ghost numbered_so: { numbered ≡ record { number = claim.number; command = command } },
     // Whoever has taken the command may refuse it, for any reason.
     ghost refusable: { (why : Option SubmitError) → J.refused claim.command.value why ≡ true },
 }
@@ -45,27 +51,54 @@ pub struct CommandQueue<J: QueueName, T> {
     ghost numbered: { map (λ w. w.claim.number) waiting.items ≡ last_numbers numbers.next (length waiting.items) },
 }
 
+/// A new queue, with what belongs to it alone.
+#[derive(Drop)]
+pub struct NewQueue<J: QueueName, T> {
+    /// The queue.
+    pub queue: CommandQueue<J, T>,
+    /// What begins its senders.
+    pub senders: Senders<J>,
+    /// What notes which of its commands were submitted.
+    pub submitted: Submitted<J>,
+}
+
 impl<J: QueueName, T: Drop> CommandQueue<J, T> {
     ghost use Rattle.path_db.specs.declared.command.Command.{Command};
 
-    /// A queue in which no command waits, and what begins its senders.
-    pub fn new(alloc: Global, history: NewHistory) -> (CommandQueue<J, T>, Senders<J>)
+    /// A queue in which no command waits, what begins its senders, and what notes which commands
+    /// were submitted.
+    pub fn new(alloc: Global, history: NewHistory) -> NewQueue<J, T>
         requires history { history.seen.book ≡ J.history }
+        requires senders { history.desk.keeper.table_id ≡ J.senders }
         requires refusals { (command : Command) (why : Option SubmitError) → J.refused command why ≡ true }
-        ensures { (result.0.numbers.next ≡ 0) × (result.0.waiting.items ≡ []) × (result.0.is_closed ≡ false) }
+        ensures queue { (result.queue.numbers.next ≡ 0) × (result.queue.waiting.items ≡ []) × (result.queue.is_closed ≡ false) }
+        ensures history { result.queue.numbers.desk ≡ [] }
+        ensures submitted { result.submitted ≡ record { next = 0; commands = [] } }
     {
+        let NewHistory { head, seen, desk } = history;
+        let NewDesk {
+            table,
+            of_senders,
+            of_submitted,
+            keeper,
+            submitter,
+        } = desk;
         let queue = CommandQueue {
-            numbers: Numbering::new(history),
+            numbers: Numbering::new(head, seen, Desk::new(table, keeper)),
             is_closed: false,
             waiting: VecDeque::new(alloc),
             leave: Leave::new(),
         };
-        (queue, Senders::new())
+        NewQueue {
+            queue,
+            senders: Senders::new(of_senders),
+            submitted: Submitted::nothing(submitter, of_submitted),
+        }
     }
 
-    /// Hands a command in for a sender, which notes it, and returns a claim of that command with the
-    /// next number. A command that is not queued is returned, and the queue and the sender are as
-    /// they were. The error is the first of `Closed`, `Full` and `Exhausted` that is due, and
+    /// Hands a command in for a sender, which notes it, and returns a claim of that command with
+    /// the next number. A command that is not queued is returned, and the queue and the sender are
+    /// as they were. The error is the first of `Closed`, `Full` and `Exhausted` that is due, and
     /// otherwise `NoMemory`.
     #[tactic(auto, using(crate::proofs::Waiting::waits))]
     pub fn hand_in(
@@ -87,25 +120,82 @@ impl<J: QueueName, T: Drop> CommandQueue<J, T> {
         ensures same { OnErr result ((self.new.numbers.next ≡ self.old.numbers.next) × (self.new.waiting.items ≡ self.old.waiting.items)) }
         ensures why { IfErr result (λ e. e.1 ≡ unwrap_or (queue_refusal self.old.is_closed (length self.old.waiting.items) self.old.numbers.next) NoMemory) }
         ensures refused { OnErr result ((why : Option SubmitError) → J.refused command why ≡ true) }
+        ensures history { OnOk result (AddsOne command self.old.numbers.desk self.new.numbers.desk) }
+        ensures unchanged { OnErr result (self.new.numbers.desk ≡ self.old.numbers.desk) }
         ensures door { self.new.is_closed ≡ self.old.is_closed }
     {
         if let Some(why) = self.refusal() {
             return Err(self.back(command, why));
         }
-        if sender.is_full() || self.waiting.reserve(1).is_err() {
+        if self.waiting.reserve(1).is_err() {
             return Err(self.back(command, NotQueued::NoMemory));
         }
-        let Some((claim, theirs)) = self.numbers.give(&command) else {
+        let Some(given) = self.numbers.give(sender, &command) else {
             return Err(self.back(command, NotQueued::NoMemory));
         };
+        let Given {
+            claim,
+            theirs,
+            numbered,
+        } = given;
         self.leave.refuse(&command);
-        sender.note(Snapshot::of(&command));
         self.waiting.push_back_reserved(HandedIn {
             claim: theirs,
+            numbered,
             command,
             reply_to,
         });
         Ok(claim)
+    }
+
+    /// Why `pass` refuses a command now: the first of `Closed`, `Full` and `Exhausted` that is due.
+    /// Where other commands wait it is `Full`, as they would come after that one.
+    pub fn pass_refusal(&self) -> Option<NotQueued>
+        ensures number { IfNone result (self.now.numbers.next < 2 ^ 64 - 1) }
+        ensures why { result ≡ pass_refusal self.now.is_closed (length self.now.waiting.items) self.now.numbers.next }
+    {
+        if let Some(why) = self.refusal() {
+            return Some(why);
+        }
+        if self.waiting.is_empty() {
+            return None;
+        }
+        Some(NotQueued::Full)
+    }
+
+    /// The number that the next command gets which is handed in.
+    pub fn next_number(&self) -> u64
+        ensures { result ≡ self.now.numbers.next }
+    {
+        self.numbers.next()
+    }
+
+    /// Hands a command in for a sender that is submitted at once, so that it does not wait. The
+    /// error is that of `pass_refusal`, and otherwise `NoMemory`: the word of the history was found
+    /// changed, and only a defect of the program leads there.
+    pub fn pass(
+        &mut self,
+        sender: &mut Sender<J>,
+        command: &Command,
+    ) -> Result<Numbered<J>, NotQueued>
+        ensures number { IfOk result (λ n. n ≡ record { number = self.old.numbers.next; command = command.now }) }
+        ensures sent { OnOk result (sender.new ≡ handed_with command.now sender.old) }
+        ensures unsent { OnErr result (sender.new ≡ sender.old) }
+        ensures history { OnOk result (AddsOne command.now self.old.numbers.desk self.new.numbers.desk) }
+        ensures unchanged { OnErr result (self.new.numbers.desk ≡ self.old.numbers.desk) }
+        ensures same { (self.new.waiting.items ≡ self.old.waiting.items) × (self.new.is_closed ≡ self.old.is_closed) }
+        ensures next { OnOk result (self.new.numbers.next ≡ self.old.numbers.next + 1) }
+        ensures as_before { OnErr result (self.new.numbers.next ≡ self.old.numbers.next) }
+        ensures passed { OnOk result (pass_refusal self.old.is_closed (length self.old.waiting.items) self.old.numbers.next ≡ None) }
+        ensures why { IfErr result (λ e. e ≡ unwrap_or (pass_refusal self.old.is_closed (length self.old.waiting.items) self.old.numbers.next) NoMemory) }
+    {
+        if let Some(why) = self.pass_refusal() {
+            return Err(why);
+        }
+        match self.numbers.give(sender, command) {
+            Some(given) => Ok(given.numbered),
+            None => Err(NotQueued::NoMemory),
+        }
     }
 
     /// Why a command is refused for whose answer there is no memory: it is not handed in. The
@@ -155,6 +245,23 @@ impl<J: QueueName, T: Drop> CommandQueue<J, T> {
         ensures same { (self.new.numbers.next ≡ self.old.numbers.next) × (self.new.waiting ≡ self.old.waiting) }
     {
         self.is_closed = true;
+    }
+
+    /// Ends the queue. What was submitted is a part of what was handed in, in the same order and
+    /// each once. What each sender handed in that has ended is all that was handed in of it.
+    pub fn end(self, submitted: Submitted<J>, ended: EndedSenders<J>) -> Queued
+        ensures history { result.history ≡ self.numbers.desk }
+        ensures senders { result.senders ≡ ended }
+        ensures submitted { IsWithin submitted.commands (commands_of result.history) }
+        ensures all { AreAllOf result.history result.senders }
+    {
+        let CommandQueue {
+            numbers,
+            is_closed: _,
+            waiting: _waiting,
+            leave: _leave,
+        } = self;
+        numbers.into_desk().end(submitted, ended)
     }
 
     /// The number of commands that wait.

@@ -1,73 +1,115 @@
 //! Who hands commands in.
 
-ghost use Rattle.std.specs.Prelude.{◌≡◌, ◌-◌, ◌^◌, ◌<◌, ◌≤◌, true, false};
-ghost use Rattle.command_queue.specs.Handed.{nothing_handed, handed_with};
+ghost use Rattle.std.specs.Prelude.{◌≡◌, []};
+ghost use Rattle.std.specs.Arc.{arc_value};
+ghost use Rattle.command_queue.specs.Handed.{nothing_handed};
+ghost use Rattle.command_queue.specs.Orders.{Keeps};
+ghost use Rattle.command_queue.specs.Passes.{IsLists};
 
 use crate::history::QueueName;
-use path_db::Command;
+use crate::rule::{QueuePass, QueueTable};
+use crate::steps;
+use std::alloc::Global;
 use std::marker::{Model, PhantomData};
-use std::snapshot::Snapshot;
+use std::sync::Arc;
 
 /// Who hands in commands at the queue of this name, as a session does. Contracts see which commands
 /// of it were taken, so that it can be said of a call that it hands nothing in. Nothing copies a
-/// sender, and only `Senders` begins one.
+/// sender, and only `Senders` begins one. A sender has no bytes.
 #[derive(Drop)]
 pub struct Sender<J: QueueName> {
-    count: u64,
-    /// The last command, which only clauses see.
-    last: Snapshot<Command>,
+    pub(crate) pass: QueuePass,
     of: PhantomData<J>,
 }
 
 impl<J: QueueName> Model for Sender<J> {
+    ghost use Rattle.std.specs.Prelude.{◌≡◌, []};
     ghost use Rattle.command_queue.specs.Handed.{Handed};
+    ghost use Rattle.command_queue.specs.Passes.{first_commands, IsSender};
 
     ghost Value = { Handed };
 
-    ghost view = { λ s. record { count = s.count; last = s.last.value } };
+    ghost view = { λ s. record { commands = first_commands s.pass.me.0.lists } };
+
+    ghost invariant = { λ s. (s.pass.table_id ≡ J.senders) × (s.pass.me.1 ≡ []) × IsSender s.pass.me.0 };
 }
 
-impl<J: QueueName> Sender<J> {
-    /// Whether no more commands of it can be counted: 2^64 - 1 were taken.
-    pub fn is_full(&self) -> bool
-        ensures below { result ≡ false → self.now.count < 2 ^ 64 - 1 }
-        ensures full { result ≡ true → 2 ^ 64 - 1 ≤ self.now.count }
-    {
-        self.count >= u64::MAX
-    }
+/// What senders that have ended had handed in: for each that has handed something in, its number
+/// and its commands, in their order. It has no bytes.
+#[derive(Drop)]
+pub struct EndedSenders<J: QueueName> {
+    pub(crate) pass: QueuePass,
+    of: PhantomData<J>,
+}
 
-    /// Notes a command of it that was taken. The command may be elsewhere by then: the snapshot
-    /// shows it to clauses.
-    pub fn note(&mut self, command: Snapshot<Command>)
-        requires { self.old.count < 2 ^ 64 - 1 }
-        ensures { self.new ≡ handed_with command.value self.old }
+impl<J: QueueName> Model for EndedSenders<J> {
+    ghost use Rattle.std.specs.Prelude.{◌≡◌, [], List};
+    ghost use Rattle.command_queue.specs.declared.rule.SenderList.{SenderList};
+    ghost use Rattle.command_queue.specs.Passes.{IsLists};
+
+    ghost Value = { List SenderList };
+
+    ghost view = { λ e. e.pass.me.0.lists };
+
+    ghost invariant = { λ e. (e.pass.table_id ≡ J.senders) × (e.pass.me.1 ≡ []) × IsLists e.pass.me.0 };
+}
+
+impl<J: QueueName> EndedSenders<J> {
+    /// The pass alone.
+    pub(crate) fn into_pass(self) -> QueuePass
+        ensures lists { result.me.0.lists ≡ self }
+        ensures pass { (result.table_id ≡ J.senders) × (result.me.1 ≡ []) × IsLists result.me.0 }
     {
-        self.count += 1;
-        self.last = command;
+        let EndedSenders { pass, of: _ } = self;
+        pass
     }
 }
 
-/// Begins the senders of the queue of this name. Each queue has one.
+/// Begins the senders of the queue of this name, and takes them in as they end. Each queue has one.
 #[derive(Drop)]
 pub struct Senders<J: QueueName> {
+    table: Arc<QueueTable, Global>,
     of: PhantomData<J>,
+    ghost one_word: { (arc_value table).shared.table_id.words ≡ 1 },
+    ghost of_name: { (arc_value table).shared.table_id ≡ J.senders },
 }
 
 impl<J: QueueName> Senders<J> {
     /// The one of a new queue.
-    pub(crate) fn new() -> Senders<J> {
-        Senders { of: PhantomData }
+    pub(crate) fn new(table: Arc<QueueTable, Global>) -> Senders<J>
+        requires { ((arc_value table).shared.table_id.words ≡ 1) × ((arc_value table).shared.table_id ≡ J.senders) }
+    {
+        Senders {
+            table,
+            of: PhantomData,
+        }
     }
 
     /// Begins a sender that has handed in nothing.
     pub fn begin(&self) -> Sender<J>
         ensures { result ≡ nothing_handed }
     {
-        let _of = &self.of;
         Sender {
-            count: 0,
-            last: Snapshot::of(&Command::Purge(0)),
+            pass: steps::issue(&self.table),
             of: PhantomData,
         }
+    }
+
+    /// No sender has ended yet.
+    pub fn none_ended(&self) -> EndedSenders<J>
+        ensures { result ≡ [] }
+    {
+        EndedSenders {
+            pass: steps::issue(&self.table),
+            of: PhantomData,
+        }
+    }
+
+    /// Takes in a sender that has ended.
+    pub fn end(&self, ended: &mut EndedSenders<J>, sender: Sender<J>)
+        ensures { Keeps sender ended.old ended.new }
+    {
+        let Sender { pass, of: _ } = sender;
+        steps::gather(&self.table, &mut ended.pass, pass);
     }
 }
