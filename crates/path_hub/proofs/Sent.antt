@@ -12,7 +12,8 @@ use Rattle.std.specs.contracts.alloc.Global as Global
 use Rattle.std.specs.contracts.impls.GlobalAllocator.TheImpl as heap
 use Rattle.command_queue.specs.declared.history.QueueName as queue
 use Rattle.command_queue.specs.contracts.queue.CommandQueue as CommandQueue
-use Rattle.command_queue.proofs.Sent.{claim_send, queue_send, senders_sync}
+use Rattle.command_queue.specs.contracts.sender.EndedSenders as EndedSenders
+use Rattle.command_queue.proofs.Sent.{claim_send, ended_send, queue_send, senders_sync, submitted_send}
 use Rattle.std.specs.declared.sync.Wait as wait
 use Rattle.atomic_table.proofs.shared.Seat.TheSendSync as seat
 use Rattle.atomic_table.proofs.shared.Shared.TheSendSync as shared
@@ -124,7 +125,7 @@ journal_read_send = struct_send (shape JournalRead.the_type) (front_send, (searc
 rows_read_send : IsSend (RowsRead.the_field).row
 rows_read_send =
     struct_send (shape RowsRead.the_type)
-    (front_send, (scan_send, (planner_send, (stream_send, (search note.the_send, (search (sendable, crosses) depth 20, (search (sendable, crosses), tt)))))))
+    (front_send, (scan_send, (search (sendable, crosses), (planner_send, (stream_send, (search note.the_send, (search (sendable, crosses) depth 20, (search (sendable, crosses), tt))))))))
 
 rows_settled_send : IsSend (RowsSettled.the_field).row
 rows_settled_send =
@@ -160,17 +161,21 @@ readers_sync N b s l n m = search (sendable, crosses, reader_send) depth 12
 looks_sync : (N : RattleType) (b : reader.Ghosts N.Denot) (s : opened.Ghosts N.Denot) (l : named.Ghosts N.Denot) → IsSend N → IsSync (Mutex.the_row (Looks.the_row N b s l))
 looks_sync N b s l n = search (crosses, looks_send) depth 12
 
-module _ (D N R : RattleType) (b : reader.Ghosts N.Denot) (s : opened.Ghosts N.Denot) (l : named.Ghosts N.Denot) (q : queue.Ghosts N.Denot) (d : device.Ghosts D.Denot) (w : wait.Ghosts R.Denot) (e : IsSend D) (n : IsSend N) (m : IsSync N) (r : IsSend R) where
-  locked_send : IsSend (Locked.the_row D N R b s l q d w)
-  locked_send =
-      recorded_send _ _ _ (Locked.the_type D N R b s l q d w).to_one (struct_send (shape (Locked.the_type D N R b s l q d w)) (search (crosses, with_log_send, show_send) depth 12, (all_under_way_send N b s l q n, tt)))
+-- what senders that have ended had handed in, under a lock
+ended_sync : (N : RattleType) (q : queue.Ghosts N.Denot) → IsSend N → IsSync (Mutex.the_row (EndedSenders.the_row N q))
+ended_sync N q n = search (crosses, ended_send) depth 12
 
-  state_sync : IsSync (Mutex.the_row (Locked.the_row D N R b s l q d w))
+module _ (D N R : RattleType) (b : reader.Ghosts N.Denot) (s : opened.Ghosts N.Denot) (l : named.Ghosts N.Denot) (q : queue.Ghosts N.Denot) (d : device.Ghosts D.Denot) (w : wait.Ghosts R.Denot) (e : IsSend D) (n : IsSend N) (m : IsSync N) (r : IsSend R) where
+  locked_send : IsSend (Locked.the_row D N R d b s l q w)
+  locked_send =
+      recorded_send _ _ _ (Locked.the_type D N R d b s l q w).to_one (struct_send (shape (Locked.the_type D N R d b s l q w)) (search (crosses, with_log_send, show_send) depth 12, (all_under_way_send N b s l q n, (submitted_send N q n, tt))))
+
+  state_sync : IsSync (Mutex.the_row (Locked.the_row D N R d b s l q w))
   state_sync = search (crosses, locked_send) depth 12
 
 status_sync : IsSync (HubStatus.the_field).row
 status_sync = search (sendable, crosses) depth 80 fits 50000
 
 module _ (D N R : RattleType) (b : reader.Ghosts N.Denot) (s : opened.Ghosts N.Denot) (l : named.Ghosts N.Denot) (q : queue.Ghosts N.Denot) (d : device.Ghosts D.Denot) (w : wait.Ghosts R.Denot) (e : IsSend D) (n : IsSend N) (m : IsSync N) (r : IsSend R) (t : IsSync R) where
-  pub hub_sync : IsSync (Hub.the_row D N R b s l q d w)
-  hub_sync = recorded_sync _ _ _ (Hub.the_type D N R b s l q d w).to_one (struct_sync (shape (Hub.the_type D N R b s l q d w)) (t, (search (sendable, crosses), (queue_sync N b s l q n, (search (sendable, crosses), (state_sync D N R b s l q d w e n m r, (search (sendable, crosses) depth 20 fits 5000, (status_sync, (search (sendable, crosses), (readers_sync N b s l n m, (collector_sync N l m, (acknowledged_sync N l n, (looks_sync N b s l n, (senders_sync N m, tt))))))))))))))
+  pub hub_sync : IsSync (Hub.the_row D N R d b s l q w)
+  hub_sync = recorded_sync _ _ _ (Hub.the_type D N R d b s l q w).to_one (struct_sync (shape (Hub.the_type D N R d b s l q w)) (t, (search (sendable, crosses), (queue_sync N b s l q n, (search (sendable, crosses), (state_sync D N R b s l q d w e n m r, (search (sendable, crosses) depth 20 fits 5000, (status_sync, (search (sendable, crosses), (readers_sync N b s l n m, (collector_sync N l m, (acknowledged_sync N l n, (looks_sync N b s l n, (ended_sync N q n, (senders_sync N q m, tt)))))))))))))))

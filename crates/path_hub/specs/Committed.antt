@@ -31,16 +31,16 @@ reason_in (answer.Refused e) = Some e
 
 -- Of a command it is known for which reasons it was refused.
 module _ (refused : Option SubmitError → Bool) where
-  -- Why a command that was handed in has no receipt: it was not accepted, for the reason for which it
-  -- was refused, or the state stopped before it was committed.
+  -- Why a command that was handed in has no receipt: it was not accepted, for the reason for which
+  -- it was refused, or the state stopped before it was committed.
   abbrev pub RefusesCommand : HubError → Type 0
   RefusesCommand (hub.Stopped place) = refused None ≡ true
   RefusesCommand (hub.Submit e) = refused (Some e) ≡ true
   RefusesCommand _ = ⊥
 
   -- Why a wait for the answer to a command ends without a receipt: who waited has left; or the
-  -- command was not accepted, for the reason for which it was refused, or the state stopped before it
-  -- was committed.
+  -- command was not accepted, for the reason for which it was refused, or the state stopped before
+  -- it was committed.
   abbrev pub EndsWaiting : Bool → HubError → Type 0
   EndsWaiting left hub.NoMemory = ⊥
   EndsWaiting left hub.NoReader = ⊥

@@ -2,13 +2,13 @@
 //! state's numbers to the status, and then wakes the threads that wait for what it changed.
 
 ghost use Rattle.std.specs.Prelude.{◌≡◌, true, false};
-ghost use Rattle.store_loops.specs.Receipts.{IsTicketOrCommand, IsRedeemed, LeadsOn, LeadsOut, IsHandedIn, IsFollowedOrBack, IsPassedOn};
 ghost use Rattle.path_hub.specs.Committed.{NotesTaken};
+ghost use Rattle.store_loops.specs.Receipts.{IsTicketOrCommand, IsRedeemed, LeadsOn, LeadsOut, IsHandedIn, IsFollowedOrBack, IsPassedOn};
 
 use crate::handing::{AllUnderWay, MOST_TAKEN};
 use crate::hub::Hub;
 use crate::name::HubName;
-use command_queue::Sender;
+use command_queue::{Sender, Submitted};
 use group_core::{
     AtClosing, AtDurable, AtDurableFollowed, AtFollowed, AtFollowing, AtLaid, AtLive, AtOpened,
     AtPlan, AtStable, AtStaged, AtSwitched, AtWritten, BeginError, Closing, Commit, Durable,
@@ -21,7 +21,6 @@ use hub_status::Done;
 use logged_state::LoggedState;
 use path_db::Command;
 use sector_dev::Device;
-use std::snapshot::Snapshot;
 use std::sync::atomic::Ordering;
 use std::sync::{MutexGuard, Wait};
 use std::time::Clock;
@@ -36,6 +35,10 @@ pub(crate) struct Locked<D: Device, N: HubName, R: Wait> {
     pub(crate) state: HubState<D, N, R>,
     /// What is under way of the queue.
     pub(crate) under_way: AllUnderWay<N>,
+    /// Which commands of the queue were submitted.
+    pub(crate) submitted: Submitted<N>,
+    // The log has just these, in their order.
+    ghost in_order: { state.log.commands ≡ submitted.commands },
 }
 
 /// What the state's lock guards, while the lock is held.
@@ -104,15 +107,11 @@ impl<D: Device, N: HubName, R: Wait + Clock> Steps for Hub<D, N, R> {
         ensures command { IsTicketOrCommand command result }
         ensures sent { NotesTaken command result sender.old sender.new }
     {
-        if sender.is_full() {
-            return Err((command, SubmitError::Exhausted));
-        }
-        let shown = Snapshot::of(&command);
         let mut locked = self.lock_state();
-        let submitted = locked.state.submit(command);
+        self.take_commands(&mut locked, u64::MAX);
+        let submitted = self.submit_now(&mut locked, sender, command);
         self.end_call(locked, Done::Nothing);
         if submitted.is_ok() {
-            sender.note(shown);
             self.changes.announce(Awaited::Work);
         }
         submitted

@@ -4,12 +4,14 @@
 ghost use Rattle.std.specs.Prelude.{◌≡◌, ◌+◌, ◌<◌, ◌≤◌, true, Option};
 ghost use Rattle.std.specs.VecDeque.{deque_len, deque_capacity};
 ghost use Rattle.group_core.specs.declared.submit_error.SubmitError.{SubmitError};
+ghost use Rattle.path_hub.specs.Committed.{NotesTaken};
+ghost use Rattle.store_loops.specs.Receipts.{IsTicketOrCommand};
 
 use crate::answer::{Answer, NotCommitted, Slot};
 use crate::guarded::{HubState, Locked};
 use crate::hub::Hub;
 use crate::name::HubName;
-use command_queue::{Claim, HandedIn, MOST_WAITING};
+use command_queue::{Claim, HandedIn, MOST_WAITING, NotQueued, Sender};
 use group_core::{SubmitError, Ticket};
 use hub_status::Done;
 use logged_state::{Accepted, LoggedRedeemed};
@@ -20,6 +22,7 @@ use std::collections::VecDeque;
 use std::sync::atomic::Ordering;
 use std::sync::{Arc, MutexGuard, Wait};
 use std::time::Clock;
+use store_loops::Awaited;
 
 /// The most commands of a group, which is also the most that are taken from the queue at once.
 pub(crate) const MOST_TAKEN: u64 = 32;
@@ -62,48 +65,48 @@ impl<D: Device, N: HubName, R: Wait + Clock> Hub<D, N, R> {
             return;
         }
         self.queue.lock(&self.rt).take_into(&mut batch, room);
-        self.submit_all(&mut locked.state, &mut locked.under_way, batch);
+        self.submit_all(locked, batch);
     }
 
     /// Submits the commands of a batch in their order.
-    fn submit_all(
-        &self,
-        state: &mut HubState<D, N, R>,
-        under_way: &mut AllUnderWay<N>,
-        batch: Batch<N>,
-    )
-        requires { deque_len under_way.old + deque_len batch ≤ deque_capacity under_way.old }
+    fn submit_all(&self, locked: &mut Locked<D, N, R>, batch: Batch<N>)
+        requires { deque_len locked.old.under_way + deque_len batch ≤ deque_capacity locked.old.under_way }
     {
         let mut batch = batch;
         while let Some(handed) = batch.pop_front() {
-            self.submit_one(state, under_way, handed);
+            self.submit_one(locked, handed);
         }
     }
 
     /// Submits a command of the queue. A refusal is its answer.
     #[tactic(auto, using(store_loops::proofs::Through::taken))]
-    fn submit_one(
-        &self,
-        state: &mut HubState<D, N, R>,
-        under_way: &mut AllUnderWay<N>,
-        handed: HandedIn<N, Arc<Slot<N>, Global>>,
-    )
-        requires { deque_len under_way.old < deque_capacity under_way.old }
-        ensures len { deque_len under_way.new ≤ deque_len under_way.old + 1 }
-        ensures capacity { deque_capacity under_way.new ≡ deque_capacity under_way.old }
+    fn submit_one(&self, locked: &mut Locked<D, N, R>, handed: HandedIn<N, Arc<Slot<N>, Global>>)
+        requires { deque_len locked.old.under_way < deque_capacity locked.old.under_way }
+        ensures len { deque_len locked.new.under_way ≤ deque_len locked.old.under_way + 1 }
+        ensures capacity { deque_capacity locked.new.under_way ≡ deque_capacity locked.old.under_way }
     {
+        if !locked.submitted.precedes(&handed.numbered) {
+            // The numbers of what waits rise: only a defect of the program leads here.
+            self.has_stranger.store(true, Ordering::SeqCst);
+            locked.state.halt();
+            return self.refuse(handed, SubmitError::Stopped);
+        }
         let HandedIn {
             claim,
+            numbered,
             command,
             reply_to: slot,
         } = handed;
-        match state.submit_logged(command) {
-            Ok((ticket, accepted)) => under_way.push_back_reserved(UnderWay {
-                ticket,
-                claim,
-                accepted,
-                slot,
-            }),
+        match locked.state.submit_logged(command) {
+            Ok((ticket, accepted)) => {
+                locked.submitted.submit(numbered);
+                locked.under_way.push_back_reserved(UnderWay {
+                    ticket,
+                    claim,
+                    accepted,
+                    slot,
+                });
+            }
             Err((_command, refusal)) => {
                 self.put(
                     &slot,
@@ -111,6 +114,51 @@ impl<D: Device, N: HubName, R: Wait + Clock> Hub<D, N, R> {
                 );
             }
         }
+    }
+
+    /// Submits a command of a sender that has not waited in the queue, and notes that the sender has
+    /// handed it in. A command that is refused is not noted: it gets its number once the state has
+    /// taken it, and the queue is locked meanwhile. It is refused as busy where commands wait there.
+    #[tactic(auto, using(store_loops::proofs::Through::taken))]
+    pub(crate) fn submit_now(
+        &self,
+        locked: &mut Locked<D, N, R>,
+        sender: &mut Sender<N>,
+        command: Command,
+    ) -> Result<Ticket, (Command, SubmitError)>
+        ensures command { IsTicketOrCommand command result }
+        ensures sent { NotesTaken command result sender.old sender.new }
+    {
+        if let Err(refusal) = locked.state.judge(&command) {
+            return Err((command, refusal));
+        }
+        let Ok(copy) = command.try_clone(self.alloc) else {
+            return Err((command, SubmitError::NoMemory));
+        };
+        let mut queue = self.queue.lock(&self.rt);
+        if let Some(why) = queue.pass_refusal() {
+            return Err((command, submit_error(why)));
+        }
+        if !locked.submitted.is_below(queue.next_number()) {
+            // The numbers of the queue rise: only a defect of the program leads here.
+            return Err((command, SubmitError::Busy));
+        }
+        let (ticket, _accepted) = locked.state.submit_logged(command)?;
+        match queue.pass(sender, &copy) {
+            Ok(numbered) => locked.submitted.submit(numbered),
+            Err(_changed) => self.wait_for_ever(),
+        }
+        Ok(ticket)
+    }
+
+    /// Does not return. Only a defect of the program leads here, after which a command that the
+    /// state has taken can be neither answered nor taken back.
+    fn wait_for_ever(&self) -> ! {
+        for _ in self.rt.forever() {
+            let seen = self.changes.count(Awaited::Work);
+            self.changes.rest(&self.rt, Awaited::Work, seen);
+        }
+        unreachable!()
     }
 
     /// Submits commands of the queue in this thread: the hub has no thread for its flusher.
@@ -147,18 +195,22 @@ impl<D: Device, N: HubName, R: Wait + Clock> Hub<D, N, R> {
 
     /// Answers the commands under way whose places are below this one.
     fn redeem_below(&self, locked: &mut Locked<D, N, R>, end: u64) {
-        let Locked { state, under_way } = locked;
-        for _ in 0..under_way.len() {
-            let Some(first) = under_way.pop_front_if(|first| first.ticket.place() < end) else {
+        for _ in 0..locked.under_way.len() {
+            let first = locked
+                .under_way
+                .pop_front_if(|first| first.ticket.place() < end);
+            let Some(first) = first else {
                 break;
             };
-            self.redeem_one(state, first);
+            self.redeem_one(&mut locked.state, first);
         }
     }
 
     /// Answers a command under way whose outcome is known.
     #[tactic(auto, using(crate::proofs::Committed::receipt_shows))]
-    fn redeem_one(&self, state: &mut HubState<D, N, R>, first: UnderWay<N>) {
+    fn redeem_one(&self, state: &mut HubState<D, N, R>, first: UnderWay<N>)
+        ensures { state.new.log ≡ state.old.log }
+    {
         let UnderWay {
             ticket,
             claim,
@@ -197,6 +249,7 @@ impl<D: Device, N: HubName, R: Wait + Clock> Hub<D, N, R> {
     fn refuse(&self, handed: HandedIn<N, Arc<Slot<N>, Global>>, why: SubmitError) {
         let HandedIn {
             claim,
+            numbered: _numbered,
             command: _command,
             reply_to: slot,
         } = handed;
@@ -211,11 +264,23 @@ impl<D: Device, N: HubName, R: Wait + Clock> Hub<D, N, R> {
     }
 }
 
+/// Why the state refuses a command that its queue did not take.
+pub(crate) fn submit_error(why: NotQueued) -> SubmitError {
+    match why {
+        NotQueued::Closed => SubmitError::Stopped,
+        NotQueued::Full => SubmitError::Busy,
+        NotQueued::Exhausted => SubmitError::Exhausted,
+        NotQueued::NoMemory => SubmitError::NoMemory,
+    }
+}
+
 /// Gives up the tickets of commands whose answers nobody awaits any more, as the hub ends.
 pub(crate) fn give_up_all<D: Device, N: HubName, R: Wait>(
     state: &mut HubState<D, N, R>,
     under_way: AllUnderWay<N>,
-) {
+)
+    ensures { state.new.log ≡ state.old.log }
+{
     let mut under_way = under_way;
     while let Some(first) = under_way.pop_front() {
         let UnderWay {

@@ -11,9 +11,10 @@ use crate::answer::Slot;
 use crate::claim::HubClaim;
 use crate::error::HubError;
 use crate::guarded::Locked;
+use crate::handing::submit_error;
 use crate::name::HubName;
 use crate::waiter::{Patient, Waiter};
-use command_queue::{CommandQueue, NotQueued, Sender, Senders};
+use command_queue::{CommandQueue, EndedSenders, NotQueued, Sender, Senders};
 use group_core::{Numbers, SubmitError};
 use hub_readers::{HubReader, HubReceipt, Look, Looks};
 use hub_status::{Changes, Completed, HubStatus, LONGEST_REST};
@@ -49,6 +50,8 @@ pub struct Hub<D: Device, N: HubName, R: Wait + Clock> {
     pub(crate) acknowledged: Mutex<LoggedList<N>>,
     /// What sessions that have ended were shown last.
     pub(crate) looks: Mutex<Looks<N>>,
+    /// What senders that have ended had handed in.
+    pub(crate) ended: Mutex<EndedSenders<N>>,
     /// What begins the senders of the queue. Another crate gets it from its job or its workload
     /// alone.
     pub(crate) senders: Senders<N>,
@@ -91,9 +94,16 @@ impl<D: Device, N: HubName, R: Wait + Clock> Hub<D, N, R> {
     }
 
     /// Takes what a session was shown last. When the hub ends, that is a front of its log. A look
-    /// cannot be dropped, so who has one hands it in.
+    /// cannot be dropped, so who has one hands it in. No clause says that the hub keeps it: the
+    /// looks are under a lock.
     pub fn keep_look(&self, look: Look<N>) {
         self.looks.lock(&self.rt).add(look);
+    }
+
+    /// Takes a sender that has ended. When the hub ends, what it handed in is all that was handed
+    /// in of it. No clause says that the hub keeps it: what was handed in is under a lock.
+    pub fn keep_sender(&self, sender: Sender<N>) {
+        self.senders.end(&mut self.ended.lock(&self.rt), sender);
     }
 
     /// Submits a command of a sender, and waits until it is committed. The receipt shows the
@@ -214,12 +224,7 @@ impl<D: Device, N: HubName, R: Wait + Clock> Hub<D, N, R> {
         if let Err(refusal) = self.judge(command) {
             return refusal;
         }
-        match why {
-            NotQueued::Closed => SubmitError::Stopped,
-            NotQueued::Full => SubmitError::Busy,
-            NotQueued::Exhausted => SubmitError::Exhausted,
-            NotQueued::NoMemory => SubmitError::NoMemory,
-        }
+        submit_error(why)
     }
 
     /// The numbers of the state at the end of the last guarded call, and how much both actors had

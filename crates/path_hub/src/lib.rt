@@ -14,7 +14,8 @@
 //! `Hub::settle` returns a receipt of the command of a claim, once the command is committed;
 //! `Hub::register` does both. `Hub::settle_for` waits only until its `Waiter` has left.
 //! `Hub::reader` hands a reader out. Who hands in is a `Sender`, which notes each command that is
-//! queued.
+//! queued. At its end a hub leaves the log of its state and all commands that were queued: the log
+//! is a part of these, in the same order and each once.
 #![tactic(auto)]
 
 mod answer;
@@ -23,6 +24,7 @@ mod error;
 mod guarded;
 mod handing;
 mod hub;
+mod left;
 mod making;
 mod name;
 mod pause;
@@ -34,6 +36,7 @@ pub use command_queue::{Sender, Senders};
 pub use error::HubError;
 pub use hub::Hub;
 pub use hub_status::Completed;
+pub use left::HubLeft;
 pub use logged_state::{
     ClaimCollector, Left, Logged, LoggedList, LoggedReceipt, UnnamedClaim, UnnamedList,
 };

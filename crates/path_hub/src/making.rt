@@ -10,17 +10,19 @@ ghost use Rattle.path_hub.specs.declared.error.HubError.TheVariants.{NoMemory, N
 ghost use Rattle.sector_dev.specs.Stretch.{Stretch};
 ghost use Rattle.logged_state.specs.Left.{OpensToFrontOf, OpensToLog, OpensWithAll};
 ghost use Rattle.logged_state.specs.Kept.{AllClaimsKept, AllShownKept};
+ghost use Rattle.command_queue.specs.Orders.{commands_of, IsWithin, AreAllOf};
 
 use crate::error::HubError;
-use crate::guarded::Locked;
+use crate::guarded::{HubState, Locked};
 use crate::handing::{AllUnderWay, MOST_UNDER_WAY, give_up_all};
 use crate::hub::Hub;
+use crate::left::HubLeft;
 use crate::name::{HubName, NewName};
-use command_queue::{CommandQueue, Senders};
+use command_queue::{CommandQueue, NewQueue, Senders};
 use group_core::State;
-use hub_readers::{ReaderError, open_readers};
+use hub_readers::{Looks, ReaderError, open_readers};
 use hub_status::{Changes, HubStatus};
-use logged_state::{Left, LoggedState};
+use logged_state::{Left, LoggedList, LoggedState};
 use sector_dev::Device;
 use std::alloc::Global;
 use std::marker::Brand;
@@ -56,7 +58,7 @@ pub fn with_hub<D: Device, J: HubJob<D, R>, R: Wait + Clock + Copy>(
     store: Store<D>,
     home: u64,
     job: J,
-) -> Result<(J::Out, D, Left), (Store<D>, J, HubError)>
+) -> Result<(J::Out, D, HubLeft), (Store<D>, J, HubError)>
     ensures done { IfOk result (λ done. J.does job done.0 done.2.table) }
     ensures left { IfOk result (λ done. IsHonest (D.disk done.1) → EveryImage (D.disk done.1).history.now (OpensToLog (value_of_store store) done.2.log)) }
     ensures acknowledged { IfOk result (λ done. IsHonest (D.disk done.1)
@@ -67,6 +69,8 @@ pub fn with_hub<D: Device, J: HubJob<D, R>, R: Wait + Clock + Copy>(
         → AllClaimsKept (value_of_store store) done.2.log (D.disk done.1).history done.2.acknowledged) }
     ensures looked { IfOk result (λ done. IsHonest store.disk
         → AllShownKept (value_of_store store) done.2.log (D.disk done.1).history done.2.looked) }
+    ensures queued { IfOk result (λ done. IsWithin done.2.log.commands (commands_of done.2.queued)) }
+    ensures sent { IfOk result (λ done. AreAllOf done.2.queued done.2.senders) }
     ensures back { IfErr result (λ back. (back.0 ≡ store) × (back.1 ≡ job)) }
     ensures why { IfErr result (λ back. (back.2 ≡ NoMemory) ⊎ (back.2 ≡ NoReader)) }
 {
@@ -84,11 +88,12 @@ fn do_with<N: HubName + Send + Sync, D: Device, J: HubJob<D, R>, R: Wait + Clock
     store: Store<D>,
     home: u64,
     job: J,
-) -> Result<(J::Out, D, Left), (Store<D>, J, HubError)>
+) -> Result<(J::Out, D, HubLeft), (Store<D>, J, HubError)>
     requires opening { value_of_store store ≡ N.opening }
     requires start { store.disk ≡ N.start }
     requires log { name.log.table ≡ N.table }
     requires history { name.history.seen.book ≡ N.history }
+    requires senders { name.history.desk.keeper.table_id ≡ N.senders }
     requires shown { name.shown.book ≡ N.shown }
     requires refusals { (command : Command) (why : Option SubmitError) → N.refused command why ≡ true }
     ensures done { IfOk result (λ done. J.does job done.0 done.2.table) }
@@ -101,6 +106,8 @@ fn do_with<N: HubName + Send + Sync, D: Device, J: HubJob<D, R>, R: Wait + Clock
         → AllClaimsKept N.opening done.2.log (D.disk done.1).history done.2.acknowledged) }
     ensures looked { IfOk result (λ done. IsHonest N.start
         → AllShownKept N.opening done.2.log (D.disk done.1).history done.2.looked) }
+    ensures queued { IfOk result (λ done. IsWithin done.2.log.commands (commands_of done.2.queued)) }
+    ensures sent { IfOk result (λ done. AreAllOf done.2.queued done.2.senders) }
     ensures back { IfErr result (λ back. (back.0 ≡ store) × (back.1 ≡ job)) }
     ensures why { IfErr result (λ back. (back.2 ≡ NoMemory) ⊎ (back.2 ≡ NoReader)) }
 {
@@ -129,6 +136,7 @@ impl<D: Device, N: HubName, R: Wait + Clock> Hub<D, N, R> {
         requires start { store.disk ≡ N.start }
         requires log { name.log.table ≡ N.table }
         requires history { name.history.seen.book ≡ N.history }
+        requires senders { name.history.desk.keeper.table_id ≡ N.senders }
         requires shown { name.shown.book ≡ N.shown }
         requires refusals { (command : Command) (why : Option SubmitError) → N.refused command why ≡ true }
         ensures back { IfErr result (λ back. back.0 ≡ store) }
@@ -155,19 +163,29 @@ impl<D: Device, N: HubName, R: Wait + Clock> Hub<D, N, R> {
         };
         let state = LoggedState::new(State::new(alloc, store, show, home), log);
         let status = HubStatus::new(state.numbers());
-        let (queue, senders) = CommandQueue::new(alloc, history);
+        let NewQueue {
+            queue,
+            senders,
+            submitted,
+        } = CommandQueue::new(alloc, history);
+        let ended = senders.none_ended();
         Ok(Hub {
             rt,
             alloc,
             queue: Mutex::new(queue),
             has_flusher: AtomicBool::new(false),
-            state: Mutex::new(Locked { state, under_way }),
+            state: Mutex::new(Locked {
+                state,
+                under_way,
+                submitted,
+            }),
             changes: Changes::new(),
             status,
             has_stranger: AtomicBool::new(false),
             readers: Mutex::new(readers),
             acknowledged: Mutex::new(collector.empty_list()),
             looks: Mutex::new(looks),
+            ended: Mutex::new(ended),
             collector,
             senders,
         })
@@ -175,10 +193,10 @@ impl<D: Device, N: HubName, R: Wait + Clock> Hub<D, N, R> {
 
     /// Ends the hub, which no one else has, and returns its device with the log of all commands
     /// that its state accepted. An honest device opens to that log, with each command at its place
-    /// whose claim was handed in as acknowledged. What each session was shown last, if it handed that
-    /// in, is a front of the log that no stop since its commit has lost. The call waits for readers
-    /// that are within a lookup.
-    pub(crate) fn close(self) -> (D, Left)
+    /// whose claim was handed in as acknowledged. What each session was shown last, if it handed
+    /// that in, is a front of the log that no stop since its commit has lost. The log is a part of
+    /// what was handed in at the queue. The call waits for readers that are within a lookup.
+    pub(crate) fn close(self) -> (D, HubLeft)
     where
         R: Drop,
         ensures left { IsHonest (D.disk result.0) → EveryImage (D.disk result.0).history.now (OpensToLog N.opening result.1.log) }
@@ -186,12 +204,14 @@ impl<D: Device, N: HubName, R: Wait + Clock> Hub<D, N, R> {
         ensures moments { Stretch N.start (D.disk result.0) (OpensToFrontOf N.opening result.1.log.commands 0) }
         ensures since { IsHonest N.start → AllClaimsKept N.opening result.1.log (D.disk result.0).history result.1.acknowledged }
         ensures looked { IsHonest N.start → AllShownKept N.opening result.1.log (D.disk result.0).history result.1.looked }
+        ensures queued { IsWithin result.1.log.commands (commands_of result.1.queued) }
+        ensures sent { AreAllOf result.1.queued result.1.senders }
         ensures table { result.1.table ≡ N.table }
     {
         let Hub {
             rt: _rt,
             alloc: _alloc,
-            queue: _queue,
+            queue,
             has_flusher: _has_flusher,
             state,
             changes: _changes,
@@ -201,19 +221,48 @@ impl<D: Device, N: HubName, R: Wait + Clock> Hub<D, N, R> {
             collector: _collector,
             acknowledged,
             looks,
+            ended,
             senders: _senders,
         } = self;
         let Locked {
-            mut state,
+            state,
             under_way,
+            submitted,
         } = state.into_inner();
-        give_up_all(&mut state, under_way);
-        let (device, show, log) = state.into_parts();
-        let looked = show.close(looks.into_inner());
-        let (log, acknowledged) = log.unnamed_with(acknowledged.into_inner());
-        let mut left = Left::of(log, acknowledged, looked);
-        left.prove_acknowledged();
-        left.looks_are_kept();
-        (device, left)
+        let queued = queue.into_inner().end(submitted, ended.into_inner());
+        let (device, left) = close_state(
+            state,
+            under_way,
+            acknowledged.into_inner(),
+            looks.into_inner(),
+        );
+        (device, HubLeft::of(left, queued))
     }
+}
+
+/// Ends a hub's state, and returns its device with what is left of the state, and of who
+/// acknowledged its commands and looked at what it showed.
+fn close_state<D: Device, N: HubName, R: Wait + Clock + Drop>(
+    state: HubState<D, N, R>,
+    under_way: AllUnderWay<N>,
+    acknowledged: LoggedList<N>,
+    looks: Looks<N>,
+) -> (D, Left)
+    ensures left { IsHonest (D.disk result.0) → EveryImage (D.disk result.0).history.now (OpensToLog N.opening result.1.log) }
+    ensures acknowledged { IsHonest (D.disk result.0) → EveryImage (D.disk result.0).history.now (OpensWithAll N.opening result.1.acknowledged) }
+    ensures moments { Stretch N.start (D.disk result.0) (OpensToFrontOf N.opening result.1.log.commands 0) }
+    ensures since { IsHonest N.start → AllClaimsKept N.opening result.1.log (D.disk result.0).history result.1.acknowledged }
+    ensures looked { IsHonest N.start → AllShownKept N.opening result.1.log (D.disk result.0).history result.1.looked }
+    ensures commands { result.1.log.commands ≡ state.log.commands }
+    ensures table { result.1.table ≡ N.table }
+{
+    let mut state = state;
+    give_up_all(&mut state, under_way);
+    let (device, show, log) = state.into_parts();
+    let looked = show.close(looks);
+    let (log, acknowledged) = log.unnamed_with(acknowledged);
+    let mut left = Left::of(log, acknowledged, looked);
+    left.prove_acknowledged();
+    left.looks_are_kept();
+    (device, left)
 }

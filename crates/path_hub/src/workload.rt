@@ -10,12 +10,13 @@ ghost use Rattle.path_hub.specs.declared.error.HubError.TheVariants.{NoMemory, N
 ghost use Rattle.sector_dev.specs.Stretch.{Stretch};
 ghost use Rattle.logged_state.specs.Left.{OpensToFrontOf, OpensToLog, OpensWithAll};
 ghost use Rattle.logged_state.specs.Kept.{AllClaimsKept, AllShownKept};
+ghost use Rattle.command_queue.specs.Orders.{commands_of, IsWithin, AreAllOf};
 
 use crate::error::HubError;
 use crate::hub::Hub;
+use crate::left::HubLeft;
 use crate::name::{HubName, NewName};
 use command_queue::Senders;
-use logged_state::Left;
 use sector_dev::Device;
 use std::alloc::Global;
 use std::marker::Brand;
@@ -91,7 +92,7 @@ pub fn with_workload<
     store: Store<D>,
     home: u64,
     workload: &C,
-) -> (D, Option<Left>, Result<u64, HubError>)
+) -> (D, Option<HubLeft>, Result<u64, HubError>)
     // Whatever the threads did and however the call ends, a device that is honest opens to the log
     // that is left. Where none is left, no hub was made, and the device is the store's.
     ensures left { IfSome result.1 (λ left. IsHonest (D.disk result.0)
@@ -115,6 +116,13 @@ pub fn with_workload<
     // that has it.
     ensures looked { IfSome result.1 (λ left. IsHonest store.disk
         → AllShownKept (value_of_store store) left.log (D.disk result.0).history left.looked) }
+
+    // Each command of the log was handed in by a sender: the log is a part of what was handed in,
+    // in the same order and each once.
+    ensures queued { IfSome result.1 (λ left. IsWithin left.log.commands (commands_of left.queued)) }
+
+    // What a sender had handed in, if it was given back, is all that was handed in of it.
+    ensures sent { IfSome result.1 (λ left. AreAllOf left.queued left.senders) }
     ensures unmade { IfNone result.1 (D.disk result.0 ≡ store.disk) }
     ensures made { OnOk result.2 (IsSome result.1) }
     ensures why { IfErr result.2 (λ e. (e ≡ NoMemory) ⊎ (e ≡ NoReader)) }
@@ -138,11 +146,12 @@ fn named_workload<
     store: Store<D>,
     home: u64,
     workload: &C,
-) -> (D, Option<Left>, Result<u64, HubError>)
+) -> (D, Option<HubLeft>, Result<u64, HubError>)
     requires opening { value_of_store store ≡ N.opening }
     requires start { store.disk ≡ N.start }
     requires log { name.log.table ≡ N.table }
     requires history { name.history.seen.book ≡ N.history }
+    requires senders { name.history.desk.keeper.table_id ≡ N.senders }
     requires shown { name.shown.book ≡ N.shown }
     requires refusals { (command : Command) (why : Option SubmitError) → N.refused command why ≡ true }
     ensures left { IfSome result.1 (λ left. IsHonest (D.disk result.0) → EveryImage (D.disk result.0).history.now (OpensToLog N.opening left.log)) }
@@ -154,6 +163,8 @@ fn named_workload<
         → AllClaimsKept N.opening left.log (D.disk result.0).history left.acknowledged) }
     ensures looked { IfSome result.1 (λ left. IsHonest N.start
         → AllShownKept N.opening left.log (D.disk result.0).history left.looked) }
+    ensures queued { IfSome result.1 (λ left. IsWithin left.log.commands (commands_of left.queued)) }
+    ensures sent { IfSome result.1 (λ left. AreAllOf left.queued left.senders) }
     ensures unmade { IfNone result.1 (D.disk result.0 ≡ store.disk) }
     ensures made { OnOk result.2 (IsSome result.1) }
     ensures why { IfErr result.2 (λ e. (e ≡ NoMemory) ⊎ (e ≡ NoReader)) }
@@ -210,13 +221,13 @@ fn run_with_checkpointer<
             ensures { IfErr result (λ e. e ≡ NoMemory) }
         {
             if checkpointer
-                .spawn(move || run_checkpointer(rt, hub, workload))
+                .spawn(move || run_checkpointer(hub, workload))
                 .is_err()
             {
                 return Err(HubError::NoMemory);
             }
             hub.expect_threads();
-            let attended = run_with_flusher(rt, hub, workload);
+            let attended = run_with_flusher(hub.handle(), hub, workload);
             hub.stop();
             attended
         },
@@ -238,13 +249,10 @@ fn run_with_flusher<
         |flusher| -> Result<u64, HubError>
             ensures { IfErr result (λ e. e ≡ NoMemory) }
         {
-            if flusher
-                .spawn(move || run_flusher(rt, hub, workload))
-                .is_err()
-            {
+            if flusher.spawn(move || run_flusher(hub, workload)).is_err() {
                 return Err(HubError::NoMemory);
             }
-            let attended = attend_all(rt, hub, workload);
+            let attended = attend_all(hub.handle(), hub, workload);
             hub.stop();
             Ok(attended)
         },
@@ -253,11 +261,10 @@ fn run_with_flusher<
 
 /// Runs the checkpointer until the state stops.
 fn run_checkpointer<N: HubName, D: Device, C: Workload<D, R>, R: Wait + Clock>(
-    rt: &R,
     hub: &Hub<D, N, R>,
     workload: &C,
 ) {
-    checkpointer_loop(rt, hub, &Watching { hub, workload });
+    checkpointer_loop(hub.handle(), hub, &Watching { hub, workload });
 }
 
 /// Wakes the threads whose commands are answered, until the state stops.
@@ -267,11 +274,10 @@ fn run_waker<N: HubName, D: Device, R: Wait + Clock>(rt: &R, hub: &Hub<D, N, R>)
 
 /// Runs the flusher until the state stops, and reports to the workload why it did.
 fn run_flusher<N: HubName, D: Device, C: Workload<D, R>, R: Wait + Clock>(
-    rt: &R,
     hub: &Hub<D, N, R>,
     workload: &C,
 ) {
-    flusher_loop(rt, hub, &Watching { hub, workload });
+    flusher_loop(hub.handle(), hub, &Watching { hub, workload });
     if hub.has_stranger() {
         workload.met_stranger();
     } else {

@@ -14,6 +14,7 @@ ghosts-named_workload-N-StateName g a = record { opening = value_of_store a.stor
 abbrev pub ghosts-named_workload-N-ReaderName : goal.ghosts-named_workload-N-ReaderName
 ghosts-named_workload-N-ReaderName g a = record { shown = a.name.shown.book }
 
--- and by the history that its queue begins with; any command may be refused
+-- and by the history that its queue begins with, and the table of its senders; any command may be
+-- refused
 abbrev pub ghosts-named_workload-N-QueueName : goal.ghosts-named_workload-N-QueueName
-ghosts-named_workload-N-QueueName g a = record { history = a.name.history.seen.book; refused = λ _ _. true }
+ghosts-named_workload-N-QueueName g a = record { history = a.name.history.seen.book; senders = a.name.history.desk.keeper.table_id; refused = λ _ _. true }
