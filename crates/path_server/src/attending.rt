@@ -30,8 +30,8 @@ use std::time::Clock;
 const MOST_DRAINS: u64 = 64;
 
 impl<L: Listener + Drop, V: Verifier, O: Reports> Server<'_, L, V, O> {
-    /// Serves the peer of a seat, hands in the claims of the commands that were acknowledged and what
-    /// was shown last, frees the seat, and closes the connection.
+    /// Serves the peer of a seat, hands in the claims of the commands that were acknowledged and
+    /// what was shown last, frees the seat, and closes the connection.
     pub(crate) fn attend_session<D: Device, N: HubName, R: Wait + Clock>(
         &self,
         hub: &Hub<D, N, R>,

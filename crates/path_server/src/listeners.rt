@@ -10,8 +10,8 @@ pub(crate) const ACCEPT: u16 = 200;
 
 /// A listener of a server's sessions.
 pub trait Listener: OpenListener<Stream = TcpStream> {
-    /// The descriptor by which the system says that a peer has come. Where it is `None`, each accept
-    /// of one listener waits for none of another.
+    /// The descriptor by which the system says that a peer has come. Where it is `None`, each
+    /// accept of one listener waits for none of another.
     fn descriptor(&self) -> Option<i32> {
         None
     }

@@ -27,8 +27,8 @@ pub struct Options {
     /// The number of the 64 seats that are for the sessions of the listener of lookups, where there
     /// is one. At most `MOST_LOOKUP_SEATS` are.
     pub lookup_seats: u64,
-    /// The time from one purge that the server makes by itself to the next, or `None` where it makes
-    /// none. Each one is of the moment of the machine's clock.
+    /// The time from one purge that the server makes by itself to the next, or `None` where it
+    /// makes none. Each one is of the moment of the machine's clock.
     pub purge: Option<Duration>,
     /// How long the sessions that are open may go on once the server is to end.
     pub grace: Duration,

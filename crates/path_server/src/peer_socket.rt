@@ -10,9 +10,9 @@ use std::net::TcpStream;
 use std::os::fd::AsRawFd;
 use std::time::{Clock, Duration};
 
-/// The time in milliseconds for which a peer that has ended its side is taken to wait for replies. A
-/// peer may end its side once it has sent its requests, and a peer that closes its connection cannot
-/// be distinguished from it before something is written.
+/// The time in milliseconds for which a peer that has ended its side is taken to wait for replies.
+/// A peer may end its side once it has sent its requests, and a peer that closes its connection
+/// cannot be distinguished from it before something is written.
 const ENDED_SIDE: u64 = 1_000;
 
 /// The peer of a session, who waits for replies. It has left once its connection is reset or is

@@ -44,6 +44,19 @@ impl<'a, D: Device, N: HubName, R: Wait + Clock, C: Now> Purger<'a, D, N, R, C> 
         self.hub.settle_for(claim, waiter)
     }
 
+    /// Ends the purger, and gives its sender back to the hub.
+    pub(crate) fn end(self)
+    where
+        C: Drop,
+    {
+        let Purger {
+            hub,
+            clock: _clock,
+            sender,
+        } = self;
+        hub.keep_sender(sender);
+    }
+
     /// Hands in a purge of the clock's moment.
     fn hand_in(&mut self) -> Result<HubClaim<N>, HubError>
         ensures claim { IfOk result (λ claim. claim ≡ Purge (C.moment self.new.clock)) }

@@ -8,7 +8,7 @@ use crate::reports::{Report, Reports};
 use crate::server::Server;
 use paced_stream::Deadline;
 use path_hub::{Hub, HubError, HubName, Sender, Waiter};
-use path_session::SystemNow;
+use path_session::{Now, SystemNow};
 use sector_dev::Device;
 use seg_check::Verifier;
 use std::sync::Wait;
@@ -48,22 +48,31 @@ impl<L: Listener + Drop, V: Verifier, O: Reports> Server<'_, L, V, O> {
         let rt = hub.handle();
         let mut purger = Purger::new(hub, SystemNow::new(rt), sender);
         for _ in rt.forever() {
-            if !self.rest(rt, period) {
-                return;
-            }
-            let mut waiter = UntilEnd {
-                server: self,
-                has_left: false,
-            };
-            match purger.purge(&mut waiter) {
-                Ok(receipt) => {
-                    self.replies.count_outcome(receipt.outcome());
-                    self.note_purge();
-                }
-                Err(HubError::NotAwaited) => return,
-                Err(error) => self.note_no_purge(error),
+            if !self.rest(rt, period) || !self.purge_once(&mut purger) {
+                break;
             }
         }
+        purger.end();
+    }
+
+    /// Hands in a purge, and waits until it is answered. Returns whether the server goes on.
+    fn purge_once<D: Device, N: HubName, R: Wait + Clock, C: Now>(
+        &self,
+        purger: &mut Purger<'_, D, N, R, C>,
+    ) -> bool {
+        let mut waiter = UntilEnd {
+            server: self,
+            has_left: false,
+        };
+        match purger.purge(&mut waiter) {
+            Ok(receipt) => {
+                self.replies.count_outcome(receipt.outcome());
+                self.note_purge();
+            }
+            Err(HubError::NotAwaited) => return false,
+            Err(error) => self.note_no_purge(error),
+        }
+        true
     }
 
     /// Waits for a period. Returns at once whether the server goes on, as soon as it does not.

@@ -7,13 +7,14 @@ ghost use Rattle.group_core.specs.Starting.{value_of_store};
 ghost use Rattle.sector_dev.specs.Stretch.{Stretch};
 ghost use Rattle.logged_state.specs.Left.{OpensToFrontOf, OpensToLog, OpensWithAll};
 ghost use Rattle.logged_state.specs.Kept.{AllClaimsKept, AllShownKept};
+ghost use Rattle.command_queue.specs.Orders.{commands_of, IsWithin, AreAllOf};
 
 use crate::error::RunError;
 use crate::listeners::{Listener, Listeners};
 use crate::options::Options;
 use crate::reports::Reports;
 use crate::server::Server;
-use path_hub::{Left, with_workload};
+use path_hub::{HubLeft, with_workload};
 use sector_dev::Device;
 use seg_check::{TrustAll, Verifier};
 use std::alloc::Global;
@@ -36,8 +37,9 @@ impl<R: Wait + Clock + Threads + Copy + Drop + Send + Sync> System for R {}
 /// commands, whatever the sessions did and however the call ends. So it has each command at its
 /// place that a session acknowledged: each session hands in the claims of those commands at its
 /// end. At every moment since the store was opened a stop of the device would have left a front of
-/// that log, and each of these commands from the moment of its commit on. Where no log is left,
-/// nothing was served, and the device is the store's. Errors:
+/// that log, and each of these commands from the moment of its commit on. Each command of the log
+/// was handed in, in the log's order and once, by a sender: of a session, or of the server's own
+/// purges. Where no log is left, nothing was served, and the device is the store's. Errors:
 ///
 /// - `Net`: the listener for sessions broke.
 /// - `NoMemory`: the readers or a thread were not given.
@@ -50,7 +52,7 @@ pub fn serve_store<R: System, L: Listener + Drop + Send, D: Device + Send, O: Re
     store: Store<D>,
     options: &Options,
     reports: &O,
-) -> (D, Option<Left>, Result<u64, RunError>)
+) -> (D, Option<HubLeft>, Result<u64, RunError>)
     ensures left { IfSome result.1 (λ left. IsHonest (D.disk result.0)
         → EveryImage (D.disk result.0).history.now (OpensToLog (value_of_store store) left.log)) }
     ensures acknowledged { IfSome result.1 (λ left. IsHonest (D.disk result.0)
@@ -61,6 +63,8 @@ pub fn serve_store<R: System, L: Listener + Drop + Send, D: Device + Send, O: Re
         → AllClaimsKept (value_of_store store) left.log (D.disk result.0).history left.acknowledged) }
     ensures looked { IfSome result.1 (λ left. IsHonest store.disk
         → AllShownKept (value_of_store store) left.log (D.disk result.0).history left.looked) }
+    ensures queued { IfSome result.1 (λ left. IsWithin left.log.commands (commands_of left.queued)) }
+    ensures sent { IfSome result.1 (λ left. AreAllOf left.queued left.senders) }
     ensures unmade { IfNone result.1 (D.disk result.0 ≡ store.disk) }
     ensures made { OnOk result.2 (IsSome result.1) }
 {
@@ -85,7 +89,7 @@ fn serve_checked<
     options: &Options,
     verifier: &V,
     reports: &O,
-) -> (D, Option<Left>, Result<u64, RunError>)
+) -> (D, Option<HubLeft>, Result<u64, RunError>)
     ensures left { IfSome result.1 (λ left. IsHonest (D.disk result.0)
         → EveryImage (D.disk result.0).history.now (OpensToLog (value_of_store store) left.log)) }
     ensures acknowledged { IfSome result.1 (λ left. IsHonest (D.disk result.0)
@@ -96,6 +100,8 @@ fn serve_checked<
         → AllClaimsKept (value_of_store store) left.log (D.disk result.0).history left.acknowledged) }
     ensures looked { IfSome result.1 (λ left. IsHonest store.disk
         → AllShownKept (value_of_store store) left.log (D.disk result.0).history left.looked) }
+    ensures queued { IfSome result.1 (λ left. IsWithin left.log.commands (commands_of left.queued)) }
+    ensures sent { IfSome result.1 (λ left. AreAllOf left.queued left.senders) }
     ensures unmade { IfNone result.1 (D.disk result.0 ≡ store.disk) }
     ensures made { OnOk result.2 (IsSome result.1) }
 {

@@ -72,8 +72,8 @@ hub_code (Some e) = submit_code e
 hub_code None = stopped_code
 
 module _ (refused : Command → Option SubmitError → Bool) where
-  -- The hub refused the command, with the code of its reason, and nothing changed, but that the peer
-  -- may have been asked whether it has left.
+  -- The hub refused the command, with the code of its reason, and nothing changed, but that the
+  -- peer may have been asked whether it has left.
   pub record IsNotCommitted (why : Option SubmitError) (old : Serving) (c : Command) (reply : ReplyView) (new : Serving) : Type 0 where
     -- It is known that the hub refused the command for this reason.
     pub by_hub : refused c why ≡ true
@@ -90,7 +90,8 @@ pub record IsNotAwaited (old : Serving) (reply : ReplyView) (new : Serving) : Ty
   pub gone : new.left ≡ true
   pub replied : IsRefusedWithCode not_awaited_code (with_left old new.left) reply new
 
--- At a hub that opened with this value, and of whose commands it is known for which reasons they were refused.
+-- At a hub that opened with this value, and of whose commands it is known for which reasons they
+-- were refused.
 module _ (opening : StoreValue (List RowView)) (refused : Command → Option SubmitError → Bool) where
   -- The command was committed. Otherwise the hub refused it, since it was not accepted or the store
   -- stopped before it was committed; or the peer had left. Nothing else changed then.
@@ -169,8 +170,8 @@ module _ (opening : StoreValue (List RowView)) where
 -- ---- lists
 
 module _ (opening : StoreValue (List RowView)) where
-  -- The page after an id, or the first one, that a query shows at a moment, of what a hub that opened
-  -- with this value shows after these groups.
+  -- The page after an id, or the first one, that a query shows at a moment, of what a hub that
+  -- opened with this value shows after these groups.
   abbrev pub page_of : List (List Command) → QueryView → Option (List ℕ) → ℕ → List RowView
   page_of groups query after moment = answer_after (shown_after opening groups).db query after moment
 
@@ -208,7 +209,8 @@ abbrev pub RegistrationLacksMemory : Serving → MessageView → ReplyView → S
 RegistrationLacksMemory old (Register body) reply new = IsRefusedWithCode memory_code old reply new × IsOk (registration_outline body)
 RegistrationLacksMemory old _ reply new = ⊥
 
--- At a hub that opened with this value, and of whose commands it is known for which reasons they were refused.
+-- At a hub that opened with this value, and of whose commands it is known for which reasons they
+-- were refused.
 module _ (opening : StoreValue (List RowView)) (refused : Command → Option SubmitError → Bool) where
   -- One message is read, checked or classified, and passed to the hub. The first refusal is the
   -- reply.

@@ -11,8 +11,8 @@ use Rattle.path_session.specs.Serving.{Serving, with_left}
 use Rattle.path_session.specs.Answered.{AcknowledgesCommit}
 
 module _ (refused : Command → Option SubmitError → Bool) where
-  -- The hub refused the command for this reason, and nothing changed, but that the peer may have been
-  -- asked whether it has left.
+  -- The hub refused the command for this reason, and nothing changed, but that the peer may have
+  -- been asked whether it has left.
   pub record IsRefusedByHub (why : Option SubmitError) (old : Serving) (c : Command) (new : Serving) : Type 0 where
     -- It is known that the hub refused the command for this reason.
     pub by_hub : refused c why ≡ true

@@ -44,8 +44,8 @@ IsForUnread body _ = ⊥
 
 -- Of the commands of the hub it is known for which reasons they were refused.
 module _ (refused : Command → Option SubmitError → Bool) where
-  -- The segments of a registration were checked at this moment. They are accepted, and this is their
-  -- command, or the hub refused it; or they are refused.
+  -- The segments of a registration were checked at this moment. They are accepted, and this is
+  -- their command, or the hub refused it; or they are refused.
   abbrev pub IsForRows : Verdicts → List RowView → ℕ → Result Command Refusal → Type 0
   IsForRows verifies rows moment (Ok c) = (first_refusal verifies moment rows ≡ None) × (c ≡ command.Register rows)
   IsForRows verifies rows moment (Err (Check e)) = first_refusal verifies moment rows ≡ Some e

@@ -1,9 +1,9 @@
 //! A session's service over a hub.
 //!
 //! To the layer above, `HubService` answers each message by the first refusal in its order, or else
-//! by the hub: a lookup or a list by what is published, at the moment that the service's clock gave,
-//! and a command by the receipt that the service then keeps. A command can be taken ahead of its
-//! answer. The crate exports `session_core`, whose `serve` runs a session.
+//! by the hub: a lookup or a list by what is published, at the moment that the service's clock
+//! gave, and a command by the receipt that the service then keeps. A command can be taken ahead of
+//! its answer. The crate exports `session_core`, whose `serve` runs a session.
 #![tactic(auto)]
 
 mod refused;

@@ -118,7 +118,8 @@ impl<'a, D: Device, N: HubName, R: Wait + Clock, V: Verifier, C: Now, P: Waiter>
     }
 
     /// Ends the service, and returns its reader, the claims of all commands that were acknowledged,
-    /// and all commands after which the last lookup or list was answered.
+    /// and all commands after which the last lookup or list was answered. Who handed in its
+    /// commands is given back to the hub.
     pub fn into_parts(self) -> (HubReader<N>, LoggedList<N>, Look<N>)
     where
         C: Drop,
@@ -129,7 +130,7 @@ impl<'a, D: Device, N: HubName, R: Wait + Clock, V: Verifier, C: Now, P: Waiter>
         ensures looked { result.2 ≡ all_of (serving V.verifies P.has_left self.entry).groups }
     {
         let HubService {
-            hub: _,
+            hub,
             reader,
             verifier: _,
             clock: _clock,
@@ -138,8 +139,9 @@ impl<'a, D: Device, N: HubName, R: Wait + Clock, V: Verifier, C: Now, P: Waiter>
             moment: _,
             last: _last,
             acknowledged,
-            sender: _sender,
+            sender,
         } = self;
+        hub.keep_sender(sender);
         let look = reader.last_look();
         (reader, acknowledged, look)
     }
