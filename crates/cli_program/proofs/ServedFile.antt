@@ -15,24 +15,27 @@ use Rattle.store_open.specs.Store.{StoreView}
 use Rattle.group_core.specs.Starting.{value_of_store}
 use Rattle.logged_state.specs.Kept.{AllClaimsKept, AllShownKept}
 use Rattle.logged_state.specs.Left.{OpensToFrontOf, OpensToLog}
-use Rattle.logged_state.specs.LeftView.{LeftView}
+use Rattle.command_queue.specs.Orders.{commands_of, IsWithin, AreAllOf}
+use Rattle.path_hub.specs.HubLeftView.{HubLeftView}
 use Rattle.cli_program.specs.Serving.{ServesFile}
 
 -- the store has what its image opens with
 opens_to : (reads : List ℕ) (store : StoreView) → IsOpened reads store → OpensTo store_format latest reads (value_of_store store)
 opens_to reads store opened = record { opening = opened.rest.opening; is = opened.same; stands_for = opened.rest.tells.value }
 
-pub serves_file : (start : Disk) (store : StoreView) (left : LeftView) (file : FileState) (end : Disk)
+pub serves_file : (start : Disk) (store : StoreView) (left : HubLeftView) (file : FileState) (end : Disk)
     → (IsHonest start → IsOpened (reads_of start) store)
     → Stretch start store.disk (IsFromImage start.history.now OpensAlike)
     → Stretch store.disk end (OpensToFrontOf (value_of_store store) left.log.commands 0)
     → (IsHonest store.disk → AllClaimsKept (value_of_store store) left.log end.history left.acknowledged)
     → (IsHonest store.disk → AllShownKept (value_of_store store) left.log end.history left.looked)
+    → IsWithin left.log.commands (commands_of left.queued)
+    → AreAllOf left.queued left.senders
     → (IsHonest end → EveryImage end.history.now (OpensToLog (value_of_store store) left.log))
     → end.is_honest ≡ file.is_honest
     → CoversImages file end
     → ServesFile start left file end
-serves_file start store left file end opened alike moments since looked now same covers = record {
+serves_file start store left file end opened alike moments since looked queued sent now same covers = record {
   opening = value_of_store store;
   opens = λ honest. opens_to (reads_of start) store (opened honest);
   opened = store.disk;
@@ -40,25 +43,31 @@ serves_file start store left file end opened alike moments since looked now same
   moments = moments;
   since = λ honest. since (honest_after _ _ alike.keeps honest);
   looked = λ honest. looked (honest_after _ _ alike.keeps honest);
+  queued = queued;
+  sent = sent;
   leaves = λ honest content is. now (subst (λ (b : Bool). IsTrue b) (sym same) honest) (front end.sectors content) (covers honest content is);
 }
 
 -- the same, where something is left
-pub serves_some : (start : Disk) (store : StoreView) (found : Option LeftView) (left : LeftView) (file : FileState) (end : Disk)
+pub serves_some : (start : Disk) (store : StoreView) (found : Option HubLeftView) (left : HubLeftView) (file : FileState) (end : Disk)
     → found ≡ Some left
     → (IsHonest start → IsOpened (reads_of start) store)
     → Stretch start store.disk (IsFromImage start.history.now OpensAlike)
     → IfSome found (λ left. Stretch store.disk end (OpensToFrontOf (value_of_store store) left.log.commands 0))
     → IfSome found (λ left. IsHonest store.disk → AllClaimsKept (value_of_store store) left.log end.history left.acknowledged)
     → IfSome found (λ left. IsHonest store.disk → AllShownKept (value_of_store store) left.log end.history left.looked)
+    → IfSome found (λ left. IsWithin left.log.commands (commands_of left.queued))
+    → IfSome found (λ left. AreAllOf left.queued left.senders)
     → IfSome found (λ left. IsHonest end → EveryImage end.history.now (OpensToLog (value_of_store store) left.log))
     → end.is_honest ≡ file.is_honest
     → CoversImages file end
     → ServesFile start left file end
-serves_some start store found left file end is opened alike moments since looked now same covers =
+serves_some start store found left file end is opened alike moments since looked queued sent now same covers =
     serves_file start store left file end opened alike
-    (subst (λ (it : Option LeftView). IfSome it (λ left. Stretch store.disk end (OpensToFrontOf (value_of_store store) left.log.commands 0))) is moments)
-    (subst (λ (it : Option LeftView). IfSome it (λ left. IsHonest store.disk → AllClaimsKept (value_of_store store) left.log end.history left.acknowledged)) is since)
-    (subst (λ (it : Option LeftView). IfSome it (λ left. IsHonest store.disk → AllShownKept (value_of_store store) left.log end.history left.looked)) is looked)
-    (subst (λ (it : Option LeftView). IfSome it (λ left. IsHonest end → EveryImage end.history.now (OpensToLog (value_of_store store) left.log))) is now)
+    (subst (λ (it : Option HubLeftView). IfSome it (λ left. Stretch store.disk end (OpensToFrontOf (value_of_store store) left.log.commands 0))) is moments)
+    (subst (λ (it : Option HubLeftView). IfSome it (λ left. IsHonest store.disk → AllClaimsKept (value_of_store store) left.log end.history left.acknowledged)) is since)
+    (subst (λ (it : Option HubLeftView). IfSome it (λ left. IsHonest store.disk → AllShownKept (value_of_store store) left.log end.history left.looked)) is looked)
+    (subst (λ (it : Option HubLeftView). IfSome it (λ left. IsWithin left.log.commands (commands_of left.queued))) is queued)
+    (subst (λ (it : Option HubLeftView). IfSome it (λ left. AreAllOf left.queued left.senders)) is sent)
+    (subst (λ (it : Option HubLeftView). IfSome it (λ left. IsHonest end → EveryImage end.history.now (OpensToLog (value_of_store store) left.log))) is now)
     same covers

@@ -12,11 +12,12 @@ use Rattle.store_open.specs.Open.{OpensAlike}
 use Rattle.store_open.specs.PathStores.{store_format}
 use Rattle.logged_state.specs.Kept.{AllClaimsKept, AllShownKept}
 use Rattle.logged_state.specs.Left.{OpensToFrontOf, OpensToLog}
-use Rattle.logged_state.specs.LeftView.{LeftView}
+use Rattle.command_queue.specs.Orders.{commands_of, IsWithin, AreAllOf}
+use Rattle.path_hub.specs.HubLeftView.{HubLeftView}
 
 -- A store of a device over a file is opened and served: what the device has at the start, what the
 -- server leaves, and the file and the device at the end.
-pub record ServesFile (start : Disk) (left : LeftView) (file : FileState) (end : Disk) : Type 0 where
+pub record ServesFile (start : Disk) (left : HubLeftView) (file : FileState) (end : Disk) : Type 0 where
   -- The rows at the start, and their place.
   pub opening : StoreValue (List RowView)
   pub opens : IsHonest start → OpensTo store_format latest (reads_of start) opening
@@ -31,7 +32,11 @@ pub record ServesFile (start : Disk) (left : LeftView) (file : FileState) (end :
   -- What each session was shown last, if it handed that in, is committed, and each such image has
   -- it from the moment on at which its last command was committed.
   pub looked : IsHonest start → AllShownKept opening left.log end.history left.looked
-  -- So does each content that a stop may leave of the file at the end, in the device's sectors: it
-  -- opens to these rows after a front of the log with all committed commands.
+  -- Each command of the log was handed in by a sender, in the log's order and once.
+  pub queued : IsWithin left.log.commands (commands_of left.queued)
+  -- What a sender had handed in, if it was given back, is all that was handed in of it.
+  pub sent : AreAllOf left.queued left.senders
+  -- Each content that a stop may leave of the file at the end opens, in the device's sectors,
+  -- to these rows after a front of the log with all committed commands.
   pub leaves : IsHonestFile file → (content : List ℕ) → IsImage (file_moment file) content
       → OpensToLog opening left.log (front end.sectors content)

@@ -18,7 +18,7 @@ use crate::system::{Host, System};
 use crate::usage::UsageFiles;
 use clap::ArgMatches;
 use cli_words::{CORES, LOG_PRIORITY, QUIET, STOP_ON_END_OF_INPUT};
-use path_hub::Left;
+use path_hub::HubLeft;
 use path_server::{Listeners, Options, RunError, serve_store};
 use sector_dev::{Device, FileDevice, LastFault, PositionedFile, SystemFile};
 use std::io::{Read, Write};
@@ -135,7 +135,7 @@ fn serve_site<'a, R: Host, F: PositionedFile + Drop + Send>(
     site: Site<'a, F>,
     options: &Options,
     notices: &Notices<R>,
-) -> (Option<(FileDevice<F>, Left)>, Result<u64, Failure<'a>>)
+) -> (Option<(FileDevice<F>, HubLeft)>, Result<u64, Failure<'a>>)
     ensures served { IfSome result.0 (λ end.
         ServesFile (file_disk site.entry.device) end.1 (file_state end.0) (file_disk end.0)) }
     ensures made { OnOk result.1 (IsSome result.0) }
