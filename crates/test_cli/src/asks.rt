@@ -2,7 +2,8 @@
 
 ghost use Rattle.std.specs.Prelude.{IfOk, ◌≤◌, length};
 
-use cli_ask::{AskError, AskFault, Asked, Link, Refusals, ask, asked_of, register};
+use crate::checks::assert_same;
+use cli_ask::{AskError, AskFault, Asked, Link, Question, Refusals, ask, asked_of, register};
 use cli_words::Request;
 use row_lines::RowForm;
 use std::alloc::Global;
@@ -68,7 +69,7 @@ const PURGED: &str = "00000019830000000000000005000000010000000200000003ffffffff
 const PURGE: &str = "00000009030000000000000007";
 
 #[rattlefmt::skip]
-const EXCHANGES: [Exchange; 19] = [
+const EXCHANGES: &[Exchange] = &[
     Exchange { request: Request::Purge, words: &["7"], reply: PURGED, sent: PURGE, comes: Ok("place 5: 1 inserted, 2 updated, 3 kept, 4294967295 purged\n") },
     Exchange { request: Request::Purge, words: &[], reply: PURGED, sent: "00000009030000000000000009", comes: Ok("place 5: 1 inserted, 2 updated, 3 kept, 4294967295 purged\n") },
     Exchange { request: Request::Purge, words: &["18446744073709551615"], reply: PURGED, sent: "0000000903ffffffffffffffff", comes: Ok("place 5: 1 inserted, 2 updated, 3 kept, 4294967295 purged\n") },
@@ -90,30 +91,69 @@ const EXCHANGES: [Exchange; 19] = [
     Exchange { request: Request::Lookup, words: &["0-0", "0-5"], reply: "00000002ff42", sent: "00000003021005", comes: Err(AskFault::Refused(0x42)) },
 ];
 
+/// These exchanges. The prover writes a constant out where it is named, so no loop names it.
+fn exchanges() -> &'static [Exchange] {
+    EXCHANGES
+}
+
+/// The question of an exchange.
+fn question_of(exchange: &Exchange) -> Result<Question, Fail> {
+    match asked_of(exchange.request, exchange.words)? {
+        Asked::Question(question) => Ok(question),
+        Asked::Registration(_) => Err(Fail::from("a question asks for no lines")),
+    }
+}
+
+/// The fault by which a request ended, if it ended by one.
+fn fault_of(came: Result<(), AskError>) -> Option<AskFault> {
+    match came {
+        Ok(()) => None,
+        Err(error) => Some(error.fault()),
+    }
+}
+
+/// Sees that the bytes of these digits were sent over a link.
+fn assert_sent(rt: &impl Abort, alloc: Global, link: &Script, wanted: &str) -> Result<(), Fail> {
+    let sent = hex::encode(alloc, link.sent.as_slice())?;
+    assert_same(rt, &sent.as_str(), &wanted, &"sent");
+    Ok(())
+}
+
+/// Sees what comes of an exchange: its fault, or what is printed.
+fn assert_comes(rt: &impl Abort, exchange: &Exchange, fault: Option<AskFault>, printed: &[u8]) {
+    match exchange.comes {
+        Ok(wanted) => {
+            assert_same(rt, &fault, &None, &exchange.reply);
+            assert_same(rt, &printed, &wanted.as_bytes(), &exchange.reply);
+        }
+        Err(wanted) => assert_same(rt, &fault, &Some(wanted), &exchange.reply),
+    }
+}
+
+/// Asks over a link, and sees what is printed.
+fn assert_asked(
+    rt: &impl Abort,
+    alloc: Global,
+    link: &mut Script,
+    exchange: &Exchange,
+) -> Result<(), Fail> {
+    let question = question_of(exchange)?;
+    let mut output = Vec::new(alloc);
+    let came = ask(alloc, link, &question, 9, RowForm::Text, &mut output);
+    assert_comes(rt, exchange, fault_of(came), output.as_slice());
+    Ok(())
+}
+
 /// Asks over a script, and sees what was sent and printed.
 fn assert_exchange(rt: &(impl Abort + AllocGlobal), exchange: &Exchange) -> Result<(), Fail> {
-    let alloc = rt.alloc();
-    let reply = exchange.reply;
-    let mut link = Script::new(alloc, reply)?;
-    let mut output = Vec::new(alloc);
-    let Asked::Question(question) = asked_of(exchange.request, exchange.words)? else {
-        assert!(rt; false, "{reply} answers no question");
-        return Ok(());
-    };
-    let came = ask(alloc, &mut link, &question, 9, RowForm::Text, &mut output);
-    let sent = hex::encode(alloc, link.sent.as_slice())?;
-    assert_eq!(rt; sent.as_str(), exchange.sent);
-    match (came, exchange.comes) {
-        (Ok(()), Ok(wanted)) => assert!(rt; output.as_slice() == wanted.as_bytes(), "{reply}"),
-        (Err(error), Err(fault)) => assert_eq!(rt; error.fault(), fault),
-        _ => assert!(rt; false, "{reply} comes otherwise"),
-    }
-    Ok(())
+    let mut link = Script::new(rt.alloc(), exchange.reply)?;
+    assert_asked(rt, rt.alloc(), &mut link, exchange)?;
+    assert_sent(rt, rt.alloc(), &link, exchange.sent)
 }
 
 #[test]
 fn replies_of_a_script(rt: HostRuntime) -> Result<(), Fail> {
-    for exchange in &EXCHANGES {
+    for exchange in exchanges() {
         assert_exchange(&rt, exchange)?;
     }
     Ok(())
@@ -131,52 +171,69 @@ impl Refusals for Noted {
     }
 }
 
-/// The line of the worked segment.
-const LINE: &str = concat!(
+/// These texts three times.
+macro_rules! three_times {
+    ($($text:literal),+) => {
+        concat!($($text,)+ $($text,)+ $($text,)+)
+    };
+}
+
+/// The line of the worked segment, three times.
+const LINES: &str = three_times!(
     "{\"type\":\"down\",\"segment\":\"0a080880e2cfaa061007",
     "12290a270a251223089082808080e07f109182808080e07f1a0e0a0c1001183f220601020304050628c00b",
-    "12210a1f0a1d121b089182808080e07f1a0e0a0c0802183f22060a0b0c0d0e0f28c00b\"}\n",
+    "12210a1f0a1d121b089182808080e07f1a0e0a0c0802183f22060a0b0c0d0e0f28c00b\"}\n"
 );
 
-const REGISTERED: &str = "0000001981000000000000000000000001000000000000000000000000";
+/// The replies to these lines: the second one is refused.
+const REPLIES: &str = concat!(
+    "0000001981000000000000000000000001000000000000000000000000",
+    "00000002ff51",
+    "0000001981000000000000000000000001000000000000000000000000",
+);
 
-#[test]
-fn lines_are_registered(rt: HostRuntime) -> Result<(), Fail> {
-    let alloc = rt.alloc();
-    let mut replies = String::new(alloc);
-    replies.push_str(REGISTERED)?;
-    replies.push_str("00000002ff51")?;
-    replies.push_str(REGISTERED)?;
-    let mut input = String::new(alloc);
-    for line in [LINE, LINE, LINE] {
-        input.push_str(line)?;
-    }
-    let mut link = Script::new(alloc, replies.as_str())?;
+/// What is printed of the first line and of the third one.
+const RECEIPTS: &str = concat!(
+    "{\"place\":0,\"inserted\":1,\"updated\":0,\"kept\":0,\"purged\":0}\n",
+    "{\"place\":0,\"inserted\":1,\"updated\":0,\"kept\":0,\"purged\":0}\n",
+);
+
+/// Registers the lines over a link: the fault, if there is one.
+fn register_lines(
+    alloc: Global,
+    link: &mut Script,
+    output: &mut Vec<u8>,
+    noted: &mut Noted,
+) -> Option<AskFault> {
+    let mut bytes = LINES.as_bytes();
+    fault_of(register(alloc, link, &mut bytes, RowForm::Json, output, noted))
+}
+
+/// Registers the lines over a link, and sees what is printed and which line is refused.
+fn assert_registered(rt: &impl Abort, alloc: Global, link: &mut Script) {
     let mut output = Vec::new(alloc);
     let mut noted = Noted {
         lines: Vec::new(alloc),
     };
-    let mut bytes = input.as_bytes();
-    let came = register(
-        alloc,
-        &mut link,
-        &mut bytes,
-        RowForm::Json,
-        &mut output,
-        &mut noted,
+    let fault = register_lines(alloc, link, &mut output, &mut noted);
+    assert_same(rt, &fault, &Some(AskFault::Refused(0x51)), &"lines");
+    assert_same(
+        rt,
+        &noted.lines.as_slice(),
+        &[(2, 0x51)].as_slice(),
+        &"noted",
     );
-    match came {
-        Ok(()) => assert!(rt; false, "all are registered"),
-        Err(error) => assert_eq!(rt; error.fault(), AskFault::Refused(0x51)),
-    }
-    assert!(rt; noted.lines.as_slice() == [(2, 0x51)].as_slice());
+    assert_same(rt, &output.as_slice(), &RECEIPTS.as_bytes(), &"receipts");
+}
+
+#[test]
+fn lines_are_registered(rt: HostRuntime) -> Result<(), Fail> {
+    let alloc = rt.alloc();
+    let mut link = Script::new(alloc, REPLIES)?;
+    assert_registered(&rt, alloc, &mut link);
     let sent = hex::encode(alloc, link.sent.as_slice())?;
-    assert_eq!(rt; sent.len(), 3 * digits::REGISTER.len());
-    assert!(rt; sent.as_str().starts_with(digits::REGISTER));
-    let wanted = concat!(
-        "{\"place\":0,\"inserted\":1,\"updated\":0,\"kept\":0,\"purged\":0}\n",
-        "{\"place\":0,\"inserted\":1,\"updated\":0,\"kept\":0,\"purged\":0}\n",
-    );
-    assert!(rt; output.as_slice() == wanted.as_bytes());
+    assert_same(&rt, &sent.len(), &(3 * digits::REGISTER.len()), &"sent");
+    let is_begun = sent.as_str().starts_with(digits::REGISTER);
+    assert_same(&rt, &is_begun, &true, &sent);
     Ok(())
 }

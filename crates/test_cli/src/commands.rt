@@ -1,6 +1,7 @@
 //! Commands over a device in memory: outputs that are full, devices that fail, and refused memory.
 
-use crate::writers::{with_memory, with_room};
+use crate::checks::{assert_same, assert_true};
+use crate::writers::{Room, assert_text, with_memory, with_room};
 use cli_store::{Fault, format, show, status};
 use row_lines::RowForm;
 use sector_dev::{Device, MemDevice, SECTOR};
@@ -20,7 +21,7 @@ pub(crate) const LEAST: Geometry = Geometry {
 pub(crate) const SECTORS: u64 = 1039;
 
 // A new store.
-fn formatted(alloc: Global) -> Result<MemDevice, Fail> {
+pub(crate) fn formatted(alloc: Global) -> Result<MemDevice, Fail> {
     let mut device = MemDevice::new(alloc, SECTORS)?;
     format(alloc, &mut device, LEAST, &mut with_memory(alloc, 100)?)?;
     Ok(device)
@@ -37,12 +38,11 @@ pub(crate) fn formatted_old(alloc: Global) -> Result<MemDevice, Fail> {
     Ok(device)
 }
 
-// The device in memory below one that failed, and the fault that the command reported. A command
-// that succeeded is reported as a fault of a print.
-fn failed(ended: Result<FaultDevice, (FaultDevice, Fault)>) -> Result<(MemDevice, Fault), Fault> {
-    match ended {
-        Ok(_device) => Err(Fault::Output),
-        Err((device, fault)) => Ok((device.into_mem(), fault)),
+// Prints the rows of a store: the answer, and the device.
+fn shown<D: Device>(alloc: Global, device: D, output: &mut Room) -> (Result<(), Fault>, D) {
+    match show(alloc, device, RowForm::Text, output) {
+        Ok(device) => (Ok(()), device),
+        Err((device, fault)) => (Err(fault), device),
     }
 }
 
@@ -55,33 +55,57 @@ fn read_sector(device: &mut MemDevice, at: u64) -> [u8; 512] {
     sector
 }
 
+// Sees that an output of just so many bytes has the front of what is printed, whose fault this is.
+fn assert_full(rt: &impl Abort, answer: Result<(), Fault>, output: &Room, front: &[u8]) {
+    assert_same(rt, &answer, &Err(Fault::Output), &front.len());
+    assert_same(rt, &output.taken.as_slice(), &front, &front.len());
+}
+
+// Sees that the rows of a new store are printed as far as the output has room.
+fn assert_front(rt: &impl Abort, alloc: Global, front: &[u8]) -> Result<(), Fail> {
+    let device = formatted(alloc)?;
+    let mut output = with_room(alloc, front.len());
+    let (answer, _device) = shown(alloc, device, &mut output);
+    assert_full(rt, answer, &output, front);
+    Ok(())
+}
+
 #[test]
 fn full_writers_have_a_front(rt: HostRuntime) -> Result<(), Fail> {
-    let alloc = rt.alloc();
     for room in 0..8 {
-        let mut output = with_room(alloc, room);
-        match show(alloc, formatted(alloc)?, RowForm::Text, &mut output) {
-            Ok(_) => assert!(rt; false, "{room}"),
-            Err((_, fault)) => assert_eq!(rt; fault, Fault::Output, "{room}"),
-        }
-        assert_eq!(rt; output.taken.as_slice(), b"place 0\n".split_at(room).0);
+        assert_front(&rt, rt.alloc(), b"place 0\n".split_at(room).0)?;
     }
+    Ok(())
+}
+
+// Prints the rows of a store whose device fails at the call of this number, and then the rows of
+// the device below: both answers.
+fn shown_twice(
+    alloc: Global,
+    number: u64,
+    output: &mut Room,
+) -> Result<(Result<(), Fault>, Result<(), Fault>), Fail> {
+    let failing = FaultDevice::new(formatted(alloc)?, number);
+    let (first, device) = shown(alloc, failing, output);
+    let (second, _device) = shown(alloc, device.into_mem(), output);
+    Ok((first, second))
+}
+
+// Sees that a device that fails at the call of this number is reported, and that nothing is printed
+// then.
+fn assert_reported(rt: &impl Abort, alloc: Global, number: u64) -> Result<(), Fail> {
+    let mut output = with_room(alloc, 100);
+    let (first, second) = shown_twice(alloc, number, &mut output)?;
+    assert_same(rt, &first, &Err(Fault::Open(OpenError::Device)), &number);
+    assert_same(rt, &second, &Ok(()), &number);
+    assert_text(rt, &output, "place 0\n", &number);
     Ok(())
 }
 
 #[test]
 fn devices_that_fail_are_reported(rt: HostRuntime) -> Result<(), Fail> {
-    let alloc = rt.alloc();
     for number in 0..4 {
-        let mut output = with_room(alloc, 100);
-        let failing = FaultDevice::new(formatted(alloc)?, number);
-        let (device, fault) = failed(show(alloc, failing, RowForm::Text, &mut output))?;
-        assert_eq!(rt; fault, Fault::Open(OpenError::Device), "{number}");
-        assert!(rt;
-            show(alloc, device, RowForm::Text, &mut output).is_ok(),
-            "{number}"
-        );
-        assert_eq!(rt; output.text()?, "place 0\n");
+        assert_reported(&rt, rt.alloc(), number)?;
     }
     Ok(())
 }
@@ -97,38 +121,57 @@ journal 0 of 516
 sealed no
 ";
 
+// Prints the status of a store: the answer.
+fn status_of<D: Device>(alloc: Global, device: &mut D, output: &mut Room) -> Result<(), Fault> {
+    status(alloc, device, output)
+}
+
+// Sees that the status of a new store is printed as far as the output has room.
+fn assert_status_front(rt: &impl Abort, alloc: Global, device: &mut MemDevice, front: &[u8]) {
+    let mut output = with_room(alloc, front.len());
+    let answer = status_of(alloc, device, &mut output);
+    assert_full(rt, answer, &output, front);
+}
+
 #[test]
 fn full_writers_have_a_front_of_a_status(rt: HostRuntime) -> Result<(), Fail> {
-    let alloc = rt.alloc();
-    let mut device = formatted(alloc)?;
+    let mut device = formatted(rt.alloc())?;
     for room in 0..NEW_STATUS.len() {
-        let mut output = with_room(alloc, room);
-        let answer = status(alloc, &mut device, &mut output);
-        assert_eq!(rt; answer, Err(Fault::Output), "{room}");
-        assert_eq!(rt;
-            output.taken.as_slice(),
-            NEW_STATUS.as_bytes().split_at(room).0
-        );
+        let front = NEW_STATUS.as_bytes().split_at(room).0;
+        assert_status_front(&rt, rt.alloc(), &mut device, front);
     }
+    Ok(())
+}
+
+// Sees what the status of a device answers, and what is printed of it.
+fn assert_status<D: Device>(
+    rt: &impl Abort,
+    alloc: Global,
+    device: &mut D,
+    wanted: Result<(), Fault>,
+    printed: &str,
+) {
+    let mut output = with_room(alloc, 200);
+    let answer = status_of(alloc, device, &mut output);
+    assert_same(rt, &answer, &wanted, &printed);
+    assert_text(rt, &output, printed, &"status");
+}
+
+// Sees that a device that fails at the call of this number has no status, and that the one below
+// has one.
+fn assert_status_again(rt: &impl Abort, alloc: Global, number: u64) -> Result<(), Fail> {
+    let mut failing = FaultDevice::new(formatted(alloc)?, number);
+    let refused = Err(Fault::Open(OpenError::Device));
+    assert_status(rt, alloc, &mut failing, refused, "");
+    let mut device = failing.into_mem();
+    assert_status(rt, alloc, &mut device, Ok(()), NEW_STATUS);
     Ok(())
 }
 
 #[test]
 fn statuses_of_devices_that_fail(rt: HostRuntime) -> Result<(), Fail> {
-    let alloc = rt.alloc();
     for number in 0..4 {
-        let mut output = with_room(alloc, 200);
-        let mut failing = FaultDevice::new(formatted(alloc)?, number);
-        let refused = Err(Fault::Open(OpenError::Device));
-        assert_eq!(rt;
-            status(alloc, &mut failing, &mut output),
-            refused,
-            "{number}"
-        );
-        assert_eq!(rt; output.text()?, "");
-        let mut device = failing.into_mem();
-        assert_eq!(rt; status(alloc, &mut device, &mut output), Ok(()), "{number}");
-        assert_eq!(rt; output.text()?, NEW_STATUS);
+        assert_status_again(&rt, rt.alloc(), number)?;
     }
     Ok(())
 }
@@ -136,14 +179,17 @@ fn statuses_of_devices_that_fail(rt: HostRuntime) -> Result<(), Fail> {
 // Whether the status of a new store is printed. Nothing is where memory is refused.
 fn is_printed(rt: &impl Abort, alloc: Global, device: &mut MemDevice) -> Result<bool, Fail> {
     let mut output = with_memory(alloc, 200)?;
-    let answer = status(alloc, device, &mut output);
-    if answer == Err(Fault::Memory) {
-        assert_eq!(rt; output.text()?, "");
-        return Ok(false);
-    }
-    assert_eq!(rt; answer, Ok(()));
-    assert_eq!(rt; output.text()?, NEW_STATUS);
-    Ok(true)
+    let answer = status_of(alloc, device, &mut output);
+    let has_memory = answer != Err(Fault::Memory);
+    let wanted = if has_memory {
+        Ok(())
+    } else {
+        Err(Fault::Memory)
+    };
+    assert_same(rt, &answer, &wanted, &"status");
+    let printed = if has_memory { NEW_STATUS } else { "" };
+    assert_text(rt, &output, printed, &"status");
+    Ok(has_memory)
 }
 
 // The test is run with each of its allocations refused in turn. At most one is, so that of two
@@ -154,6 +200,6 @@ fn refused_memory_of_a_status(rt: HostRuntime) -> Result<(), Fail> {
     let mut device = formatted(alloc)?;
     let first = is_printed(&rt, alloc, &mut device)?;
     let second = is_printed(&rt, alloc, &mut device)?;
-    assert!(rt; first || second);
+    assert_true(&rt, first || second, "one of two statuses is printed");
     Ok(())
 }

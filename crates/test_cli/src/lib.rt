@@ -11,7 +11,11 @@ mod asking;
 #[cfg(test)]
 mod asks;
 #[cfg(test)]
+mod checks;
+#[cfg(test)]
 mod commands;
+#[cfg(test)]
+mod host;
 #[cfg(test)]
 mod lines;
 #[cfg(test)]

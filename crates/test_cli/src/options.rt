@@ -1,6 +1,8 @@
 //! What command lines ask for, and how they are refused. What is printed of refused ones, and the
 //! help, are lines of `test_program`.
 
+use crate::checks::assert_same;
+use clap::ArgMatches;
 use clap::error::ErrorKind;
 use cli_words::{
     ASK, CHECKPOINT, CORES, CommandLine, DEVICE, FORCE, FORMAT, FUTURE, GRACE, HEX, IDLE, JOURNAL,
@@ -27,6 +29,22 @@ fn words_of(rt: &impl Abort, alloc: Global, line: &str) -> Vec<String> {
     words
 }
 
+/// The options of a line with these words, which asks for this command.
+fn options_of<'a>(
+    rt: &impl Abort,
+    alloc: Global,
+    words: &'a Vec<String>,
+    line: &str,
+    command: &str,
+) -> ArgMatches<'a> {
+    let CommandLine {
+        subcommand,
+        options,
+    } = read(alloc, words.as_slice()).expect(rt, line);
+    assert_same(rt, &Some(subcommand), &Subcommand::named(command), &line);
+    options
+}
+
 /// An option of a command line, and its value.
 #[derive(Clone, Copy)]
 struct Value {
@@ -45,7 +63,7 @@ const ALL_OF_RUN: &str =
 const ALL_OF_ASK: &str = "ask --timeout 4294967295 a list up --json 1-0 0-0";
 
 #[rattlefmt::skip]
-const VALUES: [Value; 48] = [
+const VALUES: &[Value] = &[
     Value { line: ALL_OF_ONCE, command: ONCE, option: CORES, value: Some("1-1,2-2") },
     Value { line: ALL_OF_ONCE, command: ONCE, option: NOW, value: Some("5") },
     Value { line: ALL_OF_ONCE, command: ONCE, option: KEY, value: Some("00ff") },
@@ -96,25 +114,24 @@ const VALUES: [Value; 48] = [
     Value { line: "ask --json a register -", command: ASK, option: WORDS, value: Some("-") },
 ];
 
+/// These values. The prover writes a constant out where it is named, so no loop names it.
+fn values() -> &'static [Value] {
+    VALUES
+}
+
 /// Sees the value of an option.
 fn assert_value(rt: &impl Abort, alloc: Global, wanted: Value) {
     let Value { line, option, .. } = wanted;
     let words = words_of(rt, alloc, line);
-    let CommandLine {
-        subcommand,
-        options,
-    } = read(alloc, words.as_slice()).expect(rt, line);
-    assert!(rt;
-        Subcommand::named(wanted.command) == Some(subcommand),
-        "{line}"
-    );
-    assert!(rt; options.get_str(option) == wanted.value, "{line} {option}");
+    let options = options_of(rt, alloc, &words, line, wanted.command);
+    let value = options.get_str(option);
+    assert_same(rt, &value, &wanted.value, &(line, option));
 }
 
 #[test]
 fn values_of_options(rt: HostRuntime) {
-    for value in VALUES {
-        assert_value(&rt, rt.alloc(), value);
+    for value in values() {
+        assert_value(&rt, rt.alloc(), *value);
     }
 }
 
@@ -129,7 +146,7 @@ struct Flag {
 }
 
 #[rattlefmt::skip]
-const FLAGS: [Flag; 19] = [
+const FLAGS: &[Flag] = &[
     Flag { line: "once", command: ONCE, flag: HEX, is_given: false },
     Flag { line: ALL_OF_ONCE, command: ONCE, flag: HEX, is_given: true },
     Flag { line: "format d --checkpoint 2 --journal 516 --new", command: FORMAT, flag: NEW, is_given: true },
@@ -151,31 +168,30 @@ const FLAGS: [Flag; 19] = [
     Flag { line: ALL_OF_RUN, command: RUN, flag: STOP_ON_END_OF_INPUT, is_given: true },
 ];
 
+/// These flags.
+fn all_flags() -> &'static [Flag] {
+    FLAGS
+}
+
 /// Sees whether a flag is given.
 fn assert_flag(rt: &impl Abort, alloc: Global, wanted: Flag) {
     let Flag { line, flag, .. } = wanted;
     let words = words_of(rt, alloc, line);
-    let CommandLine {
-        subcommand,
-        options,
-    } = read(alloc, words.as_slice()).expect(rt, line);
-    assert!(rt;
-        Subcommand::named(wanted.command) == Some(subcommand),
-        "{line}"
-    );
-    assert!(rt; options.get_flag(flag) == wanted.is_given, "{line} {flag}");
+    let options = options_of(rt, alloc, &words, line, wanted.command);
+    let is_given = options.get_flag(flag);
+    assert_same(rt, &is_given, &wanted.is_given, &(line, flag));
 }
 
 #[test]
 fn flags(rt: HostRuntime) {
-    for flag in FLAGS {
-        assert_flag(&rt, rt.alloc(), flag);
+    for flag in all_flags() {
+        assert_flag(&rt, rt.alloc(), *flag);
     }
 }
 
 /// Lines that are refused, and how.
 #[rattlefmt::skip]
-const REFUSED: [(&str, ErrorKind); 36] = [
+const REFUSED: &[(&str, ErrorKind)] = &[
     ("run --version", ErrorKind::UnknownArgument),
     ("once d", ErrorKind::UnknownArgument),
     ("once --now", ErrorKind::InvalidValue),
@@ -214,16 +230,22 @@ const REFUSED: [(&str, ErrorKind); 36] = [
     ("once --future 1", ErrorKind::UnknownArgument),
 ];
 
+/// These lines.
+fn refused() -> &'static [(&'static str, ErrorKind)] {
+    REFUSED
+}
+
 /// Sees how a line is refused.
 fn assert_refused(rt: &impl Abort, alloc: Global, line: &str, wanted: ErrorKind) {
     let words = words_of(rt, alloc, line);
     let error = read(alloc, words.as_slice()).err().expect(rt, line);
-    assert!(rt; error.kind() == wanted && error.exit_code() == 2, "{line}");
+    assert_same(rt, &error.kind(), &wanted, &line);
+    assert_same(rt, &error.exit_code(), &2, &line);
 }
 
 #[test]
 fn lines_that_are_not_read(rt: HostRuntime) {
-    for (line, kind) in REFUSED {
-        assert_refused(&rt, rt.alloc(), line, kind);
+    for (line, kind) in refused() {
+        assert_refused(&rt, rt.alloc(), *line, *kind);
     }
 }

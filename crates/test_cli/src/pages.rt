@@ -1,5 +1,6 @@
 //! The page of some numbers, line by line.
 
+use crate::checks::{assert_same, assert_true};
 use group_core::Numbers;
 use group_phases::{Check, Flush};
 use status_page::{
@@ -333,7 +334,8 @@ fn page_of_some_numbers(rt: HostRuntime) -> Result<(), Fail> {
     let text = page(alloc, &NUMBERS, &counts(), &REFUSALS)?;
     assert_eq!(rt; text.as_str(), PAGE);
     let whole = response(alloc, text.as_str())?;
-    assert!(rt; whole.as_str().ends_with(PAGE));
+    let is_whole = whole.as_str().ends_with(text.as_str());
+    assert_true(&rt, is_whole, "the page is in the response");
     Ok(())
 }
 
@@ -342,7 +344,7 @@ fn response_with_a_page(rt: HostRuntime) -> Result<(), Fail> {
     let whole = response(rt.alloc(), "pathd_rows 2\n")?;
     let head =
         "HTTP/1.1 200 OK\r\nContent-Type: text/plain; version=0.0.4\r\nContent-Length: 13\r\nConnection: close\r\n\r\n";
-    assert!(rt; whole.as_str().starts_with(head));
-    assert_eq!(rt; whole.as_str().len(), head.len() + 13);
+    assert_same(&rt, &whole.as_str().starts_with(head), &true, &whole);
+    assert_same(&rt, &whole.len(), &(head.len() + 13), &"bytes");
     Ok(())
 }

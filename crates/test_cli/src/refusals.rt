@@ -1,11 +1,11 @@
 //! Stores that are not made or upgraded: sizes that are refused, and devices that fail.
 
+use crate::checks::{assert_same, assert_true};
 use crate::commands::{LEAST, SECTORS, formatted_old};
-use crate::writers::{Room, with_room};
+use crate::writers::{Room, assert_text, with_room};
 use cli_store::{Fault, format, upgrade};
 use sector_dev::{Device, MemDevice};
 use std::alloc::Global;
-use std::fmt::Debug;
 use std::process::Abort;
 use std::test::Fail;
 use store_open::{FormatError, Geometry, OpenError, StoreError};
@@ -34,39 +34,33 @@ const NO_STORES: [NoStore; 6] = [
     NoStore { checkpoint: 3, journal: 516, sectors: SECTORS, why: TOO_SMALL },
 ];
 
-// What making a store answers and prints.
+// Makes a store: the answer.
 fn format_answer<D: Device>(
     alloc: Global,
     device: &mut D,
     geometry: Geometry,
-) -> (Result<(), Fault>, Room) {
-    let mut output = with_room(alloc, 100);
-    let answer = format(alloc, device, geometry, &mut output);
-    (answer, output)
+    output: &mut Room,
+) -> Result<(), Fault> {
+    format(alloc, device, geometry, output)
 }
 
-// Sees in a case why no store is made, and that nothing is printed.
-fn assert_not_formatted<C: Debug>(
-    rt: &impl Abort,
-    (answer, output): (Result<(), Fault>, Room),
-    wanted: FormatError,
-    case: &C,
-) -> Result<(), Fail> {
-    assert_eq!(rt; answer, Err(Fault::Format(wanted)), "{case:?}");
-    assert_eq!(rt; output.text()?, "", "{case:?}");
-    Ok(())
+// Sees in a case why no store is made on a device, and that nothing is printed.
+fn assert_not_formatted(rt: &impl Abort, alloc: Global, device: &mut MemDevice, case: NoStore) {
+    let mut output = with_room(alloc, 100);
+    let geometry = Geometry {
+        checkpoint: case.checkpoint,
+        journal: case.journal,
+    };
+    let answer = format_answer(alloc, device, geometry, &mut output);
+    assert_same(rt, &answer, &Err(Fault::Format(case.why)), &case);
+    assert_text(rt, &output, "", &case);
 }
 
 #[test]
 fn sizes_that_are_not_allowed(rt: HostRuntime) -> Result<(), Fail> {
     for case in NO_STORES {
         let mut device = MemDevice::new(rt.alloc(), case.sectors)?;
-        let geometry = Geometry {
-            checkpoint: case.checkpoint,
-            journal: case.journal,
-        };
-        let answer = format_answer(rt.alloc(), &mut device, geometry);
-        assert_not_formatted(&rt, answer, case.why, &case)?;
+        assert_not_formatted(&rt, rt.alloc(), &mut device, case);
     }
     Ok(())
 }
@@ -74,24 +68,34 @@ fn sizes_that_are_not_allowed(rt: HostRuntime) -> Result<(), Fail> {
 // Above the number of calls that a command makes to a device here.
 const MANY: u64 = 100;
 
+// Makes a store on a device of which the call of this number may fail: whether none fails. Sees
+// what is printed.
+fn formats(rt: &impl Abort, alloc: Global, device: &mut FaultDevice, number: u64) -> bool {
+    let mut output = with_room(alloc, 100);
+    let answer = format_answer(alloc, device, LEAST, &mut output);
+    let is_formatted = answer.is_ok();
+    let failed = Err(Fault::Format(FormatError::Fault));
+    let wanted = if is_formatted { Ok(()) } else { failed };
+    assert_same(rt, &answer, &wanted, &number);
+    let printed = if is_formatted {
+        "formatted 1039 sectors\n"
+    } else {
+        ""
+    };
+    assert_text(rt, &output, printed, &number);
+    is_formatted
+}
+
 // Makes a store on a device of which the call of this number fails: whether none does. The device
 // is formatted again after a fault.
 fn is_formatted(rt: &impl Abort, alloc: Global, number: u64) -> Result<bool, Fail> {
     let mut device = FaultDevice::new(MemDevice::new(alloc, SECTORS)?, number);
-    let answer = format_answer(alloc, &mut device, LEAST);
-    if answer.0.is_ok() {
-        assert_eq!(rt;
-            answer.1.text()?,
-            "formatted 1039 sectors\n",
-            "call {number}"
-        );
-        return Ok(true);
+    let is_formatted = formats(rt, alloc, &mut device, number);
+    if !is_formatted {
+        let again = formats(rt, alloc, &mut device, number);
+        assert_same(rt, &again, &true, &number);
     }
-    assert_not_formatted(rt, answer, FormatError::Fault, &number)?;
-    let (again, output) = format_answer(alloc, &mut device, LEAST);
-    assert_eq!(rt; again, Ok(()), "call {number}");
-    assert_eq!(rt; output.text()?, "formatted 1039 sectors\n", "call {number}");
-    Ok(false)
+    Ok(is_formatted)
 }
 
 #[test]
@@ -103,29 +107,43 @@ fn failing_devices_are_formatted_again(rt: HostRuntime) -> Result<(), Fail> {
         }
         failed = number + 1;
     }
-    assert!(rt; 0 < failed && failed < MANY);
+    assert_true(&rt, 0 < failed && failed < MANY, "some calls fail");
     Ok(())
 }
 
-// What having a store in the version that is written answers, and what it prints; and the device.
-fn upgrade_answer<D: Device>(alloc: Global, device: D) -> (Result<(), Fault>, Room, D) {
-    let mut output = with_room(alloc, 100);
-    match upgrade(alloc, device, &mut output) {
-        Ok(device) => (Ok(()), output, device),
-        Err((device, fault)) => (Err(fault), output, device),
+// Has a store in the version that is written: the answer, and the device.
+fn upgrade_answer<D: Device>(
+    alloc: Global,
+    device: D,
+    output: &mut Room,
+) -> (Result<(), Fault>, D) {
+    match upgrade(alloc, device, output) {
+        Ok(device) => (Ok(()), device),
+        Err((device, fault)) => (Err(fault), device),
     }
+}
+
+// The same. Sees what is printed.
+fn upgraded_once<D: Device>(
+    rt: &impl Abort,
+    alloc: Global,
+    device: D,
+    number: u64,
+) -> (Result<(), Fault>, D) {
+    let mut output = with_room(alloc, 100);
+    let (answer, device) = upgrade_answer(alloc, device, &mut output);
+    let printed = if answer.is_ok() { "version 2\n" } else { "" };
+    assert_text(rt, &output, printed, &number);
+    (answer, device)
 }
 
 // Has a store of version 1 upgraded whose device fails at the call of this number: what it
 // answered. It is upgraded again after that.
 fn upgraded(rt: &impl Abort, alloc: Global, number: u64) -> Result<Result<(), Fault>, Fail> {
     let failing = FaultDevice::new(formatted_old(alloc)?, number);
-    let (answer, output, device) = upgrade_answer(alloc, failing);
-    let printed = if answer.is_ok() { "version 2\n" } else { "" };
-    assert_eq!(rt; output.text()?, printed, "call {number}");
-    let (again, output, _device) = upgrade_answer(alloc, device.into_mem());
-    assert_eq!(rt; again, Ok(()), "call {number}");
-    assert_eq!(rt; output.text()?, "version 2\n", "call {number}");
+    let (answer, device) = upgraded_once(rt, alloc, failing, number);
+    let (again, _device) = upgraded_once(rt, alloc, device.into_mem(), number);
+    assert_same(rt, &again, &Ok(()), &number);
     Ok(answer)
 }
 
@@ -141,9 +159,9 @@ fn failing_devices_are_upgraded_again(rt: HostRuntime) -> Result<(), Fail> {
         if answer.is_ok() {
             break;
         }
-        assert!(rt; is_next, "{number}");
+        assert_same(&rt, &is_next, &true, &number);
         last = answer;
     }
-    assert_eq!(rt; last, checkpoint);
+    assert_same(&rt, &last, &checkpoint, &"last");
     Ok(())
 }

@@ -1,9 +1,9 @@
 //! What bytes ask for.
 
+use crate::checks::assert_same;
 use status_page::{Asked, read_head};
-use std::test::Fail;
 
-const REQUESTS: [(&str, Asked); 27] = [
+const REQUESTS: &[(&str, Asked)] = &[
     ("GET /metrics HTTP/1.1\r\nHost: a\r\n\r\n", Asked::Page),
     ("GET /metrics HTTP/1.0\r\n\r\n", Asked::Page),
     ("GET /metrics HTTP/1.1\n\n", Asked::Page),
@@ -33,10 +33,14 @@ const REQUESTS: [(&str, Asked); 27] = [
     ("GET /metrics HTTP/1.1\r\n: a\r\n\r\n", Asked::Unreadable),
 ];
 
+/// These requests. The prover writes a constant out where it is named, so no loop names it.
+fn requests() -> &'static [(&'static str, Asked)] {
+    REQUESTS
+}
+
 #[test]
-fn requests_are_read(rt: HostRuntime) -> Result<(), Fail> {
-    for (bytes, wanted) in REQUESTS {
-        assert_eq!(rt; read_head(bytes.as_bytes()), wanted, "{bytes}");
+fn requests_are_read(rt: HostRuntime) {
+    for (bytes, wanted) in requests() {
+        assert_same(&rt, &read_head(bytes.as_bytes()), wanted, bytes);
     }
-    Ok(())
 }

@@ -1,5 +1,6 @@
 //! The lines of a row, and lines that are read as rows or refused.
 
+use crate::checks::{assert_same, assert_true};
 use row_lines::{LineError, RowForm, line_as, read_line};
 use seg_core::{SegError, SegType, Segment, read_segment};
 use std::process::Abort;
@@ -60,23 +61,38 @@ const REFUSED: [(&str, LineError); 9] = [
 
 #[test]
 fn lines_are_read_again(rt: HostRuntime) -> Result<(), Fail> {
-    let alloc = rt.alloc();
-    let segment = read_segment(alloc, &SEGMENT)?;
-    let text = line_as(alloc, RowForm::Text, SegType::Down, &segment)?;
-    assert_eq!(rt; text.as_str(), TEXT);
-    let line = line_as(alloc, RowForm::Json, SegType::Down, &segment)?;
-    assert_eq!(rt; line.as_str(), JSON);
-    assert_read(&rt, line.as_str(), &segment)?;
+    let segment = read_segment(rt.alloc(), &SEGMENT)?;
+    assert_lines(&rt, &segment)
+}
+
+/// Sees the lines of the worked segment, and that they are read again.
+fn assert_lines(rt: &(impl Abort + AllocGlobal), segment: &Segment) -> Result<(), Fail> {
+    assert_line(rt, RowForm::Text, segment, TEXT)?;
+    assert_line(rt, RowForm::Json, segment, JSON)?;
+    assert_read(rt, JSON, segment)?;
     for line in SAME {
-        assert_read(&rt, line, &segment)?;
+        assert_read(rt, line, segment)?;
     }
+    Ok(())
+}
+
+/// Sees the line of a segment.
+fn assert_line(
+    rt: &(impl Abort + AllocGlobal),
+    form: RowForm,
+    segment: &Segment,
+    wanted: &str,
+) -> Result<(), Fail> {
+    let line = line_as(rt.alloc(), form, SegType::Down, segment)?;
+    assert_same(rt, &line.as_str(), &wanted, &"line");
     Ok(())
 }
 
 /// Sees a line read as the row of a segment.
 fn assert_read(rt: &(impl Abort + AllocGlobal), line: &str, segment: &Segment) -> Result<(), Fail> {
     let (kind, read) = read_line(rt.alloc(), line.as_bytes())?;
-    assert!(rt; kind == SegType::Down && read == *segment);
+    let is_same = kind == SegType::Down && read == *segment;
+    assert_true(rt, is_same, "the line is that of the segment");
     Ok(())
 }
 
@@ -90,8 +106,6 @@ fn lines_without_rows(rt: HostRuntime) {
 
 /// Sees a line refused.
 fn assert_refused(rt: &(impl Abort + AllocGlobal), line: &[u8], wanted: LineError) {
-    match read_line(rt.alloc(), line) {
-        Ok(_) => assert!(rt; false, "{wanted} is read"),
-        Err(error) => assert_eq!(rt; error, wanted),
-    }
+    let error = read_line(rt.alloc(), line).err();
+    assert_same(rt, &error, &Some(wanted), &"the line is refused");
 }

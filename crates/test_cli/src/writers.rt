@@ -1,9 +1,12 @@
 //! A writer that is full at some point.
 
+use crate::checks::assert_same;
 use std::alloc::{AllocError, Global};
+use std::fmt::Debug;
 use std::io;
 use std::io::Write;
-use std::test::Fail;
+use std::process::Abort;
+use std::str::from_utf8;
 
 /// Takes this number of bytes, at most three at a time, and then none.
 #[derive(Drop)]
@@ -41,9 +44,7 @@ impl Write for Room {
     }
 }
 
-impl Room {
-    /// What was written, as text.
-    pub fn text(&self) -> Result<&str, Fail> {
-        Ok(std::str::from_utf8(&self.taken)?)
-    }
+/// Sees that a text was written in a case.
+pub fn assert_text<C: Debug>(rt: &impl Abort, output: &Room, wanted: &str, case: &C) {
+    assert_same(rt, &from_utf8(&output.taken).ok(), &Some(wanted), case);
 }

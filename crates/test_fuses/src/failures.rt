@@ -5,7 +5,7 @@ use crate::left::{Ending, Left};
 use crate::scripts::{Script, fronted, seen};
 use sector_dev::{Device, MemDevice, SECTOR};
 use std::alloc::Global;
-use store_open::{OpenError, open};
+use store_open::{OpenError, Store, open};
 use test_fault_devices::{FuseDevice, Tear};
 use test_group_scripts::acts::{Act, Line};
 use test_group_scripts::noted::{Calls, Noted};
@@ -65,6 +65,33 @@ fn memory_of<F: FailingDevices>(rt: &impl TestHost, failure: &F, device: F::On) 
     failure.memory(device)
 }
 
+/// What is there where a store was not opened, and what that may have left.
+fn unopened<F: FailingDevices>(
+    rt: &impl TestHost,
+    script: &Script,
+    failure: &F,
+    device: F::On,
+    e: OpenError,
+) -> (Left, MemDevice) {
+    assert_same(rt, &e, &OpenError::Device, &"an opening");
+    let left = script.none_left().unopened();
+    (left, memory_of(rt, failure, device))
+}
+
+/// Does the events of a script: what that may leave, and the device.
+fn whole_run<D: Device>(
+    rt: &impl TestHost,
+    alloc: Global,
+    script: &Script,
+    store: Store<D>,
+) -> (Left, D) {
+    let held = begun(rt, alloc, store);
+    let (held, replies) = done(rt, alloc, held, &script.events);
+    assert_same(rt, &replies.len(), &script.events.len(), &"replies");
+    let left = seen(rt, script, &replies);
+    (left, ended(rt, held))
+}
+
 /// Runs a script on a device that fails: what that may leave, and what it left.
 fn failing_run<F: FailingDevices>(
     rt: &impl TestHost,
@@ -73,19 +100,13 @@ fn failing_run<F: FailingDevices>(
     failure: &F,
     device: F::On,
 ) -> (Left, MemDevice) {
-    let store = match open(alloc, device) {
-        Ok(store) => store,
-        Err((device, e)) => {
-            assert_same(rt, &e, &OpenError::Device, &"an opening");
-            let left = script.none_left().unopened();
-            return (left, memory_of(rt, failure, device));
+    match open(alloc, device) {
+        Ok(store) => {
+            let (left, device) = whole_run(rt, alloc, script, store);
+            (left, memory_of(rt, failure, device))
         }
-    };
-    let held = begun(rt, alloc, store);
-    let (held, replies) = done(rt, alloc, held, &script.events);
-    assert_same(rt, &replies.len(), &script.events.len(), &"replies");
-    let left = seen(rt, script, &replies);
-    (left, memory_of(rt, failure, ended(rt, held)))
+        Err((device, e)) => unopened(rt, script, failure, device, e),
+    }
 }
 
 /// Whether a device has this image.
@@ -134,37 +155,69 @@ fn calls_of_run(
     ended(rt, held).into_parts()
 }
 
-/// Has the opening of a device with this image, which opens to this place, fail at its calls that
-/// the script has tried, one after the other: each time it opens to the same. How many times it
-/// failed.
-fn failing_openings<F: FailingDevices>(
+/// Has the opening of a device with this image, which opens to this place, fail at the call of this
+/// number, and sees that it opens to the same: whether it failed.
+fn failing_opening<F: FailingDevices>(
     rt: &impl TestHost,
     alloc: Global,
     script: &Script,
     failure: &F,
     device: MemDevice,
     (image, place): (&[u8], u64),
+    number: u64,
+) -> (bool, MemDevice) {
+    match open(alloc, failure.over(restored(rt, device, image), number)) {
+        Ok(store) => {
+            let (_place, failing) = fronted(rt, alloc, script, store, (place, place));
+            (false, failure.memory(failing))
+        }
+        Err((failing, e)) => {
+            assert_same(rt, &e, &OpenError::Device, &"an opening");
+            let rest = memory_of(rt, failure, failing);
+            (true, opened_alike(rt, alloc, script, rest, (image, place)))
+        }
+    }
+}
+
+/// Has it fail at those of these calls that the script has tried, one after the other: how many
+/// times it failed.
+fn tried_openings<F: FailingDevices>(
+    rt: &impl TestHost,
+    alloc: Global,
+    script: &Script,
+    failure: &F,
+    calls: &Calls,
+    device: MemDevice,
+    image: (&[u8], u64),
 ) -> (u64, MemDevice) {
-    let (calls, mut device) = calls_of_opening(rt, alloc, device, image);
+    let mut device = device;
     let mut failures = 0u64;
     for number in 0..MANY {
-        if !calls.is_tried(number, script.apart) {
-            continue;
-        }
-        match open(alloc, failure.over(restored(rt, device, image), number)) {
-            Ok(store) => {
-                let (_place, failing) = fronted(rt, alloc, script, store, (place, place));
-                return (failures, failure.memory(failing));
+        if calls.is_tried(number, script.apart) {
+            let has_failed;
+            (has_failed, device) = failing_opening(
+                rt, alloc, script, failure, device, image, number,
+            );
+            if !has_failed {
+                return (failures, device);
             }
-            Err((failing, e)) => {
-                assert_same(rt, &e, &OpenError::Device, &"an opening");
-                failures = failures.saturating_add(1);
-                let rest = memory_of(rt, failure, failing);
-                device = opened_alike(rt, alloc, script, rest, (image, place));
-            }
+            failures = failures.saturating_add(1);
         }
     }
     rt.fail("opening makes no end")
+}
+
+/// Has it fail at each of its calls that the script has tried: how many times it failed.
+fn failing_openings<F: FailingDevices>(
+    rt: &impl TestHost,
+    alloc: Global,
+    script: &Script,
+    failure: &F,
+    device: MemDevice,
+    image: (&[u8], u64),
+) -> (u64, MemDevice) {
+    let (calls, device) = calls_of_opening(rt, alloc, device, image.0);
+    tried_openings(rt, alloc, script, failure, &calls, device, image)
 }
 
 /// Sees that no event from one number up to another makes a call of the device.
@@ -207,6 +260,7 @@ fn assert_next(rt: &impl TestHost, lines: &[Line], next: usize, number: usize) {
 }
 
 /// What a run left on a device.
+#[derive(Drop)]
 struct Image {
     /// The bytes of the script's sectors.
     bytes: Vec<u8>,
@@ -235,44 +289,135 @@ fn opened_image(
     }
 }
 
-/// Has a script's run fail at its calls of the device that the script has tried, one after the
-/// other, and the openings of each image that it leaves: how many times each failed. An image that
-/// is left twice in a row is opened with failures once.
-pub fn failing_runs<F: FailingDevices>(
+/// Has a script's run fail at the call of this number: what that may leave, and what it left.
+fn left_by<F: FailingDevices>(
     rt: &impl TestHost,
     alloc: Global,
     script: &Script,
     failure: &F,
-) -> (u64, u64) {
-    let (calls, mut device) = calls_of_run(rt, alloc, script, script.device(rt, alloc));
-    let mut runs = 0u64;
-    let mut last = Vec::new(alloc);
-    let mut again = 0u64;
-    let mut next = 0;
+    device: MemDevice,
+    number: u64,
+) -> (Left, Image) {
+    let failing = failure.over(restored(rt, device, &script.image), number);
+    let (left, rest) = failing_run(rt, alloc, script, failure, failing);
+    (left, opened_image(rt, alloc, script, rest, left.bounds()))
+}
+
+/// Has the openings of an image fail, unless the one before it has the same bytes: how many times
+/// they failed.
+fn opened_again<F: FailingDevices>(
+    rt: &impl TestHost,
+    alloc: Global,
+    script: &Script,
+    failure: &F,
+    before: &[u8],
+    image: Image,
+) -> (u64, Image) {
+    let Image {
+        bytes,
+        place,
+        device,
+    } = image;
+    let (failures, device) = if bytes.as_slice() == before {
+        (0, device)
+    } else {
+        failing_openings(rt, alloc, script, failure, device, (&bytes, place))
+    };
+    let image = Image {
+        bytes,
+        place,
+        device,
+    };
+    (failures, image)
+}
+
+/// How many runs and openings failed.
+#[derive(Clone, Copy)]
+struct Failures {
+    runs: u64,
+    openings: u64,
+    /// The number of the event after the one in which the device failed last.
+    next: usize,
+    /// No run is to fail any more.
+    is_whole: bool,
+}
+
+/// None failed.
+const NONE_FAILED: Failures = Failures {
+    runs: 0,
+    openings: 0,
+    next: 0,
+    is_whole: false,
+};
+
+/// Has a script's run fail at the call of this number, and the openings of the image that it leaves.
+fn failing_at<F: FailingDevices>(
+    rt: &impl TestHost,
+    alloc: Global,
+    script: &Script,
+    failure: &F,
+    before: Image,
+    failures: Failures,
+    number: u64,
+) -> (Image, Failures) {
+    let Image { bytes, device, .. } = before;
+    let (left, image) = left_by(rt, alloc, script, failure, device, number);
+    let next = next_event(rt, &script.lines, failures.next, left.ending);
+    if left.ending == Ending::Whole {
+        let failures = Failures {
+            is_whole: true,
+            ..failures
+        };
+        return (image, failures);
+    }
+    let (openings, image) = opened_again(rt, alloc, script, failure, &bytes, image);
+    let failures = Failures {
+        runs: failures.runs.saturating_add(1),
+        openings: failures.openings.saturating_add(openings),
+        next,
+        ..failures
+    };
+    (image, failures)
+}
+
+/// Has it fail at those of these calls that the script has tried, one after the other. An image that
+/// is left twice in a row is opened with failures once.
+fn tried_runs<F: FailingDevices>(
+    rt: &impl TestHost,
+    alloc: Global,
+    script: &Script,
+    failure: &F,
+    calls: &Calls,
+    before: Image,
+) -> Failures {
+    let mut image = before;
+    let mut failures = NONE_FAILED;
     for number in 0..MANY {
-        if !calls.is_tried(number, script.apart) {
-            continue;
+        if calls.is_tried(number, script.apart) {
+            (image, failures) = failing_at(rt, alloc, script, failure, image, failures, number);
+            if failures.is_whole {
+                return failures;
+            }
         }
-        let failing = failure.over(restored(rt, device, &script.image), number);
-        let (left, rest) = failing_run(rt, alloc, script, failure, failing);
-        next = next_event(rt, &script.lines, next, left.ending);
-        let Image {
-            bytes,
-            place,
-            device: memory,
-        } = opened_image(rt, alloc, script, rest, left.bounds());
-        device = memory;
-        if left.ending == Ending::Whole {
-            return (runs, again);
-        }
-        runs = runs.saturating_add(1);
-        if bytes.as_slice() == last.as_slice() {
-            continue;
-        }
-        let failures;
-        (failures, device) = failing_openings(rt, alloc, script, failure, device, (&bytes, place));
-        again = again.saturating_add(failures);
-        last = bytes;
     }
     rt.fail("the run makes no end")
+}
+
+/// Has a script's run fail at each of its calls of the device that the script has tried, and the
+/// openings of each image that it leaves. There are some of both.
+pub fn assert_fronts<F: FailingDevices>(
+    rt: &impl TestHost,
+    alloc: Global,
+    script: &Script,
+    failure: &F,
+) {
+    let (calls, device) = calls_of_run(rt, alloc, script, script.device(rt, alloc));
+    let before = Image {
+        bytes: Vec::new(alloc),
+        place: 0,
+        device,
+    };
+    let failures = tried_runs(rt, alloc, script, failure, &calls, before);
+    assert_true(rt, failures.runs > 0, "a run failed");
+    assert_true(rt, failures.openings > 0, "an opening failed");
 }

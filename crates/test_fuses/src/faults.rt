@@ -1,8 +1,8 @@
 //! Runs on a device that fails once, at each of its calls in turn, and works again after it.
 
-use crate::failures::{FailingDevices, failing_runs};
+use crate::failures::{FailingDevices, assert_fronts};
 use crate::host::Host;
-use crate::scripts::{Script, long_script, short_script};
+use crate::scripts::{long_script, short_script};
 use sector_dev::{DevError, Device, MemDevice};
 use std::alloc::Global;
 use std::process::Abort;
@@ -80,36 +80,36 @@ impl FailingDevices for Once {
     }
 }
 
-/// Has the run of a script fail once, at each call.
-fn assert_fronts(rt: &Host<impl Abort>, alloc: Global, script: &Script) {
-    let (runs, openings) = failing_runs(rt, alloc, script, &Once);
-    assert!(rt.0; runs > 0 && openings > 0);
+/// Has the run of the long script from a store of this version fail once, at each call.
+fn assert_once(rt: &Host<impl Abort>, alloc: Global, version: u8) -> Result<(), Fail> {
+    let script = long_script(rt, alloc, version)?;
+    assert_fronts(rt, alloc, &script, &Once);
+    Ok(())
+}
+
+/// The same of the short script.
+fn assert_short_once(rt: &Host<impl Abort>, alloc: Global, version: u8) -> Result<(), Fail> {
+    let script = short_script(rt, alloc, version)?;
+    assert_fronts(rt, alloc, &script, &Once);
+    Ok(())
 }
 
 #[test]
 fn new_stores_fail_once(rt: HostRuntime) -> Result<(), Fail> {
-    let host = Host(&rt);
-    assert_fronts(&host, rt.alloc(), &long_script(&host, rt.alloc(), 2)?);
-    Ok(())
+    assert_once(&Host(&rt), rt.alloc(), 2)
 }
 
 #[test]
 fn old_stores_fail_once(rt: HostRuntime) -> Result<(), Fail> {
-    let host = Host(&rt);
-    assert_fronts(&host, rt.alloc(), &long_script(&host, rt.alloc(), 1)?);
-    Ok(())
+    assert_once(&Host(&rt), rt.alloc(), 1)
 }
 
 #[test]
 fn short_runs_of_new_stores_fail_once(rt: HostRuntime) -> Result<(), Fail> {
-    let host = Host(&rt);
-    assert_fronts(&host, rt.alloc(), &short_script(&host, rt.alloc(), 2)?);
-    Ok(())
+    assert_short_once(&Host(&rt), rt.alloc(), 2)
 }
 
 #[test]
 fn short_runs_of_old_stores_fail_once(rt: HostRuntime) -> Result<(), Fail> {
-    let host = Host(&rt);
-    assert_fronts(&host, rt.alloc(), &short_script(&host, rt.alloc(), 1)?);
-    Ok(())
+    assert_short_once(&Host(&rt), rt.alloc(), 1)
 }

@@ -1,28 +1,17 @@
 //! Groups that follow each other on a device that stops, or fails once, at each of its calls in
 //! turn.
 
-use crate::failures::{FailingDevices, failing_runs};
+use crate::failures::{FailingDevices, assert_fronts};
 use crate::faults::Once;
 use crate::host::Host;
 use crate::rounds::FLUSHER;
-use crate::scripts::{Script, followed_script, round_script};
+use crate::scripts::{followed_script, round_script};
 use std::alloc::Global;
 use std::process::Abort;
 use std::test::Fail;
 use test_group_scripts::acts::Act;
 use test_group_scripts::stores::TEARS;
 use test_group_scripts::values::step_of;
-
-/// Has the run of a script fail at each call, and each opening of what is left.
-fn assert_fronts<F: FailingDevices>(
-    rt: &Host<impl Abort>,
-    alloc: Global,
-    script: &Script,
-    failure: &F,
-) {
-    let (runs, openings) = failing_runs(rt, alloc, script, failure);
-    assert!(rt.0; runs > 0 && openings > 0);
-}
 
 /// Stops the groups of a store of this version with each tear.
 fn assert_stops(rt: &Host<impl Abort>, alloc: Global, version: u8) -> Result<(), Fail> {
@@ -43,7 +32,20 @@ fn is_between(number: usize) -> bool {
 }
 
 /// Has a device fail within groups of a store of this version, with a whole round of the
-/// checkpointer between any two steps of the flusher.
+/// checkpointer before the event of this number.
+fn assert_round<F: FailingDevices>(
+    rt: &Host<impl Abort>,
+    alloc: Global,
+    version: u8,
+    before: usize,
+    failure: &F,
+) -> Result<(), Fail> {
+    let script = round_script(rt, alloc, version, before)?;
+    assert_fronts(rt, alloc, &script, failure);
+    Ok(())
+}
+
+/// The same with a round between any two steps of the flusher.
 fn assert_rounds<F: FailingDevices>(
     rt: &Host<impl Abort>,
     alloc: Global,
@@ -52,8 +54,7 @@ fn assert_rounds<F: FailingDevices>(
 ) -> Result<(), Fail> {
     for before in 0..=FLUSHER.len() {
         if is_between(before) {
-            let script = round_script(rt, alloc, version, before)?;
-            assert_fronts(rt, alloc, &script, failure);
+            assert_round(rt, alloc, version, before, failure)?;
         }
     }
     Ok(())
@@ -77,12 +78,18 @@ fn followed_groups_of_old_stores_stop(rt: HostRuntime) -> Result<(), Fail> {
     assert_stops(&Host(&rt), rt.alloc(), 1)
 }
 
+/// Has a device fail once within the groups of a store of this version.
+fn assert_once(rt: &Host<impl Abort>, alloc: Global, version: u8) -> Result<(), Fail> {
+    let script = followed_script(rt, alloc, version)?;
+    assert_fronts(rt, alloc, &script, &Once);
+    Ok(())
+}
+
 #[test]
 fn followed_groups_fail_once(rt: HostRuntime) -> Result<(), Fail> {
     let host = Host(&rt);
     for version in [1, 2] {
-        let script = followed_script(&host, rt.alloc(), version)?;
-        assert_fronts(&host, rt.alloc(), &script, &Once);
+        assert_once(&host, rt.alloc(), version)?;
     }
     Ok(())
 }

@@ -58,13 +58,26 @@ fn folds_of(
     lines: &[Line],
     events: &[Event],
 ) -> Result<Vec<Vec<u8>>, Fail> {
-    let mut db = PathDb::new(alloc);
     let mut folds = Vec::new(alloc);
-    push_fold(rt, alloc, &db, &mut folds)?;
-    for (line, event) in lines.iter().zip(events) {
-        fold_line(rt, alloc, &mut db, &mut folds, *line, event)?;
-    }
+    push_folds(rt, alloc, &mut folds, lines, events)?;
     Ok(folds)
+}
+
+/// Appends the rows before all of these lines, and after each of the commands that are said to be
+/// accepted.
+fn push_folds(
+    rt: &impl TestHost,
+    alloc: Global,
+    folds: &mut Vec<Vec<u8>>,
+    lines: &[Line],
+    events: &[Event],
+) -> Result<(), Fail> {
+    let mut db = PathDb::new(alloc);
+    push_fold(rt, alloc, &db, folds)?;
+    for (line, event) in lines.iter().zip(events) {
+        fold_line(rt, alloc, &mut db, folds, *line, event)?;
+    }
+    Ok(())
 }
 
 /// Appends the records of the rows of a database.
@@ -108,6 +121,18 @@ struct Start {
     device: MemDevice,
 }
 
+/// The lines of these parts, their events, and the rows after each command that is accepted.
+fn told_of(
+    rt: &impl TestHost,
+    alloc: Global,
+    parts: &[&[Line]],
+) -> Result<(Vec<Line>, Vec<Event>, Vec<Vec<u8>>), Fail> {
+    let lines = joined(rt, alloc, parts);
+    let events = events_of(rt, alloc, &lines);
+    let folds = folds_of(rt, alloc, &lines, &events)?;
+    Ok((lines, events, folds))
+}
+
 /// The script of these parts, which starts from this store. Of reads each `apart`-th one is tried.
 fn script_of(
     rt: &impl TestHost,
@@ -122,9 +147,7 @@ fn script_of(
         geometry,
         mut device,
     } = start;
-    let lines = joined(rt, alloc, parts);
-    let events = events_of(rt, alloc, &lines);
-    let folds = folds_of(rt, alloc, &lines, &events)?;
+    let (lines, events, folds) = told_of(rt, alloc, parts)?;
     let image = bytes_of(rt, alloc, &mut device, geometry.sectors() as usize);
     Ok(Script {
         lines,

@@ -1,7 +1,8 @@
 //! A workload whose tasks do the same work, each in a thread of its own. The wait for them has a
 //! limit.
 
-use path_hub::{Hub, HubName, Notice, Senders, Workload, with_workload};
+use crate::checks::assert_same;
+use path_hub::{Hub, HubError, HubName, Notice, Senders, Workload, with_workload};
 use sector_dev::Device;
 use std::alloc::Global;
 use std::process::Abort;
@@ -107,13 +108,23 @@ impl<E: Errand, D: Device, R: Wait + Clock + Abort> Workload<D, R> for Tasks<E> 
     }
 }
 
+/// Runs tasks with a hub over a store: the device, and how many tasks there were.
+pub(crate) fn attended<
+    D: Device + Send,
+    E: Errand + Sync,
+    R: Wait + Clock + Threads + Abort + Copy + Drop + Send + Sync,
+>(rt: R, alloc: Global, store: Store<D>, tasks: &Tasks<E>) -> (D, Result<u64, HubError>) {
+    let (device, _left, attended) = with_workload(rt, alloc, store, 1, tasks);
+    (device, attended)
+}
+
 /// Runs all tasks with a hub over a store, and returns the device.
 pub(crate) fn with_tasks<
     D: Device + Send,
     E: Errand + Sync,
     R: Wait + Clock + Threads + Abort + Copy + Drop + Send + Sync,
 >(rt: R, alloc: Global, store: Store<D>, tasks: &Tasks<E>) -> D {
-    let (device, _left, attended) = with_workload(rt, alloc, store, 1, tasks);
-    assert_eq!(&rt; attended, Ok(tasks.count));
+    let (device, attended) = attended(rt, alloc, store, tasks);
+    assert_same(&rt, &attended, &Ok(tasks.count), &"attended");
     device
 }

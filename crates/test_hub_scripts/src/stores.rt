@@ -3,7 +3,7 @@
 use group_core::{Receipt, Redeemed, Ticket};
 use isd_as::IsdAs;
 use path_db::{Command, Registration};
-use path_hub::{Awaited, HubError, Left, Steps};
+use path_hub::{Awaited, HubError, HubLeft, Steps};
 use sector_dev::{Device, MemDevice, SECTOR};
 use seg_core::{SegType, read_segment};
 use seg_lookup::Query;
@@ -106,7 +106,7 @@ pub fn register(alloc: Global, origin: u8, egress: u8) -> Option<Command> {
 /// What came of a job. The device is dropped, with the log that is left.
 pub fn ended<D: Device + Drop, J: Drop, T>(
     rt: &impl TestHost,
-    done: Result<(T, D, Left), (Store<D>, J, HubError)>,
+    done: Result<(T, D, HubLeft), (Store<D>, J, HubError)>,
 ) -> T {
     match done {
         Ok((out, _device, _left)) => out,

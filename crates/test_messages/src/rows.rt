@@ -13,4 +13,4 @@ mod records;
 mod refused;
 mod visits;
 mod ways;
-mod worked;
+pub(crate) mod worked;

@@ -3,6 +3,8 @@
 #![tactic(auto)]
 
 #[cfg(test)]
+mod host;
+#[cfg(test)]
 mod runs;
 #[cfg(test)]
 mod traces;

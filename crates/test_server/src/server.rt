@@ -8,6 +8,7 @@ mod checks;
 mod doors;
 mod ends;
 mod hanging;
+mod held;
 mod host;
 mod leaving;
 mod pacing;

@@ -5,9 +5,7 @@
 
 mod ahead;
 mod broken;
-mod clocks;
 mod crowds;
 mod frames;
-mod host;
 mod memory;
 mod turns;

@@ -5,7 +5,13 @@
 #[cfg(test)]
 mod ahead;
 #[cfg(test)]
+mod bytes;
+#[cfg(test)]
+mod checks;
+#[cfg(test)]
 mod connections;
+#[cfg(test)]
+mod host;
 #[cfg(test)]
 mod limits;
 #[cfg(test)]

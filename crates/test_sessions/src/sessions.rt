@@ -6,5 +6,4 @@ mod commands;
 mod framers;
 mod laws;
 mod lists;
-mod same;
 mod worked;

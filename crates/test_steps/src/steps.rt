@@ -4,7 +4,6 @@
 
 mod following;
 mod groups;
-mod host;
 mod journals;
 mod limits;
 mod reopening;

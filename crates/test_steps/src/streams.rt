@@ -5,7 +5,6 @@
 
 mod commands;
 mod failures;
-mod host;
 mod large_rows;
 mod lies;
 mod prepared;

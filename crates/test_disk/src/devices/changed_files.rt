@@ -2,7 +2,7 @@
 //! failed.
 use crate::checks::done;
 use crate::host::Host;
-use sector_dev::{Device, FaultKind, FileDevice, FileFault, PositionedFile, SystemFile};
+use sector_dev::{Device, FaultKind, FileDevice, FileFault, LastFault, PositionedFile, SystemFile};
 use std::fs;
 use std::fs::{File, OpenOptions};
 use std::process::Abort;
@@ -41,26 +41,45 @@ fn assert_synced(rt: &impl TestHost, device: &mut FileDevice<SystemFile>, is_ok:
     assert_same(rt, &device.faults(), &u64::from(!is_ok), &"faults");
 }
 
+// A file of the system, which is opened for reading and writing.
+fn system_file<R: AllocGlobal + Files<File = File>>(
+    rt: &R,
+    path: &str,
+) -> Result<SystemFile, Fail> {
+    let file = OpenOptions::new().read(true).write(true).open(rt, path)?;
+    Ok(SystemFile::new(rt.alloc(), file)?)
+}
+
 // Changes a file of four sectors under its device, and checks what its next sync returns.
+fn assert_changed<R: AllocGlobal + Files<File = File> + Abort>(
+    rt: &R,
+    device: &mut FileDevice<SystemFile>,
+    last: &LastFault,
+    made: Change,
+    kind: Option<FaultKind>,
+) -> Result<(), Fail> {
+    let host = Host(rt);
+    assert_synced(&host, device, true);
+    assert_same(&host, &last.get(), &None, &"before the change");
+    make_change(rt, "device_tests_changed/device", made)?;
+    assert_synced(&host, device, kind.is_none());
+    let wanted = kind.map(|kind| FileFault { kind, errno: None });
+    assert_same(&host, &last.get(), &wanted, &made);
+    Ok(())
+}
+
+// Makes a file of four sectors, and checks what is noticed of a change of it.
 fn assert_noticed<R: AllocGlobal + Files<File = File> + Abort>(
     rt: &R,
     made: Change,
     kind: Option<FaultKind>,
 ) -> Result<(), Fail> {
-    let host = Host(rt);
     let path = "device_tests_changed/device";
     fs::write(rt, path, &[7; 2048])?;
-    let file = OpenOptions::new().read(true).write(true).open(rt, path)?;
-    let file = SystemFile::new(rt.alloc(), file)?;
+    let file = system_file(rt, path)?;
     let last = file.last_fault()?;
     let mut device = FileDevice::new(file)?;
-    assert_synced(&host, &mut device, true);
-    assert_same(&host, &last.get(), &None, &"before the change");
-    make_change(rt, path, made)?;
-    assert_synced(&host, &mut device, kind.is_none());
-    let wanted = kind.map(|kind| FileFault { kind, errno: None });
-    assert_same(&host, &last.get(), &wanted, &made);
-    Ok(())
+    assert_changed(rt, &mut device, &last, made, kind)
 }
 
 #[test]
@@ -83,38 +102,48 @@ fn assert_text<R: AllocGlobal + Abort>(rt: &R, fault: FileFault, wanted: &str) -
     Ok(())
 }
 
+// The failures of a file that has no room, and no sync.
+const NO_ROOM: FileFault = FileFault {
+    kind: FaultKind::Write,
+    errno: Some(28),
+};
+
+const NO_SYNC: FileFault = FileFault {
+    kind: FaultKind::Sync,
+    errno: Some(22),
+};
+
+const CUT: FileFault = FileFault {
+    kind: FaultKind::Cut,
+    errno: None,
+};
+
+// Checks that a write and a sync of such a file fail, and are noted.
+fn assert_noted(rt: &impl TestHost, file: &mut SystemFile, last: &LastFault) {
+    let has_failed = file.write_at(0, &[0x11; 512]).is_err();
+    assert_true(rt, has_failed, "the write fails");
+    assert_same(rt, &last.get(), &Some(NO_ROOM), &"the write");
+    assert_true(rt, file.sync_data().is_err(), "the sync fails");
+    assert_same(rt, &last.get(), &Some(NO_SYNC), &"the sync");
+}
+
+// Checks the same of the system's file without room, whose note stays when the file is gone.
+fn assert_full_noted<R: AllocGlobal + Files<File = File> + Abort>(rt: &R) -> Result<(), Fail> {
+    let mut file = system_file(rt, "/dev/full")?;
+    let last = file.last_fault()?;
+    assert_noted(&Host(rt), &mut file, &last);
+    drop(file);
+    assert_same(&Host(rt), &last.get(), &Some(NO_SYNC), &"the sync");
+    Ok(())
+}
+
 // The file has no room, and then no sync.
 #[test]
 fn the_last_failure_is_noted(rt: HostRuntime) {
-    let host = Host(&rt);
-    let file = OpenOptions::new()
-        .read(true)
-        .write(true)
-        .open(&rt, "/dev/full")
-        .expect(&rt, "the file is opened");
-    let mut file = SystemFile::new(rt.alloc(), file).expect(&rt, "a file of the system");
-    let last = file.last_fault().expect(&rt, "the note of faults");
-    let has_failed = file.write_at(0, &[0x11; 512]).is_err();
-    assert_true(&host, has_failed, "the write fails");
-    let no_room = FileFault {
-        kind: FaultKind::Write,
-        errno: Some(28),
-    };
-    assert_same(&host, &last.get(), &Some(no_room), &"the write");
-    assert_true(&host, file.sync_data().is_err(), "the sync fails");
-    drop(file);
-    let no_sync = FileFault {
-        kind: FaultKind::Sync,
-        errno: Some(22),
-    };
-    assert_same(&host, &last.get(), &Some(no_sync), &"the sync");
+    done(&rt, assert_full_noted(&rt));
     let text = "a write of the file failed: No space left on device (os error 28)";
-    done(&rt, assert_text(&rt, no_room, text));
-    let cut = FileFault {
-        kind: FaultKind::Cut,
-        errno: None,
-    };
-    done(&rt, assert_text(&rt, cut, "the file was cut"));
+    done(&rt, assert_text(&rt, NO_ROOM, text));
+    done(&rt, assert_text(&rt, CUT, "the file was cut"));
 }
 
 fn sent<T: Send>(value: T) -> T {

@@ -8,7 +8,7 @@ use ckpt_pair::{Checkpoint, Head, PairError, encode_checkpoint, read_half};
 use path_db::PathDb;
 use std::alloc::Global;
 use std::test::Fail;
-use test_support::assert_same;
+use test_support::{TestHost, assert_same, assert_true};
 
 /// The error for bytes that are no checkpoint.
 const BAD: PairError = PairError::BadCheckpoint;
@@ -24,44 +24,78 @@ fn read(alloc: Global, area: &[u8]) -> Result<Checkpoint, PairError> {
     }
 }
 
+/// The number of rows.
+fn count_rows(db: &PathDb) -> usize {
+    db.rows().count()
+}
+
 /// The version and the count of rows of an area.
 fn read_of(alloc: Global, area: &[u8]) -> Result<(u32, usize), PairError> {
     let checkpoint = read(alloc, area)?;
-    Ok((checkpoint.head.version, checkpoint.db.rows().count()))
+    Ok((checkpoint.head.version, count_rows(&checkpoint.db)))
+}
+
+/// The area of a new store: one sector, zeros after the front.
+fn new_area(alloc: Global) -> Result<Vec<u8>, Fail> {
+    let mut area = Vec::from_slice(alloc, &FRESH)?;
+    area.resize(512, 0)?;
+    Ok(area)
+}
+
+/// The area that is written of a new store.
+fn written_anew(alloc: Global) -> Result<Vec<u8>, Fail> {
+    let none = PathDb::new(alloc);
+    Ok(encode_checkpoint(alloc, &none, 1, 0)?)
+}
+
+/// Sees that the area of a new store is written so, and read.
+fn assert_new(rt: &impl TestHost, alloc: Global, expected: &[u8]) -> Result<(), Fail> {
+    let bytes = written_anew(alloc)?;
+    assert_bytes(rt, &bytes, expected, "a new store");
+    let found = read_of(alloc, expected);
+    assert_same(rt, &found, &Ok((2, 0)), &"version and rows");
+    Ok(())
 }
 
 // The area of a new store: one sector, zeros after the front.
 #[test]
 fn new_store_is_written(rt: HostRuntime) {
-    let host = Host(&rt);
-    let none = PathDb::new(rt.alloc());
-    let bytes = encode_checkpoint(rt.alloc(), &none, 1, 0).expect(&rt, "it is written");
-    let mut expected = Vec::from_slice(rt.alloc(), &FRESH).expect(&rt, "bytes");
-    expected.resize(512, 0).expect(&rt, "a sector");
-    assert_bytes(&host, &bytes, &expected, "a new store");
-    let found = read_of(rt.alloc(), &expected);
-    assert_same(&host, &found, &Ok((2, 0)), &"version and rows");
+    let expected = done(&rt, new_area(rt.alloc()));
+    done(&rt, assert_new(&Host(&rt), rt.alloc(), &expected));
 }
 
-// Three rows: they are read, and written again as the same bytes.
-#[test]
-fn rows_are_read_and_written(rt: HostRuntime) {
-    let host = Host(&rt);
-    let area = done(&rt, area(rt.alloc()));
-    let checkpoint = read(rt.alloc(), &area).expect(&rt, "the checkpoint is read");
+/// Sees that a checkpoint is the worked one.
+fn assert_worked(rt: &impl TestHost, checkpoint: &Checkpoint) {
     let head = Head {
         version: 2,
         epoch: 7,
         place: 258,
     };
-    assert_same(&host, &checkpoint.head, &head, &"head");
-    let found = (checkpoint.db.rows().count(), checkpoint.db.encoded_len());
-    assert_same(&host, &found, &(3, 279), &"rows and bytes");
-    if checkpoint.db.encoded_len() == 279 {
-        let written = encode_checkpoint(rt.alloc(), &checkpoint.db, 7, 258);
-        let written = written.expect(&rt, "it is written");
-        assert_bytes(&host, &written, &area, "the area");
-    }
+    assert_same(rt, &checkpoint.head, &head, &"head");
+    let found = (count_rows(&checkpoint.db), checkpoint.db.encoded_len());
+    assert_same(rt, &found, &(3, 279), &"rows and bytes");
+}
+
+/// Sees that rows are written as an area.
+fn assert_written(rt: &impl TestHost, alloc: Global, db: &PathDb, area: &[u8]) -> Result<(), Fail> {
+    assert_true(rt, db.encoded_len() == 279, "three rows");
+    let written = encode_checkpoint(alloc, db, 7, 258)?;
+    assert_bytes(rt, &written, area, "the area");
+    Ok(())
+}
+
+/// Sees that the worked checkpoint is read from an area, and written as that area.
+fn assert_read_and_written(rt: &impl TestHost, alloc: Global, area: &[u8]) -> Result<(), Fail> {
+    let checkpoint = read(alloc, area)?;
+    assert_worked(rt, &checkpoint);
+    assert_written(rt, alloc, &checkpoint.db, area)
+}
+
+// Three rows: they are read, and written again as the same bytes.
+#[test]
+fn rows_are_read_and_written(rt: HostRuntime) {
+    let area = done(&rt, area(rt.alloc()));
+    done(&rt, assert_read_and_written(&Host(&rt), rt.alloc(), &area));
 }
 
 /// Which byte of the worked area is changed, what to, and the version and the count of rows that

@@ -2,12 +2,12 @@
 
 use crate::checks::done;
 use crate::halves::worked::Part::{Closed, Open, Purges, Removal, Seal};
-use crate::halves::worked::{Outline, Part, Seen, bytes_of, drawn, purges, seen};
+use crate::halves::worked::{Outline, Part, Seen, bytes_of, drawn, payload_of, purges, seen};
 use crate::host::Host;
-use gate_journal::{JournalError, Progress, Scanner, can_be_group, encode_group};
+use gate_journal::JournalError;
 use std::alloc::Global;
 use std::test::Fail;
-use test_support::{TestHost, assert_same, assert_true};
+use test_support::{TestHost, assert_same};
 
 /// What a journal of these parts reads as, from a place on and under a version.
 #[derive(Clone, Copy)]
@@ -116,14 +116,24 @@ fn versions_have_limits(rt: HostRuntime) -> Result<(), Fail> {
     Ok(())
 }
 
+/// The payload of a group of this number of purges.
+fn payload_of_purges(rt: &impl TestHost, alloc: Global, count: u8) -> Result<Vec<u8>, Fail> {
+    let commands = purges(alloc, u64::from(count))?;
+    payload_of(rt, alloc, &commands, 300)
+}
+
+/// Checks that the payload of this number of purges is as it is drawn.
+fn assert_drawn(rt: &impl TestHost, alloc: Global, count: u8) -> Result<(), Fail> {
+    let payload = payload_of_purges(rt, alloc, count)?;
+    let wanted = drawn(alloc, count, 300)?;
+    assert_same(rt, &payload.as_slice(), &wanted.as_slice(), &count);
+    Ok(())
+}
+
 #[test]
 fn groups_are_written_as_they_are_drawn(rt: HostRuntime) {
     let host = Host(&rt);
-    for count in [1, 8, 9, 32] {
-        let commands = done(&rt, purges(rt.alloc(), u64::from(count)));
-        assert_true(&host, can_be_group(&commands, 300), "they can be a group");
-        let payload = encode_group(rt.alloc(), &commands, 300).expect(&rt, "a payload");
-        let wanted = done(&rt, drawn(rt.alloc(), count, 300));
-        assert_same(&host, &payload, &wanted, &count);
+    for count in &[1, 8, 9, 32] {
+        done(&rt, assert_drawn(&host, rt.alloc(), *count));
     }
 }

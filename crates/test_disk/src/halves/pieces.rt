@@ -3,12 +3,18 @@
 use crate::halves::area::{area, changed, rows_of};
 use crate::host::Host;
 use ckpt_pair::{DatabaseReader, PairError, feed_rows, finish_rows, read_front};
+use path_db::PathDb;
 use std::alloc::Global;
 use std::test::Fail;
-use test_support::assert_same;
+use test_support::{TestHost, assert_same};
 
 /// The error for bytes that are no rows, or are more or fewer rows.
 const BAD: PairError = PairError::BadCheckpoint;
+
+/// The number of rows, and the length of their records.
+fn totals_of(db: &PathDb) -> (usize, u64) {
+    (db.rows().count(), db.encoded_len())
+}
 
 /// The number of rows that are read from bytes in pieces of this size, and the length of their
 /// records.
@@ -20,7 +26,7 @@ fn read(alloc: Global, bytes: &[u8], size: usize, count: u32) -> Result<(usize, 
         }
     }
     let db = finish_rows(reader, count)?;
-    Ok((db.rows().count(), db.encoded_len()))
+    Ok(totals_of(&db))
 }
 
 /// The same; where memory is refused, the rows are read again.
@@ -86,23 +92,37 @@ fn pieces_are_counted(rt: HostRuntime) -> Result<(), Fail> {
     Ok(())
 }
 
+/// Sees that rows of which this byte is changed are refused in pieces of this size.
+fn assert_changed(
+    rt: &impl TestHost,
+    alloc: Global,
+    (at, byte): (usize, u8),
+    size: usize,
+) -> Result<(), Fail> {
+    let area = changed(alloc, at, byte)?;
+    let rows = read_again(alloc, rows_of(&area), size, 3);
+    assert_same(rt, &rows, &Err(BAD), &(at, byte, size));
+    Ok(())
+}
+
+/// Places, and the bytes that are there then.
+const CHANGES: [(usize, u8); 7] = [
+    (32, 4),
+    (32, 2),
+    (36, 87),
+    (37, 0x0b),
+    (125, 0),
+    (125, 3),
+    (218, 2),
+];
+
 // A row that is refused, and one out of order, are refused in pieces of each size.
 #[test]
 fn changed_pieces(rt: HostRuntime) -> Result<(), Fail> {
     let host = Host(&rt);
-    for (at, byte) in [
-        (32, 4),
-        (32, 2),
-        (36, 87),
-        (37, 0x0b),
-        (125, 0),
-        (125, 3),
-        (218, 2),
-    ] {
-        for size in [1, 50, 93, 279] {
-            let area = changed(rt.alloc(), at, byte)?;
-            let rows = read_again(rt.alloc(), rows_of(&area), size, 3);
-            assert_same(&host, &rows, &Err(BAD), &(at, byte, size));
+    for change in &CHANGES {
+        for size in &[1, 50, 93, 279] {
+            assert_changed(&host, rt.alloc(), *change, *size)?;
         }
     }
     Ok(())

@@ -1,27 +1,38 @@
 //! A journal of which one byte is changed.
 
 use crate::checks::done;
-use crate::halves::worked::Part::{Closed, Open};
-use crate::halves::worked::{Outline, SEGMENT, Seen, bytes_of, seen};
+use crate::halves::worked::Part::{Closed, Open, Seal};
+use crate::halves::worked::{Outline, SEGMENT, Seen, add_parts, seen};
 use crate::host::Host;
 use gate_journal::JournalError::{self, BadHeader, BadRecord, Gap, PastEnd};
 use std::alloc::Global;
 use std::test::Fail;
-use test_support::{assert_same, assert_true};
+use test_support::{TestHost, assert_same, assert_true};
+
+/// The group at place 0 of a purge and of the registration of the worked segment, up to its zeros:
+/// the header, the purge, what is before the segment, and the segment.
+const GROUP: [&[u8]; 4] = [
+    &[1, 2, 0, 0, 0, 0, 0, 112, 0, 0, 0, 0, 0, 0, 0, 0],
+    &[0, 0, 0, 9, 2, 0, 0, 0, 0, 0, 0, 0, 5],
+    &[0, 0, 0, 95, 1, 1, 2, 0, 0, 0, 88],
+    &SEGMENT,
+];
+
+/// Adds a gate and that group, and after them a seal.
+fn add_journal(bytes: &mut Vec<u8>) -> Result<(), Fail> {
+    add_parts(bytes, &[Open])?;
+    for piece in &GROUP {
+        bytes.extend_from_slice(piece)?;
+    }
+    bytes.resize(1024, 0)?;
+    add_parts(bytes, &[Open, Seal(2), Closed, Open, Closed])
+}
 
 /// A journal of seven sectors: a purge and a registration of the worked segment at place 0, and
 /// after them a seal.
 pub(crate) fn journal(alloc: Global) -> Result<Vec<u8>, Fail> {
-    let mut bytes = bytes_of(alloc, &[Open])?;
-    bytes.extend_from_slice(&[1, 2, 0, 0, 0, 0, 0, 112, 0, 0, 0, 0, 0, 0, 0, 0])?;
-    bytes.extend_from_slice(&[0, 0, 0, 9, 2, 0, 0, 0, 0, 0, 0, 0, 5])?;
-    bytes.extend_from_slice(&[0, 0, 0, 95, 1, 1, 2, 0, 0, 0, 88])?;
-    bytes.extend_from_slice(&SEGMENT)?;
-    bytes.resize(1024, 0)?;
-    bytes.extend_from_slice(&bytes_of(alloc, &[Open])?)?;
-    bytes.extend_from_slice(&[2, 0, 0, 0, 0, 0, 0, 0, 0, 0, 0, 0, 0, 0, 0, 2])?;
-    bytes.resize(2048, 0)?;
-    bytes.extend_from_slice(&bytes_of(alloc, &[Closed, Open, Closed])?)?;
+    let mut bytes = Vec::new(alloc);
+    add_journal(&mut bytes)?;
     Ok(bytes)
 }
 
@@ -114,22 +125,42 @@ const CHANGES: [Change; 46] = [
     Change { at: 2048, byte: 0xa7, seen: WHOLE },
 ];
 
+/// Puts another byte at a place of the journal. Returns the byte that was there.
+fn replaced(rt: &impl TestHost, bytes: &mut [u8], at: usize, byte: u8) -> u8 {
+    assert_true(rt, at < bytes.len(), "the journal has the byte");
+    let was = bytes[at];
+    bytes[at] = byte;
+    was
+}
+
+/// Sees what the journal reads as with one byte changed, and puts the byte right again.
+fn assert_changed(
+    rt: &impl TestHost,
+    alloc: Global,
+    bytes: &mut [u8],
+    row: &Change,
+) -> Result<(), Fail> {
+    let was = replaced(rt, bytes, row.at, row.byte);
+    let found = seen(rt, alloc, bytes, 0, 1)?;
+    assert_same(rt, &found, &row.seen, &(row.byte, row.at));
+    replaced(rt, bytes, row.at, was);
+    Ok(())
+}
+
+/// Sees what the journal reads as, and what with each of the changes.
+fn assert_all_changed(rt: &impl TestHost, alloc: Global, bytes: &mut [u8]) -> Result<(), Fail> {
+    let found = seen(rt, alloc, bytes, 0, 1)?;
+    assert_same(rt, &found, &WHOLE, &"nothing is changed");
+    for row in &CHANGES {
+        assert_changed(rt, alloc, bytes, row)?;
+    }
+    Ok(())
+}
+
 #[test]
 fn one_byte_is_changed(rt: HostRuntime) {
-    let host = Host(&rt);
     let mut bytes = done(&rt, journal(rt.alloc()));
-    let found = done(&rt, seen(&host, rt.alloc(), &bytes, 0, 1));
-    assert_same(&host, &found, &WHOLE, &"nothing is changed");
-    for row in &CHANGES {
-        let at = row.at;
-        assert_true(&host, at < bytes.len(), "the journal has the byte");
-        let was = bytes[at];
-        bytes[at] = row.byte;
-        let found = done(&rt, seen(&host, rt.alloc(), &bytes, 0, 1));
-        assert_same(&host, &found, &row.seen, &(row.byte, at));
-        assert_true(&host, at < bytes.len(), "the journal still has it");
-        bytes[at] = was;
-    }
+    done(&rt, assert_all_changed(&Host(&rt), rt.alloc(), &mut bytes));
 }
 
 /// Errors, each with its number and its text.

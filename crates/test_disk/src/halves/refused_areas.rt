@@ -31,21 +31,41 @@ fn read(alloc: Global, area: &[u8]) -> Result<Checkpoint, PairError> {
     read_half(alloc, area)
 }
 
+/// What is written of three rows. Where memory is refused, the rows are as they were, and are
+/// written again.
+fn written_again(
+    rt: &impl TestHost,
+    alloc: Global,
+    db: &PathDb,
+    rows: &[u8],
+) -> Result<Vec<u8>, Fail> {
+    assert_true(rt, db.encoded_len() == 279, "three rows");
+    match encode_checkpoint(alloc, db, 7, 258) {
+        Ok(written) => Ok(written),
+        Err(_) => {
+            assert_rows(rt, alloc, db, rows)?;
+            Ok(encode_checkpoint(alloc, db, 7, 258)?)
+        }
+    }
+}
+
+/// Checks that three rows are written as an area.
+fn assert_written(rt: &impl TestHost, alloc: Global, db: &PathDb, area: &[u8]) -> Result<(), Fail> {
+    let written = written_again(rt, alloc, db, rows_of(area))?;
+    assert_bytes(rt, &written, area, "the area");
+    Ok(())
+}
+
+/// Checks that what is read from an area is written as that area.
+fn assert_read_and_written(rt: &impl TestHost, alloc: Global, area: &[u8]) -> Result<(), Fail> {
+    let checkpoint = read(alloc, area)?;
+    assert_written(rt, alloc, &checkpoint.db, area)
+}
+
 #[test]
 fn refused_memory_of_written_checkpoints(rt: HostRuntime) -> Result<(), Fail> {
-    let host = Host(&rt);
     let area = area(rt.alloc())?;
-    let checkpoint = read(rt.alloc(), &area)?;
-    assert_true(&host, checkpoint.db.encoded_len() == 279, "three rows");
-    let written = match encode_checkpoint(rt.alloc(), &checkpoint.db, 7, 258) {
-        Ok(written) => written,
-        Err(_) => {
-            assert_rows(&host, rt.alloc(), &checkpoint.db, rows_of(&area))?;
-            encode_checkpoint(rt.alloc(), &checkpoint.db, 7, 258)?
-        }
-    };
-    assert_bytes(&host, &written, &area, "the area");
-    Ok(())
+    assert_read_and_written(&Host(&rt), rt.alloc(), &area)
 }
 
 /// The worked head.
@@ -81,23 +101,42 @@ const READ_CHANGES: [ReadChange; 5] = [
     ReadChange { what: "the count", at: 31, byte: 2, takes_memory: true, refusal: BAD },
 ];
 
+/// Reads a changed area, and reads it again where memory is refused, which may be so only where it
+/// is wanted.
+fn read_again(
+    rt: &impl TestHost,
+    alloc: Global,
+    area: &[u8],
+    row: &ReadChange,
+) -> Result<Checkpoint, PairError> {
+    match read(alloc, area) {
+        Err(PairError::NoMemory) => {
+            assert_same(rt, &row.takes_memory, &true, &row.what);
+            read(alloc, area)
+        }
+        answer => answer,
+    }
+}
+
+/// Checks that a checkpoint is the worked one.
+fn assert_worked(
+    rt: &impl TestHost,
+    alloc: Global,
+    checkpoint: &Checkpoint,
+    rows: &[u8],
+    row: &ReadChange,
+) -> Result<(), Fail> {
+    assert_same(rt, &row.refusal, &None, &row.what);
+    assert_same(rt, &checkpoint.head, &HEAD, &row.what);
+    assert_rows(rt, alloc, &checkpoint.db, rows)
+}
+
 /// Checks what a changed area is read as, which is read again where memory is refused.
 fn assert_read(rt: &impl TestHost, alloc: Global, row: &ReadChange) -> Result<(), Fail> {
     let area = changed(alloc, row.at, row.byte)?;
-    let answer = match read(alloc, &area) {
-        Err(PairError::NoMemory) => {
-            assert_same(rt, &row.takes_memory, &true, &row.what);
-            read(alloc, &area)
-        }
-        answer => answer,
-    };
-    match answer {
-        Ok(checkpoint) => {
-            assert_same(rt, &row.refusal, &None, &row.what);
-            assert_same(rt, &checkpoint.head, &HEAD, &row.what);
-            assert_rows(rt, alloc, &checkpoint.db, rows_of(&area))?;
-        }
-        Err(error) => assert_same(rt, &Some(error), &row.refusal, &row.what),
+    match &read_again(rt, alloc, &area, row) {
+        Ok(checkpoint) => assert_worked(rt, alloc, checkpoint, rows_of(&area), row)?,
+        Err(error) => assert_same(rt, &Some(*error), &row.refusal, &row.what),
     }
     Ok(())
 }
@@ -139,21 +178,35 @@ const FED_CHANGES: [FedChange; 4] = [
     FedChange { what: "the third segment", at: 223, byte: 0x0b, count: 3, refusal: BAD },
 ];
 
-/// Checks what changed rows are read as in pieces, which are fed again where memory is refused.
-fn assert_fed(rt: &impl TestHost, alloc: Global, row: &FedChange) -> Result<(), Fail> {
-    let area = changed(alloc, row.at, row.byte)?;
-    let answer = match read_in_pieces(alloc, rows_of(&area), row.count) {
-        Err(PairError::NoMemory) => read_in_pieces(alloc, rows_of(&area), row.count),
+/// The same; where memory is refused, the pieces are fed again.
+fn read_in_pieces_again(alloc: Global, bytes: &[u8], count: u32) -> Result<PathDb, PairError> {
+    match read_in_pieces(alloc, bytes, count) {
+        Err(PairError::NoMemory) => read_in_pieces(alloc, bytes, count),
         answer => answer,
-    };
-    match answer {
+    }
+}
+
+/// Checks what these rows are read as in pieces, which are fed again where memory is refused.
+fn assert_pieces(
+    rt: &impl TestHost,
+    alloc: Global,
+    rows: &[u8],
+    row: &FedChange,
+) -> Result<(), Fail> {
+    match &read_in_pieces_again(alloc, rows, row.count) {
         Ok(db) => {
             assert_same(rt, &row.refusal, &None, &row.what);
-            assert_rows(rt, alloc, &db, rows_of(&area))?;
+            assert_rows(rt, alloc, db, rows)?;
         }
-        Err(error) => assert_same(rt, &Some(error), &row.refusal, &row.what),
+        Err(error) => assert_same(rt, &Some(*error), &row.refusal, &row.what),
     }
     Ok(())
+}
+
+/// Checks what changed rows are read as in pieces.
+fn assert_fed(rt: &impl TestHost, alloc: Global, row: &FedChange) -> Result<(), Fail> {
+    let area = changed(alloc, row.at, row.byte)?;
+    assert_pieces(rt, alloc, rows_of(&area), row)
 }
 
 #[test]

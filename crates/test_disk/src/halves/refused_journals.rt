@@ -4,11 +4,12 @@
 
 use crate::checks::assert_bytes;
 use crate::halves::refusals::{EMPTY, WHOLE, journal};
-use crate::halves::worked::{SEGMENT, Seen, drawn, outline_of, purges, read_as, register, segment};
+use crate::halves::worked::{
+    SEGMENT, Seen, drawn, outline_of, payload_again, purge_and_registration, purges, read_as,
+};
 use crate::host::Host;
-use gate_journal::{JournalError, Progress, Scanner, can_be_group, encode_group};
+use gate_journal::{JournalError, Progress, Scanner};
 use path_db::Command;
-use seg_core::SegType;
 use std::alloc::Global;
 use std::test::Fail;
 use test_support::{TestHost, assert_same, assert_true};
@@ -21,33 +22,32 @@ fn assert_written(
     commands: &[Command],
     payload: &[u8],
 ) -> Result<(), Fail> {
-    assert_true(rt, can_be_group(commands, 0), "they can be a group");
-    let written = match encode_group(alloc, commands, 0) {
-        Ok(written) => written,
-        Err(_) => {
-            assert_true(rt, can_be_group(commands, 0), "they can be a group");
-            encode_group(alloc, commands, 0)?
-        }
-    };
+    let written = payload_again(rt, alloc, commands)?;
     assert_bytes(rt, &written, payload, "the payload");
     Ok(())
+}
+
+/// Sees that purges are written as they are drawn.
+fn assert_purges(rt: &impl TestHost, alloc: Global) -> Result<(), Fail> {
+    let payload = drawn(alloc, 32, 0)?;
+    let purges = purges(alloc, 32)?;
+    assert_written(rt, alloc, &purges, &payload)
+}
+
+/// Sees that a purge and a registration are written as in a journal, where the payload of them is
+/// after a gate.
+fn assert_registration(rt: &impl TestHost, alloc: Global) -> Result<(), Fail> {
+    let whole = journal(alloc)?;
+    let commands = purge_and_registration(alloc)?;
+    let payload = whole.get(512..1024).unwrap_or(&SEGMENT);
+    assert_written(rt, alloc, &commands, payload)
 }
 
 #[test]
 fn refused_memory_of_written_groups(rt: HostRuntime) -> Result<(), Fail> {
     let host = Host(&rt);
-    let purges = purges(rt.alloc(), 32)?;
-    assert_written(&host, rt.alloc(), &purges, &drawn(rt.alloc(), 32, 0)?)?;
-    // The payload of a purge and a registration is after the gate of a journal.
-    let registration = register(rt.alloc(), SegType::Down, segment(rt.alloc())?)?;
-    let whole = journal(rt.alloc())?;
-    let payload = whole.get(512..1024).unwrap_or(&SEGMENT);
-    assert_written(
-        &host,
-        rt.alloc(),
-        &[Command::Purge(5), registration],
-        payload,
-    )
+    assert_purges(&host, rt.alloc())?;
+    assert_registration(&host, rt.alloc())
 }
 
 /// Which byte of the worked journal is changed, what to, whether memory may be wanted as it is read
@@ -87,44 +87,58 @@ fn changed(alloc: Global, change: &Change) -> Result<Vec<u8>, Fail> {
     Ok(bytes)
 }
 
+/// Sees what a changed journal reads as, which is read again where memory is refused.
+fn assert_scanned(rt: &impl TestHost, alloc: Global, bytes: &[u8], change: &Change) {
+    let answer = match read_as(rt, alloc, bytes, 0, 1) {
+        Err(JournalError::NoMemory) => {
+            assert_same(rt, &change.takes_memory, &true, &change.name);
+            read_as(rt, alloc, bytes, 0, 1)
+        }
+        answer => answer,
+    };
+    assert_same(rt, &answer, &change.seen, &change.name);
+}
+
 #[test]
 fn refused_memory_of_scans(rt: HostRuntime) -> Result<(), Fail> {
     let host = Host(&rt);
     for change in &CHANGES {
-        let bytes = changed(rt.alloc(), change)?;
-        let answer = match read_as(&host, rt.alloc(), &bytes, 0, 1) {
-            Err(JournalError::NoMemory) => {
-                assert_same(&host, &change.takes_memory, &true, &change.name);
-                read_as(&host, rt.alloc(), &bytes, 0, 1)
-            }
-            answer => answer,
-        };
-        assert_same(&host, &answer, &change.seen, &change.name);
+        assert_scanned(&host, rt.alloc(), &changed(rt.alloc(), change)?, change);
     }
     Ok(())
 }
 
-/// What a journal reads as that is taken piece by piece. Only a group's payload may want memory,
-/// which is the third piece.
+/// Takes the piece of a journal that a scanner wants. Only a group's payload may want memory, which
+/// is the third piece.
+fn taken_piece(
+    rt: &impl TestHost,
+    alloc: Global,
+    scanner: Scanner,
+    bytes: &[u8],
+    number: u8,
+) -> Result<Progress, JournalError> {
+    let wanted = scanner.wanted();
+    assert_true(rt, wanted.first < 7, "the journal has the first sector");
+    assert_true(rt, wanted.count < 7, "the journal has as many sectors");
+    let first = 512 * wanted.first as usize;
+    let count = 512 * wanted.count as usize;
+    let piece = bytes.get(first..first + count).unwrap_or(&[]);
+    assert_true(rt, piece.len() == count, "the journal has the sectors");
+    match scanner.take(alloc, piece) {
+        Ok(progress) => Ok(progress),
+        Err(refusal) => {
+            let may_be = refusal != JournalError::NoMemory || number == 2;
+            assert_true(rt, may_be, "a group's payload alone takes memory");
+            Err(refusal)
+        }
+    }
+}
+
+/// What a journal reads as that is taken piece by piece.
 fn taken(rt: &impl TestHost, alloc: Global, bytes: &[u8]) -> Seen {
     let mut scanner = Scanner::new(alloc, 7, 0, 1);
     for number in 0..7u8 {
-        let wanted = scanner.wanted();
-        assert_true(rt, wanted.first < 7, "the journal has the first sector");
-        assert_true(rt, wanted.count < 7, "the journal has as many sectors");
-        let first = 512 * wanted.first as usize;
-        let count = 512 * wanted.count as usize;
-        let piece = bytes.get(first..first + count).unwrap_or(&[]);
-        assert_true(rt, piece.len() == count, "the journal has the sectors");
-        let progress = match scanner.take(alloc, piece) {
-            Ok(progress) => progress,
-            Err(refusal) => {
-                let may_be = refusal != JournalError::NoMemory || number == 2;
-                assert_true(rt, may_be, "a group's payload alone takes memory");
-                return Err(refusal);
-            }
-        };
-        match progress {
+        match taken_piece(rt, alloc, scanner, bytes, number)? {
             Progress::Done(scan) => return Ok(outline_of(&scan)),
             Progress::More(next) => scanner = next,
         }
@@ -132,19 +146,24 @@ fn taken(rt: &impl TestHost, alloc: Global, bytes: &[u8]) -> Seen {
     Err(JournalError::PastEnd)
 }
 
+/// Sees what a changed journal reads as piece by piece, which is read again where memory is
+/// refused.
+fn assert_taken(rt: &impl TestHost, alloc: Global, bytes: &[u8], change: &Change) {
+    let answer = match taken(rt, alloc, bytes) {
+        Err(JournalError::NoMemory) => {
+            assert_same(rt, &change.takes_memory, &true, &change.name);
+            taken(rt, alloc, bytes)
+        }
+        answer => answer,
+    };
+    assert_same(rt, &answer, &change.seen, &change.name);
+}
+
 #[test]
 fn refused_memory_of_pieces(rt: HostRuntime) -> Result<(), Fail> {
     let host = Host(&rt);
     for change in &CHANGES {
-        let bytes = changed(rt.alloc(), change)?;
-        let answer = match taken(&host, rt.alloc(), &bytes) {
-            Err(JournalError::NoMemory) => {
-                assert_same(&host, &change.takes_memory, &true, &change.name);
-                taken(&host, rt.alloc(), &bytes)
-            }
-            answer => answer,
-        };
-        assert_same(&host, &answer, &change.seen, &change.name);
+        assert_taken(&host, rt.alloc(), &changed(rt.alloc(), change)?, change);
     }
     Ok(())
 }

@@ -1,6 +1,6 @@
 //! A segment that was worked through by hand, and others like it.
 
-use gate_journal::{JournalError, Scan, scan};
+use gate_journal::{JournalError, Scan, can_be_group, encode_group, scan};
 use path_db::{Command, Registration};
 use seg_core::{SegType, Segment, read_segment};
 use std::alloc::Global;
@@ -49,17 +49,60 @@ pub(crate) fn purges(alloc: Global, count: u64) -> Result<Vec<Command>, Fail> {
     Ok(commands)
 }
 
-/// The payload of a group of this number of purges, as it is drawn, byte by byte.
-pub(crate) fn drawn(alloc: Global, count: u8, place: u64) -> Result<Vec<u8>, Fail> {
+/// A purge, and the registration of the worked segment.
+pub(crate) fn purge_and_registration(alloc: Global) -> Result<[Command; 2], Fail> {
+    let registration = register(alloc, SegType::Down, segment(alloc)?)?;
+    Ok([Command::Purge(5), registration])
+}
+
+/// The payload of commands that can be a group at a place.
+pub(crate) fn payload_of(
+    rt: &impl TestHost,
+    alloc: Global,
+    commands: &[Command],
+    place: u64,
+) -> Result<Vec<u8>, Fail> {
+    assert_true(rt, can_be_group(commands, place), "they can be a group");
+    Ok(encode_group(alloc, commands, place)?)
+}
+
+/// The payload of commands that can be a group at place 0. Where memory is refused, it is written
+/// again.
+pub(crate) fn payload_again(
+    rt: &impl TestHost,
+    alloc: Global,
+    commands: &[Command],
+) -> Result<Vec<u8>, Fail> {
+    assert_true(rt, can_be_group(commands, 0), "they can be a group");
+    match encode_group(alloc, commands, 0) {
+        Ok(payload) => Ok(payload),
+        Err(_) => Ok(encode_group(alloc, commands, 0)?),
+    }
+}
+
+/// Adds a purge's record: its length, and the command.
+fn add_purge(bytes: &mut Vec<u8>, moment: u64) -> Result<(), Fail> {
+    bytes.extend_from_slice(&[0, 0, 0, 9, 2])?;
+    bytes.extend_from_slice(&moment.to_be_bytes())?;
+    Ok(())
+}
+
+/// Adds the payload of a group of this number of purges, as it is drawn, byte by byte.
+fn add_drawn(bytes: &mut Vec<u8>, count: u8, place: u64) -> Result<(), Fail> {
     let size = u32::from(count) * 13;
-    let mut bytes = Vec::from_slice(alloc, &[1, count, 0, 0])?;
+    bytes.extend_from_slice(&[1, count, 0, 0])?;
     bytes.extend_from_slice(&size.to_be_bytes())?;
     bytes.extend_from_slice(&place.to_be_bytes())?;
     for moment in 0..u64::from(count) {
-        bytes.extend_from_slice(&[0, 0, 0, 9, 2])?;
-        bytes.extend_from_slice(&moment.to_be_bytes())?;
+        add_purge(bytes, moment)?;
     }
-    pad(&mut bytes)?;
+    pad(bytes)
+}
+
+/// The payload of that group alone.
+pub(crate) fn drawn(alloc: Global, count: u8, place: u64) -> Result<Vec<u8>, Fail> {
+    let mut bytes = Vec::new(alloc);
+    add_drawn(&mut bytes, count, place)?;
     Ok(bytes)
 }
 
@@ -78,30 +121,48 @@ pub(crate) enum Part {
     Seal(u64),
 }
 
+/// The payload of the removal of a down segment, at place 0, up to its zeros.
+const REMOVAL: [u8; 22] = [
+    1, 1, 0, 0, 0, 0, 0, 38, 0, 0, 0, 0, 0, 0, 0, 0, // the header
+    0, 0, 0, 34, 3, 2, // the length, the kind, and the type
+];
+
+/// Adds the bytes of a part to whole sectors.
+fn add_part(bytes: &mut Vec<u8>, part: Part) -> Result<(), Fail> {
+    match part {
+        Part::Open => add_sector(bytes, &[0xa7]),
+        Part::Closed => add_sector(bytes, &[0]),
+        Part::Purges(count, place) => add_drawn(bytes, count, place),
+        Part::Removal => add_sector(bytes, &REMOVAL),
+        Part::Seal(place) => add_seal(bytes, place),
+    }
+}
+
+/// Adds the bytes of these parts to whole sectors.
+pub(crate) fn add_parts(bytes: &mut Vec<u8>, parts: &[Part]) -> Result<(), Fail> {
+    for part in parts {
+        add_part(bytes, *part)?;
+    }
+    Ok(())
+}
+
 /// The bytes of these parts.
 pub(crate) fn bytes_of(alloc: Global, parts: &[Part]) -> Result<Vec<u8>, Fail> {
     let mut bytes = Vec::new(alloc);
-    for part in parts {
-        match *part {
-            Part::Open => {
-                bytes.push(0xa7)?;
-                pad(&mut bytes)?;
-            }
-            Part::Closed => bytes.extend_from_slice(&[0; 512])?,
-            Part::Purges(count, place) => bytes.extend_from_slice(&drawn(alloc, count, place)?)?,
-            Part::Removal => {
-                bytes.extend_from_slice(&[1, 1, 0, 0, 0, 0, 0, 38, 0, 0, 0, 0, 0, 0, 0, 0])?;
-                bytes.extend_from_slice(&[0, 0, 0, 34, 3, 2])?;
-                pad(&mut bytes)?;
-            }
-            Part::Seal(place) => {
-                bytes.extend_from_slice(&[2, 0, 0, 0, 0, 0, 0, 0])?;
-                bytes.extend_from_slice(&place.to_be_bytes())?;
-                pad(&mut bytes)?;
-            }
-        }
-    }
+    add_parts(&mut bytes, parts)?;
     Ok(bytes)
+}
+
+/// Adds a sector that begins so, zeros after that.
+fn add_sector(bytes: &mut Vec<u8>, front: &[u8]) -> Result<(), Fail> {
+    bytes.extend_from_slice(front)?;
+    pad(bytes)
+}
+
+/// Adds the seal at a place.
+fn add_seal(bytes: &mut Vec<u8>, place: u64) -> Result<(), Fail> {
+    bytes.extend_from_slice(&[2, 0, 0, 0, 0, 0, 0, 0])?;
+    add_sector(bytes, &place.to_be_bytes())
 }
 
 /// Appends zeros up to a whole sector.

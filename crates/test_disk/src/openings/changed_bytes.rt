@@ -10,7 +10,7 @@ use crate::openings::stores::{change, put, read_sector};
 use sector_dev::{Device, MemDevice, SECTOR};
 use std::alloc::Global;
 use std::test::Fail;
-use test_support::assert_same;
+use test_support::{TestHost, assert_same};
 
 /// What a byte is changed by, bit for bit.
 const MASKS: [u8; 4] = [0x01, 0x02, 0x80, 0xa7];
@@ -174,21 +174,62 @@ fn told_of(
     Ok((device, Told { changed, again }))
 }
 
+/// Changes a byte of a span by a mask, and sees what is answered. Counts the image. The device is
+/// put right again.
+fn told_again(
+    rt: &impl TestHost,
+    alloc: Global,
+    device: MemDevice,
+    span: &Span,
+    (offset, mask): (usize, u8),
+    images: &mut u64,
+) -> Result<MemDevice, Fail> {
+    let (device, told) = told_of(alloc, device, span.sector, offset, mask)?;
+    let case = (span.name, (offset, mask), told);
+    assert_same(rt, &span.is_told(told), &true, &case);
+    *images = images.saturating_add(1);
+    Ok(device)
+}
+
+/// Changes a byte of a span by each mask.
+fn told_by_masks(
+    rt: &impl TestHost,
+    alloc: Global,
+    device: MemDevice,
+    span: &Span,
+    offset: usize,
+    images: &mut u64,
+) -> Result<MemDevice, Fail> {
+    let mut device = device;
+    for mask in &MASKS {
+        device = told_again(rt, alloc, device, span, (offset, *mask), images)?;
+    }
+    Ok(device)
+}
+
+/// Changes each byte of a span.
+fn told_in_span(
+    rt: &impl TestHost,
+    alloc: Global,
+    device: MemDevice,
+    span: &Span,
+    images: &mut u64,
+) -> Result<MemDevice, Fail> {
+    let mut device = device;
+    for offset in span.from..span.end {
+        device = told_by_masks(rt, alloc, device, span, offset, images)?;
+    }
+    Ok(device)
+}
+
 #[test]
 fn two_thousand_images_are_told(rt: HostRuntime) {
     let host = Host(&rt);
     let mut device = done(&rt, stopped_store(rt.alloc(), false));
     let mut images = 0u64;
     for span in &CHANGES {
-        for offset in span.from..span.end {
-            for mask in MASKS {
-                let told;
-                (device, told) = done(&rt, told_of(rt.alloc(), device, span.sector, offset, mask));
-                let case = (span.name, (offset, mask), told);
-                assert_same(&host, &span.is_told(told), &true, &case);
-                images = images.saturating_add(1);
-            }
-        }
+        let told = told_in_span(&host, rt.alloc(), device, span, &mut images);
+        device = done(&rt, told);
     }
     assert_same(&host, &images, &2000, &"images");
 }

@@ -42,17 +42,34 @@ fn rows_of(alloc: Global, worked: Worked) -> Result<PathDb, Fail> {
     Ok(rows)
 }
 
+/// A device with a copy of these rows, of larger sizes.
+fn copied(rt: &impl TestHost, alloc: Global, rows: &PathDb) -> Result<MemDevice, Fail> {
+    let mut device = MemDevice::new(alloc, LARGER_SECTORS)?;
+    let copied = format_with(alloc, &mut device, LARGER, rows, 259);
+    assert_same(rt, &copied, &Ok(()), &"copy");
+    Ok(device)
+}
+
+/// A device with a copy of the worked store's rows.
+fn worked_copy(rt: &impl TestHost, alloc: Global) -> Result<MemDevice, Fail> {
+    let rows = rows_of(alloc, PLAIN)?;
+    copied(rt, alloc, &rows)
+}
+
+/// Sees what a device with that copy opens to.
+fn assert_opens(rt: &impl TestHost, alloc: Global, device: MemDevice) -> Result<(), Fail> {
+    let store = opened(alloc, device)?;
+    assert_store(rt, &store, HELD, usable(1, 2));
+    assert_same(rt, &store.geometry(), &LARGER, &"sizes");
+    let _device = store.into_device();
+    Ok(())
+}
+
 #[test]
 fn copies_open_to_the_rows(rt: HostRuntime) {
     let host = Host(&rt);
-    let rows = done(&rt, rows_of(rt.alloc(), PLAIN));
-    let mut device = MemDevice::new(rt.alloc(), LARGER_SECTORS).expect(&rt, "a device");
-    let copied = format_with(rt.alloc(), &mut device, LARGER, &rows, 259);
-    assert_same(&host, &copied, &Ok(()), &"copy");
-    let store = done(&rt, opened(rt.alloc(), device));
-    assert_store(&host, &store, HELD, usable(1, 2));
-    assert_same(&host, &store.geometry(), &LARGER, &"sizes");
-    let _device = store.into_device();
+    let device = done(&rt, worked_copy(&host, rt.alloc()));
+    done(&rt, assert_opens(&host, rt.alloc(), device));
 }
 
 /// The sectors of a copy that are not zero after their beginnings: the title, the checkpoint with its
@@ -75,41 +92,75 @@ fn assert_begins(rt: &impl TestHost, device: &mut MemDevice, at: u64, wanted: &[
     assert_same(rt, &sector.starts_with(wanted), &true, &at);
 }
 
-#[test]
-fn a_copy_has_these_bytes(rt: HostRuntime) {
-    let host = Host(&rt);
-    let rows = done(&rt, rows_of(rt.alloc(), PLAIN));
-    let mut device = MemDevice::new(rt.alloc(), LARGER_SECTORS).expect(&rt, "a device");
-    let copied = format_with(rt.alloc(), &mut device, LARGER, &rows, 259);
-    assert_same(&host, &copied, &Ok(()), &"copy");
-    for (at, wanted) in BEGINNINGS {
-        assert_begins(&host, &mut device, at, wanted);
+/// Sees that a sector is zero.
+fn assert_zero(rt: &impl TestHost, device: &mut MemDevice, at: u64) {
+    let sector = read_sector(device, at);
+    assert_same(rt, &sector, &Some([0; SECTOR]), &at);
+}
+
+/// Sees that a device has the bytes of that copy.
+fn assert_copy(rt: &impl TestHost, device: &mut MemDevice) {
+    for (at, wanted) in &BEGINNINGS {
+        assert_begins(rt, device, *at, wanted);
     }
-    for at in [2, 3, 5, 521, 522, 525, 526] {
-        let sector = read_sector(&mut device, at);
-        assert_same(&host, &sector, &Some([0; SECTOR]), &at);
+    for at in &[2, 3, 5, 521, 522, 525, 526] {
+        assert_zero(rt, device, *at);
     }
 }
 
+#[test]
+fn a_copy_has_these_bytes(rt: HostRuntime) {
+    let host = Host(&rt);
+    let mut device = done(&rt, worked_copy(&host, rt.alloc()));
+    assert_copy(&host, &mut device);
+}
+
 /// Sizes, the sectors of a device, the rows, and why no store of these sizes is made of them there.
+#[derive(Clone, Copy)]
+struct Refused {
+    geometry: Geometry,
+    sectors: u64,
+    worked: Worked,
+    error: CopyError,
+}
+
 #[rattlefmt::skip]
-const REFUSED: [(Geometry, u64, Worked, CopyError); 4] = [
-    (Geometry { checkpoint: 1, journal: 516 }, SECTORS, PLAIN, CopyError::BadGeometry),
-    (Geometry { checkpoint: 2, journal: 515 }, SECTORS, PLAIN, CopyError::BadGeometry),
-    (LEAST, 1038, Worked { twelve: true, ..PLAIN }, CopyError::TooSmall),
-    (LEAST, SECTORS, Worked { twelve: true, ..PLAIN }, CopyError::Unfit),
+const REFUSED: [Refused; 4] = [
+    Refused { geometry: Geometry { checkpoint: 1, journal: 516 }, sectors: SECTORS,
+        worked: PLAIN, error: CopyError::BadGeometry },
+    Refused { geometry: Geometry { checkpoint: 2, journal: 515 }, sectors: SECTORS,
+        worked: PLAIN, error: CopyError::BadGeometry },
+    Refused { geometry: LEAST, sectors: 1038,
+        worked: Worked { twelve: true, ..PLAIN }, error: CopyError::TooSmall },
+    Refused { geometry: LEAST, sectors: SECTORS,
+        worked: Worked { twelve: true, ..PLAIN }, error: CopyError::Unfit },
 ];
+
+/// Sees that no store is made of these rows, and that sector 0 stays zero.
+fn assert_refused(
+    rt: &impl TestHost,
+    alloc: Global,
+    rows: &PathDb,
+    row: &Refused,
+) -> Result<(), Fail> {
+    let mut device = MemDevice::new(alloc, row.sectors)?;
+    let refused = format_with(alloc, &mut device, row.geometry, rows, 260);
+    assert_same(rt, &refused, &Err(row.error), &row.error);
+    assert_zero(rt, &mut device, 0);
+    Ok(())
+}
+
+/// Sees the same of the rows of a worked store.
+fn assert_row_refused(rt: &impl TestHost, alloc: Global, row: &Refused) -> Result<(), Fail> {
+    let rows = rows_of(alloc, row.worked)?;
+    assert_refused(rt, alloc, &rows, row)
+}
 
 #[test]
 fn copies_are_refused_in_order(rt: HostRuntime) -> Result<(), Fail> {
     let host = Host(&rt);
-    for (geometry, sectors, worked, error) in REFUSED {
-        let rows = rows_of(rt.alloc(), worked)?;
-        let mut device = MemDevice::new(rt.alloc(), sectors)?;
-        let refused = format_with(rt.alloc(), &mut device, geometry, &rows, 260);
-        assert_same(&host, &refused, &Err(error), &error);
-        let sector = read_sector(&mut device, 0);
-        assert_same(&host, &sector, &Some([0; SECTOR]), &("sector 0", error));
+    for row in &REFUSED {
+        assert_row_refused(&host, rt.alloc(), row)?;
     }
     Ok(())
 }
@@ -126,23 +177,49 @@ fn opens_whole(rt: &impl TestHost, alloc: Global, device: MemDevice) -> bool {
     }
 }
 
+/// Stops a copy after this number of calls, and sees whether what is left opens.
+fn assert_stop(
+    rt: &impl TestHost,
+    alloc: Global,
+    rows: &PathDb,
+    calls: u64,
+    tear: Tear,
+) -> Result<(), Fail> {
+    let mut device = FuseDevice::new(MemDevice::new(alloc, SECTORS)?, calls, tear);
+    let stopped = format_with(alloc, &mut device, LEAST, rows, 259);
+    let case = (calls, tear.keep, tear.fill);
+    assert_same(rt, &stopped, &Err(CopyError::Fault), &case);
+    let opens = opens_whole(rt, alloc, device.into_mem());
+    let is_gate_open = tear.keep > 0 || tear.fill == 0xa7;
+    let wanted = calls > GATE_CALL || (calls == GATE_CALL && is_gate_open);
+    assert_same(rt, &opens, &wanted, &case);
+    Ok(())
+}
+
+/// Stops a copy at every call.
+fn assert_stops(rt: &impl TestHost, alloc: Global, rows: &PathDb, tear: Tear) -> Result<(), Fail> {
+    for calls in 0..CALLS {
+        assert_stop(rt, alloc, rows, calls, tear)?;
+    }
+    Ok(())
+}
+
+/// Stops a copy at every call in each way.
+fn assert_all_stops(rt: &impl TestHost, alloc: Global, rows: &PathDb) -> Result<(), Fail> {
+    for (keep, fill) in &[(0, 0), (0, 0xa7), (1, 0), (1, 0xa7), (512, 0), (512, 0xa7)] {
+        let tear = Tear {
+            keep: *keep,
+            fill: *fill,
+        };
+        assert_stops(rt, alloc, rows, tear)?;
+    }
+    Ok(())
+}
+
 #[test]
 fn a_stop_at_any_call_leaves_no_copy_or_a_whole_one(rt: HostRuntime) {
-    let host = Host(&rt);
     let rows = done(&rt, rows_of(rt.alloc(), PLAIN));
-    for (keep, fill) in [(0, 0), (0, 0xa7), (1, 0), (1, 0xa7), (512, 0), (512, 0xa7)] {
-        let is_gate_open = keep > 0 || fill == 0xa7;
-        for calls in 0..CALLS {
-            let blank = MemDevice::new(rt.alloc(), SECTORS).expect(&rt, "a device");
-            let mut device = FuseDevice::new(blank, calls, Tear { keep, fill });
-            let stopped = format_with(rt.alloc(), &mut device, LEAST, &rows, 259);
-            let case = (calls, keep, fill);
-            assert_same(&host, &stopped, &Err(CopyError::Fault), &case);
-            let opens = opens_whole(&host, rt.alloc(), device.into_mem());
-            let wanted = calls > GATE_CALL || (calls == GATE_CALL && is_gate_open);
-            assert_same(&host, &opens, &wanted, &case);
-        }
-    }
+    done(&rt, assert_all_stops(&Host(&rt), rt.alloc(), &rows));
 }
 
 #[test]

@@ -1,12 +1,15 @@
 //! New stores, to the byte.
+use crate::checks::done;
 use crate::host::Host;
 use crate::openings::stores::LEAST;
 use sector_dev::{Device, MemDevice, SECTOR};
+use std::alloc::Global;
+use std::fmt::Debug;
 use std::test::Fail;
 use store_open::FormatError::{self, BadGeometry, TooSmall};
 use store_open::{Geometry, format, read_geometry};
 use test_fault_devices::FaultDevice;
-use test_support::{assert_same, assert_true};
+use test_support::{TestHost, assert_same, assert_true};
 
 // How many calls of the device it takes to make a store.
 const CALLS: u64 = 7;
@@ -74,19 +77,37 @@ fn new_sector(at: u64) -> [u8; 512] {
     sector
 }
 
+// Makes a store, and checks its sizes.
+fn assert_formatted<C: Debug>(rt: &impl TestHost, device: &mut MemDevice, case: &C) {
+    assert_same(rt, &format(device, LEAST), &Ok(()), case);
+    let sizes = read_geometry(device).ok();
+    assert_same(rt, &sizes, &Some(Some(LEAST)), case);
+}
+
+// Checks that a device has the bytes of a new store.
+fn assert_new(rt: &impl TestHost, device: &mut MemDevice) {
+    for at in 0..1039 {
+        let sector = read_sector(device, at);
+        assert_same(rt, &sector, &Some(new_sector(at)), &at);
+    }
+}
+
 #[test]
 fn a_new_store_has_these_bytes(rt: HostRuntime) -> Result<(), Fail> {
     let host = Host(&rt);
     let mut device = MemDevice::new(rt.alloc(), 1039)?;
-    assert_same(&host, &format(&mut device, LEAST), &Ok(()), &"a new store");
+    assert_formatted(&host, &mut device, &"a new store");
     assert_same(&host, &LEAST.sectors(), &1039, &"sectors");
-    for at in 0..1039 {
-        let sector = read_sector(&mut device, at);
-        assert_same(&host, &sector, &Some(new_sector(at)), &at);
-    }
-    let sizes = read_geometry(&mut device).ok();
-    assert_same(&host, &sizes, &Some(Some(LEAST)), &"sizes");
+    assert_new(&host, &mut device);
     Ok(())
+}
+
+// Checks that no store of these sizes is made on such a device.
+fn assert_refused(rt: &impl TestHost, device: &mut MemDevice, row: &Refused) {
+    let made = format(device, row.sizes);
+    assert_same(rt, &made, &Err(row.error), &row.name);
+    let found = read_geometry(device).ok();
+    assert_same(rt, &found, &Some(None), &row.name);
 }
 
 #[test]
@@ -94,33 +115,41 @@ fn sizes_and_devices_are_refused(rt: HostRuntime) -> Result<(), Fail> {
     let host = Host(&rt);
     for row in &REFUSALS {
         let mut device = MemDevice::new(rt.alloc(), u64::from(row.sectors))?;
-        let made = format(&mut device, row.sizes);
-        assert_same(&host, &made, &Err(row.error), &row.name);
-        let found = read_geometry(&mut device).ok();
-        assert_same(&host, &found, &Some(None), &row.name);
+        assert_refused(&host, &mut device, row);
     }
     Ok(())
+}
+
+// A device of which this call fails.
+fn failing_device(alloc: Global, failing: u64) -> Result<FaultDevice, Fail> {
+    Ok(FaultDevice::new(MemDevice::new(alloc, 1039)?, failing))
+}
+
+// Makes a store on a device of which this call fails, and then on the same one while no call fails.
+fn assert_fault(rt: &impl TestHost, alloc: Global, failing: u64) -> Result<(), Fail> {
+    let mut device = failing_device(alloc, failing)?;
+    let made = format(&mut device, LEAST);
+    assert_same(rt, &made, &Err(FormatError::Fault), &failing);
+    assert_formatted(rt, &mut device.into_mem(), &failing);
+    Ok(())
+}
+
+// Makes a store on a device of which the call after that fails.
+fn assert_later_fault(rt: &impl TestHost, device: &mut FaultDevice) {
+    let made = format(device, LEAST);
+    assert_same(rt, &made, &Ok(()), &"no call fails");
+    let is_told = read_geometry(device).is_err();
+    assert_true(rt, is_told, "the sizes are not read");
 }
 
 #[test]
 fn a_fault_at_any_call_is_told(rt: HostRuntime) {
     let host = Host(&rt);
     for failing in 0..CALLS {
-        let memory = MemDevice::new(rt.alloc(), 1039).expect(&rt, "a device");
-        let mut device = FaultDevice::new(memory, failing);
-        let made = format(&mut device, LEAST);
-        assert_same(&host, &made, &Err(FormatError::Fault), &failing);
-        let mut again = device.into_mem();
-        assert_same(&host, &format(&mut again, LEAST), &Ok(()), &failing);
-        let sizes = read_geometry(&mut again).ok();
-        assert_same(&host, &sizes, &Some(Some(LEAST)), &failing);
+        done(&rt, assert_fault(&host, rt.alloc(), failing));
     }
-    let memory = MemDevice::new(rt.alloc(), 1039).expect(&rt, "a device");
-    let mut device = FaultDevice::new(memory, CALLS);
-    let made = format(&mut device, LEAST);
-    assert_same(&host, &made, &Ok(()), &"no call fails");
-    let is_told = read_geometry(&mut device).is_err();
-    assert_true(&host, is_told, "the sizes are not read");
+    let mut device = done(&rt, failing_device(rt.alloc(), CALLS));
+    assert_later_fault(&host, &mut device);
 }
 
 #[test]

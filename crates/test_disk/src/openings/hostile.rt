@@ -5,7 +5,7 @@ use crate::checks::done;
 use crate::host::Host;
 use crate::openings::answers::{
     Answer, BAD_CHECKPOINT, BAD_HEADER, BAD_RECORD, GAP, Held, NEWER, NO_HALF, NO_STORE, NOTHING,
-    PAST_END, SAME_EPOCH, SEALED_NEWER, answer_of, held_by, state_of, usable,
+    PAST_END, SAME_EPOCH, SEALED_NEWER, State, answer_of, assert_store, held_by, usable,
 };
 use crate::openings::stores::{REGISTER, change, new_store, opened, put};
 use sector_dev::MemDevice;
@@ -226,12 +226,24 @@ const ORDERS: [Hostile; 12] = [
         ], answer: Ok(NOTHING) },
 ];
 
+/// Makes these changes.
+fn change_all(device: &mut MemDevice, changes: &[Change]) -> Result<(), Fail> {
+    for made in changes {
+        change(device, made.sector, made.offset, made.bytes)?;
+    }
+    Ok(())
+}
+
+/// A new store with these changes.
+fn changed_store(alloc: Global, changes: &[Change]) -> Result<MemDevice, Fail> {
+    let mut device = new_store(alloc)?;
+    change_all(&mut device, changes)?;
+    Ok(device)
+}
+
 /// Opens an image twice: what it answers stays.
 fn assert_answers(rt: &impl TestHost, alloc: Global, image: &Hostile) -> Result<(), Fail> {
-    let mut device = new_store(alloc)?;
-    for made in image.changes {
-        change(&mut device, made.sector, made.offset, made.bytes)?;
-    }
+    let device = changed_store(alloc, image.changes)?;
     let (first, device) = answer_of(alloc, device);
     let (second, _device) = answer_of(alloc, device);
     assert_same(rt, &first, &image.answer, &image.name);
@@ -257,19 +269,45 @@ fn refusals_come_in_order(rt: HostRuntime) -> Result<(), Fail> {
     Ok(())
 }
 
+/// The checkpoint of the first half has version 1.
+const OLD_VERSION: Change = Change {
+    sector: 1,
+    offset: 7,
+    bytes: &[1],
+};
+
+/// Sees that a device opens to a store of nothing in this state, and makes a checkpoint: the device.
+fn checkpointed(
+    rt: &impl TestHost,
+    alloc: Global,
+    device: MemDevice,
+    state: State,
+) -> Result<MemDevice, Fail> {
+    let mut store = opened(alloc, device)?;
+    assert_store(rt, &store, NOTHING, state);
+    assert_same(rt, &store.checkpoint(), &Ok(()), &"checkpoint");
+    Ok(store.into_device())
+}
+
+/// Sees that a device opens to a store of nothing in this state.
+fn assert_nothing(
+    rt: &impl TestHost,
+    alloc: Global,
+    device: MemDevice,
+    state: State,
+) -> Result<(), Fail> {
+    let store = opened(alloc, device)?;
+    assert_store(rt, &store, NOTHING, state);
+    let _device = store.into_device();
+    Ok(())
+}
+
 #[test]
 fn new_stores_of_version_1_are_opened(rt: HostRuntime) {
     let host = Host(&rt);
-    let mut device = done(&rt, new_store(rt.alloc()));
-    done(&rt, change(&mut device, 1, 7, &[1]));
-    let mut store = done(&rt, opened(rt.alloc(), device));
-    assert_same(&host, &held_by(&store), &NOTHING, &"what it holds");
-    assert_same(&host, &state_of(&store), &usable(1, 1), &"the old state");
-    assert_same(&host, &store.checkpoint(), &Ok(()), &"checkpoint");
-    let store = done(&rt, opened(rt.alloc(), store.into_device()));
-    assert_same(&host, &held_by(&store), &NOTHING, &"what it holds then");
-    assert_same(&host, &state_of(&store), &usable(2, 2), &"the new state");
-    let _device = store.into_device();
+    let device = done(&rt, changed_store(rt.alloc(), &[OLD_VERSION]));
+    let device = done(&rt, checkpointed(&host, rt.alloc(), device, usable(1, 1)));
+    done(&rt, assert_nothing(&host, rt.alloc(), device, usable(2, 2)));
 }
 
 /// Eleven rows, at place 1.
@@ -314,18 +352,34 @@ fn eleven_rows(alloc: Global) -> Result<MemDevice, Fail> {
     Ok(device)
 }
 
+/// Sees that a checkpoint of eleven rows is refused: the device.
+fn refused_checkpoint(
+    rt: &impl TestHost,
+    alloc: Global,
+    device: MemDevice,
+) -> Result<MemDevice, Fail> {
+    let mut store = opened(alloc, device)?;
+    assert_same(rt, &held_by(&store), &ELEVEN, &"what it holds");
+    assert_same(rt, &store.sealed_len(), &1023, &"sealed bytes");
+    let answer = store.checkpoint();
+    assert_same(rt, &answer, &Err(StoreError::Unfit), &"checkpoint");
+    Ok(store.into_device())
+}
+
+/// Sees that a device opens to eleven rows.
+fn assert_eleven(rt: &impl TestHost, alloc: Global, device: MemDevice) -> Result<(), Fail> {
+    let store = opened(alloc, device)?;
+    assert_same(rt, &held_by(&store), &ELEVEN, &"what it holds then");
+    let _device = store.into_device();
+    Ok(())
+}
+
 // Ten rows of 93 bytes are the most that an area of two sectors has room for; the journal registers
 // one more.
 #[test]
 fn fold_larger_than_area(rt: HostRuntime) {
     let host = Host(&rt);
     let device = done(&rt, eleven_rows(rt.alloc()));
-    let mut store = done(&rt, opened(rt.alloc(), device));
-    assert_same(&host, &held_by(&store), &ELEVEN, &"what it holds");
-    assert_same(&host, &store.sealed_len(), &1023, &"sealed bytes");
-    let answer = store.checkpoint();
-    assert_same(&host, &answer, &Err(StoreError::Unfit), &"checkpoint");
-    let store = done(&rt, opened(rt.alloc(), store.into_device()));
-    assert_same(&host, &held_by(&store), &ELEVEN, &"what it holds then");
-    let _device = store.into_device();
+    let device = done(&rt, refused_checkpoint(&host, rt.alloc(), device));
+    done(&rt, assert_eleven(&host, rt.alloc(), device));
 }

@@ -70,11 +70,17 @@ fn put_rows(alloc: Global, device: &mut MemDevice, db: &PathDb) -> Result<(), Fa
     put(device, 1, &bytes)
 }
 
+/// Makes a store with 3,000 rows.
+fn put_large(alloc: Global, device: &mut MemDevice) -> Result<(), Fail> {
+    format(device, LARGE)?;
+    let db = large_db(alloc)?;
+    put_rows(alloc, device, &db)
+}
+
 /// A store with 3,000 rows.
 fn large_store(alloc: Global) -> Result<MemDevice, Fail> {
     let mut device = MemDevice::new(alloc, LARGE.sectors())?;
-    format(&mut device, LARGE)?;
-    put_rows(alloc, &mut device, &large_db(alloc)?)?;
+    put_large(alloc, &mut device)?;
     device.sync()?;
     Ok(device)
 }
@@ -88,17 +94,28 @@ fn assert_copied(rt: &impl TestHost, device: &mut MemDevice) {
     }
 }
 
+/// Makes a checkpoint of that store: the device.
+fn checkpointed(rt: &impl TestHost, alloc: Global, device: MemDevice) -> Result<MemDevice, Fail> {
+    let mut store = opened(alloc, device)?;
+    assert_store(rt, &store, HELD, usable(7, 2));
+    assert_same(rt, &store.checkpoint(), &Ok(()), &"checkpoint");
+    assert_store(rt, &store, HELD, usable(8, 2));
+    Ok(store.into_device())
+}
+
+/// Sees that a device opens to the rows after that.
+fn assert_opens(rt: &impl TestHost, alloc: Global, device: MemDevice) -> Result<(), Fail> {
+    let store = opened(alloc, device)?;
+    assert_store(rt, &store, HELD, usable(8, 2));
+    let _device = store.into_device();
+    Ok(())
+}
+
 #[test]
 fn all_pieces_are_there(rt: HostRuntime) {
     let host = Host(&rt);
     let device = done(&rt, large_store(rt.alloc()));
-    let mut store = done(&rt, opened(rt.alloc(), device));
-    assert_store(&host, &store, HELD, usable(7, 2));
-    assert_same(&host, &store.checkpoint(), &Ok(()), &"checkpoint");
-    assert_store(&host, &store, HELD, usable(8, 2));
-    let mut device = store.into_device();
+    let mut device = done(&rt, checkpointed(&host, rt.alloc(), device));
     assert_copied(&host, &mut device);
-    let store = done(&rt, opened(rt.alloc(), device));
-    assert_store(&host, &store, HELD, usable(8, 2));
-    let _device = store.into_device();
+    done(&rt, assert_opens(&host, rt.alloc(), device));
 }

@@ -1,14 +1,14 @@
 //! Stores that a stop left are opened, with a stop or a fault at every call of the opening too.
 
 use crate::host::Host;
-use crate::openings::answers::{State, held_by, state_of};
+use crate::openings::answers::{State, assert_store, held_by};
 use crate::openings::stopped::{HELD, stopped_store};
 use crate::openings::stores::{opened, put, read_sector};
 use sector_dev::{Device, MemDevice};
 use std::alloc::Global;
 use std::test::Fail;
 use store_layout::Half;
-use store_open::{OpenError, open};
+use store_open::{OpenError, Store, open};
 use test_fault_devices::{FaultDevice, FuseDevice, Tear};
 use test_support::{TestHost, assert_same};
 
@@ -76,11 +76,17 @@ const BOTH: Left = Left {
 };
 
 /// Opens both gates of the first half again: nothing else is written while such a store is opened.
-fn left_again(mut device: MemDevice) -> Result<MemDevice, Fail> {
-    for gate in [3, 4] {
-        put(&mut device, gate, &[0xa7])?;
+fn open_gates(device: &mut MemDevice) -> Result<(), Fail> {
+    for gate in &[3, 4] {
+        put(device, *gate, &[0xa7])?;
     }
     device.sync()?;
+    Ok(())
+}
+
+/// The device with both gates open.
+fn left_again(mut device: MemDevice) -> Result<MemDevice, Fail> {
+    open_gates(&mut device)?;
     Ok(device)
 }
 
@@ -105,6 +111,21 @@ fn stopped(
     }
 }
 
+/// Sees that a store is the one that is expected.
+fn assert_left(rt: &impl TestHost, store: &Store<MemDevice>, left: Left) {
+    assert_store(rt, store, HELD, left.state);
+    let tail = (store.tail_half(), store.tail_gate());
+    assert_same(rt, &tail, &(Half::Second, 2), &"its tail");
+}
+
+/// Sees how both gates of the first half begin.
+fn assert_gates(rt: &impl TestHost, device: &mut MemDevice, wanted: u8) {
+    for at in &[3, 4] {
+        let gate = read_sector(device, *at).map(|sector| sector[0]);
+        assert_same(rt, &gate, &Some(wanted), at);
+    }
+}
+
 /// Sees that a device opens to what is expected.
 fn assert_opens(
     rt: &impl TestHost,
@@ -113,16 +134,36 @@ fn assert_opens(
     left: Left,
 ) -> Result<MemDevice, Fail> {
     let store = opened(alloc, device)?;
-    assert_same(rt, &held_by(&store), &HELD, &"what the store holds");
-    assert_same(rt, &state_of(&store), &left.state, &"its state");
-    let tail = (store.tail_half(), store.tail_gate());
-    assert_same(rt, &tail, &(Half::Second, 2), &"its tail");
+    assert_left(rt, &store, left);
     let mut device = store.into_device();
-    for at in [3, 4] {
-        let gate = read_sector(&mut device, at).map(|sector| sector[0]);
-        assert_same(rt, &gate, &Some(left.gate), &at);
-    }
+    assert_gates(rt, &mut device, left.gate);
     Ok(device)
+}
+
+/// Stops an opening after this number of calls, and sees what the device opens to then: whether the
+/// opening succeeds, and the device.
+fn opened_after(
+    rt: &impl TestHost,
+    alloc: Global,
+    device: MemDevice,
+    left: Left,
+    (calls, tear): (u64, Tear),
+) -> Result<(bool, MemDevice), Fail> {
+    let (done, torn) = stopped(rt, alloc, device, calls, tear);
+    let device = assert_opens(rt, alloc, torn, left)?;
+    Ok((done, device))
+}
+
+/// A device as it is left again, and then by an opening that stops after this number of calls.
+fn torn_again(
+    rt: &impl TestHost,
+    alloc: Global,
+    device: MemDevice,
+    (calls, tear): (u64, Tear),
+) -> Result<MemDevice, Fail> {
+    let device = left_again(device)?;
+    let (_, torn) = stopped(rt, alloc, device, calls, tear);
+    Ok(torn)
 }
 
 /// Stops the first opening after this number of calls, and the second one at every call; the third
@@ -135,9 +176,9 @@ fn assert_opens_after_two(
     (calls, tear): (u64, Tear),
 ) -> Result<MemDevice, Fail> {
     for again in 0..MANY {
-        let (_, torn) = stopped(rt, alloc, left_again(device)?, calls, tear);
-        let (done, torn) = stopped(rt, alloc, torn, again, tear);
-        device = assert_opens(rt, alloc, torn, left)?;
+        let torn = torn_again(rt, alloc, device, (calls, tear))?;
+        let done;
+        (done, device) = opened_after(rt, alloc, torn, left, (again, tear))?;
         if done {
             break;
         }
@@ -145,21 +186,50 @@ fn assert_opens_after_two(
     Ok(device)
 }
 
+/// Stops one opening after this number of calls, and then two: whether the first succeeds, so that
+/// there are no two, and the device.
+fn recovered(
+    rt: &impl TestHost,
+    alloc: Global,
+    device: MemDevice,
+    left: Left,
+    (calls, tear): (u64, Tear),
+) -> Result<(bool, MemDevice), Fail> {
+    let device = left_again(device)?;
+    let (done, device) = opened_after(rt, alloc, device, left, (calls, tear))?;
+    if done {
+        return Ok((true, device));
+    }
+    let device = assert_opens_after_two(rt, alloc, device, left, (calls, tear))?;
+    Ok((false, device))
+}
+
+/// Stops an opening at every call in one way: the device.
+fn recovered_often(
+    rt: &impl TestHost,
+    alloc: Global,
+    mut device: MemDevice,
+    left: Left,
+    tear: Tear,
+) -> Result<MemDevice, Fail> {
+    let mut stops = 0u64;
+    for calls in 0..MANY {
+        let done;
+        (done, device) = recovered(rt, alloc, device, left, (calls, tear))?;
+        if done {
+            break;
+        }
+        stops = stops.saturating_add(1);
+    }
+    assert_same(rt, &stops, &left.calls, &"stops");
+    Ok(device)
+}
+
 /// Stops an opening at every call.
 fn assert_recovers(rt: &impl TestHost, alloc: Global, left: Left) -> Result<(), Fail> {
     let mut device = stopped_store(alloc, left.both_are_open)?;
-    for tear in TEARS {
-        let mut stops = 0u64;
-        for calls in 0..MANY {
-            let (done, torn) = stopped(rt, alloc, left_again(device)?, calls, tear);
-            device = assert_opens(rt, alloc, torn, left)?;
-            if done {
-                break;
-            }
-            stops = stops.saturating_add(1);
-            device = assert_opens_after_two(rt, alloc, device, left, (calls, tear))?;
-        }
-        assert_same(rt, &stops, &left.calls, &"stops");
+    for tear in &TEARS {
+        device = recovered_often(rt, alloc, device, left, *tear)?;
     }
     Ok(())
 }
@@ -176,31 +246,61 @@ fn stops_where_both_halves_are_open(rt: HostRuntime) -> Result<(), Fail> {
     assert_recovers(&host, rt.alloc(), BOTH)
 }
 
+/// Opens a device of which this call fails, which is told: the device.
+fn failed(rt: &impl TestHost, alloc: Global, device: MemDevice, number: u64) -> MemDevice {
+    match open(alloc, FaultDevice::new(device, number)) {
+        Ok(store) => {
+            assert_same(rt, &"opened", &"a fault", &number);
+            store.into_device().into_mem()
+        }
+        Err((failed, error)) => {
+            assert_same(rt, &error, &OpenError::Device, &number);
+            failed.into_mem()
+        }
+    }
+}
+
+/// Fails this call of an opening, and sees what the device opens to then: the device.
+fn opened_after_fault(
+    rt: &impl TestHost,
+    alloc: Global,
+    device: MemDevice,
+    left: Left,
+    number: u64,
+) -> Result<MemDevice, Fail> {
+    let device = left_again(device)?;
+    assert_opens(rt, alloc, failed(rt, alloc, device, number), left)
+}
+
+/// Opens a device of which a later call would fail.
+fn assert_later_fault(
+    rt: &impl TestHost,
+    alloc: Global,
+    device: MemDevice,
+    number: u64,
+) -> Result<(), Fail> {
+    match open(alloc, FaultDevice::new(left_again(device)?, number)) {
+        Ok(store) => {
+            assert_same(rt, &held_by(&store), &HELD, &"a later fault");
+            let _device = store.into_device();
+            Ok(())
+        }
+        Err((_failed, error)) => Err(error)?,
+    }
+}
+
+/// Fails each call of an opening, and then the one after these.
+fn assert_faults(rt: &impl TestHost, alloc: Global, left: Left) -> Result<(), Fail> {
+    let mut device = stopped_store(alloc, left.both_are_open)?;
+    for number in 0..left.calls {
+        device = opened_after_fault(rt, alloc, device, left, number)?;
+    }
+    assert_later_fault(rt, alloc, device, left.calls)
+}
+
 #[test]
 fn a_fault_at_any_call_is_told(rt: HostRuntime) -> Result<(), Fail> {
     let host = Host(&rt);
-    for left in [SEALED, BOTH] {
-        let mut device = stopped_store(rt.alloc(), left.both_are_open)?;
-        for number in 0..left.calls {
-            match open(rt.alloc(), FaultDevice::new(left_again(device)?, number)) {
-                Ok(store) => {
-                    assert_same(&host, &"opened", &"a fault", &number);
-                    device = store.into_device().into_mem();
-                }
-                Err((failed, error)) => {
-                    assert_same(&host, &error, &OpenError::Device, &number);
-                    device = assert_opens(&host, rt.alloc(), failed.into_mem(), left)?;
-                }
-            }
-        }
-        let later = FaultDevice::new(left_again(device)?, left.calls);
-        match open(rt.alloc(), later) {
-            Ok(store) => {
-                assert_same(&host, &held_by(&store), &HELD, &"a later fault");
-                let _device = store.into_device();
-            }
-            Err((_failed, error)) => Err(error)?,
-        }
-    }
-    Ok(())
+    assert_faults(&host, rt.alloc(), SEALED)?;
+    assert_faults(&host, rt.alloc(), BOTH)
 }

@@ -63,16 +63,34 @@ fn tried(
     answer_of(alloc, device)
 }
 
+/// Opens a device that a stop left, and opens it again.
+fn assert_opened_twice(
+    rt: &impl TestHost,
+    alloc: Global,
+    both_are_open: bool,
+    name: &str,
+) -> Result<(), Fail> {
+    let device = stopped_store(alloc, both_are_open)?;
+    let (answer, device) = tried(rt, alloc, device, true, name);
+    assert_same(rt, &answer, &Ok(HELD), &name);
+    let (answer, _device) = tried(rt, alloc, device, true, name);
+    assert_same(rt, &answer, &Ok(HELD), &name);
+    Ok(())
+}
+
 #[test]
 fn refused_memory_of_openings(rt: HostRuntime) -> Result<(), Fail> {
     let host = Host(&rt);
-    for (both_are_open, name) in [(false, "one open half"), (true, "two open halves")] {
-        let device = stopped_store(rt.alloc(), both_are_open)?;
-        let (answer, device) = tried(&host, rt.alloc(), device, true, name);
-        assert_same(&host, &answer, &Ok(HELD), &name);
-        let (answer, _device) = tried(&host, rt.alloc(), device, true, name);
-        assert_same(&host, &answer, &Ok(HELD), &name);
-    }
+    assert_opened_twice(&host, rt.alloc(), false, "one open half")?;
+    assert_opened_twice(&host, rt.alloc(), true, "two open halves")
+}
+
+/// Opens a device that a stop left, with that byte.
+fn assert_refused(rt: &impl TestHost, alloc: Global, row: &Change) -> Result<(), Fail> {
+    let mut device = stopped_store(alloc, false)?;
+    change(&mut device, row.sector, row.offset, &[row.byte])?;
+    let (answer, _device) = tried(rt, alloc, device, row.takes_memory, row.name);
+    assert_same(rt, &answer, &row.answer, &row.name);
     Ok(())
 }
 
@@ -80,10 +98,7 @@ fn refused_memory_of_openings(rt: HostRuntime) -> Result<(), Fail> {
 fn refused_memory_of_refusals(rt: HostRuntime) -> Result<(), Fail> {
     let host = Host(&rt);
     for row in &CHANGES {
-        let mut device = stopped_store(rt.alloc(), false)?;
-        change(&mut device, row.sector, row.offset, &[row.byte])?;
-        let (answer, _device) = tried(&host, rt.alloc(), device, row.takes_memory, row.name);
-        assert_same(&host, &answer, &row.answer, &row.name);
+        assert_refused(&host, rt.alloc(), row)?;
     }
     Ok(())
 }

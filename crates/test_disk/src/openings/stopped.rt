@@ -27,17 +27,23 @@ pub(crate) fn stopped_store(alloc: Global, both_are_open: bool) -> Result<MemDev
         ..PLAIN
     };
     let mut device = worked_store(alloc, sealed)?;
-    let mut area = read_sector(&mut device, 1).unwrap_or([0; SECTOR]);
+    put_second(&mut device, both_are_open)?;
+    Ok(device)
+}
+
+/// Writes what is in the second half of such a store.
+fn put_second(device: &mut MemDevice, is_open: bool) -> Result<(), Fail> {
+    let mut area = read_sector(device, 1).unwrap_or([0; SECTOR]);
     area[15] = 8;
     area[23] = 3;
-    put(&mut device, 520, &area)?;
-    put(&mut device, 524, &tail())?;
-    put(&mut device, 523, &[0xa7])?;
-    if both_are_open {
-        put(&mut device, 522, &[0xa7])?;
+    put(device, 520, &area)?;
+    put(device, 524, &tail())?;
+    put(device, 523, &[0xa7])?;
+    if is_open {
+        put(device, 522, &[0xa7])?;
     }
     device.sync()?;
-    Ok(device)
+    Ok(())
 }
 
 /// The payload of the tail's group: the segment is registered with another id.

@@ -1,5 +1,6 @@
 //! Commands that are handed in before the answer to the first is waited for.
 
+use crate::checks::assert_same;
 use crate::host::Host;
 use crate::workloads::{Errand, Tasks, with_tasks};
 use group_core::SubmitError;
@@ -10,7 +11,6 @@ use std::alloc::Global;
 use std::process::Abort;
 use std::sync::Wait;
 use std::sync::atomic::{AtomicU64, Ordering};
-use std::test::Fail;
 use std::time::Clock;
 use test_hub_scripts::acts::{Unwatched, flush};
 use test_hub_scripts::stores::{Contents, assert_opens_to, ended, new_store};
@@ -26,21 +26,31 @@ struct HandsIn {
     settled: AtomicU64,
 }
 
+/// Hands purges in, drops the first claims, and keeps the others.
+fn hand_in_all<D: Device, N: HubName, R: Wait + Clock>(
+    hub: &Hub<D, N, R>,
+    senders: &Senders<N>,
+    claims: &mut Vec<HubClaim<N>>,
+) -> Option<()> {
+    for _ in 0..AHEAD {
+        let _dropped = hub.hand_in(&mut senders.begin(), Command::Purge(0)).ok()?;
+    }
+    for _ in 0..AHEAD {
+        let claim = hub.hand_in(&mut senders.begin(), Command::Purge(0)).ok()?;
+        claims.push(claim).ok()?;
+    }
+    Some(())
+}
+
 impl HandsIn {
+    /// The claims of the purges that are waited for.
     fn claims<D: Device, N: HubName, R: Wait + Clock>(
         &self,
         hub: &Hub<D, N, R>,
         senders: &Senders<N>,
     ) -> Option<Vec<HubClaim<N>>> {
         let mut claims = Vec::with_capacity(self.alloc, AHEAD as usize).ok()?;
-        for _ in 0..AHEAD {
-            let _dropped = hub.hand_in(&mut senders.begin(), Command::Purge(0)).ok()?;
-        }
-        for _ in 0..AHEAD {
-            claims
-                .push(hub.hand_in(&mut senders.begin(), Command::Purge(0)).ok()?)
-                .ok()?;
-        }
+        hand_in_all(hub, senders, &mut claims)?;
         Some(claims)
     }
 }
@@ -57,18 +67,17 @@ impl Errand for HandsIn {
         };
         for claim in claims {
             let number = claim.number();
-            let Ok(receipt) = hub.settle(claim) else {
-                return;
-            };
-            if receipt.place() == number {
-                self.settled.fetch_add(1, Ordering::SeqCst);
+            if let Ok(receipt) = hub.settle(claim) {
+                if receipt.place() == number {
+                    self.settled.fetch_add(1, Ordering::SeqCst);
+                }
             }
         }
     }
 }
 
 #[test]
-fn commands_handed_in_ahead(rt: HostRuntime) -> Result<(), Fail> {
+fn commands_handed_in_ahead(rt: HostRuntime) {
     let host = Host(&rt);
     let alloc = rt.alloc();
     let hands_in = HandsIn {
@@ -77,9 +86,9 @@ fn commands_handed_in_ahead(rt: HostRuntime) -> Result<(), Fail> {
     };
     let tasks = Tasks::new(1, hands_in);
     let device = with_tasks(&rt, alloc, new_store(&host, alloc), &tasks);
-    assert_eq!(rt; tasks.errand.settled.load(Ordering::SeqCst), AHEAD);
+    let settled = tasks.errand.settled.load(Ordering::SeqCst);
+    assert_same(&rt, &settled, &AHEAD, &"settled");
     let _device = assert_opens_to(&host, alloc, device, Contents::empty_at(80));
-    Ok(())
 }
 
 /// Hands purges in at a hub that has no threads: one of them is committed, the next one is under
@@ -118,16 +127,15 @@ impl<D: Device, R: Wait + Clock + Abort> HubJob<D, R> for Stops {
 }
 
 #[test]
-fn stop_answers_what_is_under_way(rt: HostRuntime) -> Result<(), Fail> {
+fn stop_answers_what_is_under_way(rt: HostRuntime) {
     let host = Host(&rt);
     let alloc = rt.alloc();
     let store = new_store(&host, alloc);
     let (place, refused) = ended(&host, with_hub(&rt, alloc, store, 1, Stops));
-    assert_eq!(rt; place, Some(0));
+    assert_same(&rt, &place, &Some(0), &"the first");
     let wanted = [
         Some(HubError::Stopped(1)),
         Some(HubError::Submit(SubmitError::Stopped)),
     ];
-    assert_eq!(rt; refused, wanted);
-    Ok(())
+    assert_same(&rt, &refused, &wanted, &"the others");
 }

@@ -1,5 +1,6 @@
 //! A hub whose state was stopped at a stranger.
 
+use crate::checks::assert_same;
 use crate::host::Host;
 use crate::workloads::{Errand, Tasks, with_tasks};
 use group_core::SubmitError;
@@ -9,7 +10,6 @@ use sector_dev::Device;
 use std::alloc::Global;
 use std::process::Abort;
 use std::sync::Wait;
-use std::test::Fail;
 use std::time::Clock;
 use test_hub_scripts::acts::{Unwatched, spend, submit};
 use test_hub_scripts::fakes::Fake;
@@ -41,17 +41,17 @@ impl Errand for GivesUp {
         spend(&host, &fake, &mut Unwatched, ticket);
         fake.end();
         let refused = hub.register(&mut senders.begin(), Command::Purge(0)).err();
-        assert_eq!(rt; refused, Some(HubError::Submit(SubmitError::Stopped)));
+        let wanted = Some(HubError::Submit(SubmitError::Stopped));
+        assert_same(rt, &refused, &wanted, &"refused");
     }
 }
 
 #[test]
-fn workloads_hear_of_a_stranger(rt: HostRuntime) -> Result<(), Fail> {
+fn workloads_hear_of_a_stranger(rt: HostRuntime) {
     let host = Host(&rt);
     let alloc = rt.alloc();
     let tasks = Tasks::new(1, GivesUp { alloc });
     let device = with_tasks(&rt, alloc, new_store(&host, alloc), &tasks);
-    assert_eq!(rt; tasks.strangers(), 1);
+    assert_same(&rt, &tasks.strangers(), &1, &"strangers");
     let _device = assert_opens_to(&host, alloc, device, Contents::empty_at(0));
-    Ok(())
 }

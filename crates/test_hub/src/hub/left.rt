@@ -8,7 +8,6 @@ use path_hub::{Hub, HubClaim, HubJob, HubName, Senders, UnnamedClaim, with_hub};
 use sector_dev::Device;
 use std::process::Abort;
 use std::sync::Wait;
-use std::test::Fail;
 use std::time::Clock;
 use test_hub_scripts::acts::{Unwatched, flush};
 use test_hub_scripts::stores::{Contents, assert_opens_to, new_store};
@@ -63,17 +62,17 @@ impl<D: Device, R: Wait + Clock + Abort> HubJob<D, R> for Registers {
 }
 
 #[test]
-fn receipts_are_found_in_what_is_left(rt: HostRuntime) -> Result<(), Fail> {
+fn receipts_are_found_in_what_is_left(rt: HostRuntime) {
     let host = Host(&rt);
     let alloc = rt.alloc();
     let store = new_store(&host, alloc);
     match with_hub(&rt, alloc, store, 1, Registers) {
-        Ok(((first, second), device, mut left)) => {
+        Ok(((first, second), device, left)) => {
+            let mut left = left.into_left();
             left.prove_committed(first);
             left.prove_committed(second);
             let _device = assert_opens_to(&host, alloc, device, Contents::empty_at(2));
         }
         Err((_store, _job, e)) => panic!(rt; "{e:?}"),
     }
-    Ok(())
 }

@@ -1,5 +1,6 @@
 //! Six hundred purges, one after the other.
 
+use crate::checks::{assert_same, assert_true};
 use crate::host::Host;
 use crate::workloads::{Errand, Tasks, with_tasks};
 use path_db::Command;
@@ -8,7 +9,6 @@ use sector_dev::Device;
 use std::process::Abort;
 use std::sync::Wait;
 use std::sync::atomic::{AtomicBool, AtomicU64, Ordering};
-use std::test::Fail;
 use std::time::Clock;
 use test_hub_scripts::stores::{Contents, assert_contents, contents_of, new_store, opened};
 
@@ -53,7 +53,7 @@ impl Errand for Purges {
 }
 
 #[test]
-fn six_hundred_purges(rt: HostRuntime) -> Result<(), Fail> {
+fn six_hundred_purges(rt: HostRuntime) {
     let host = Host(&rt);
     let store = new_store(&host, rt.alloc());
     let purges = Purges {
@@ -62,12 +62,13 @@ fn six_hundred_purges(rt: HostRuntime) -> Result<(), Fail> {
     };
     let tasks = Tasks::new(1, purges);
     let device = with_tasks(&rt, rt.alloc(), store, &tasks);
-    assert_eq!(rt; tasks.errand.placed.load(Ordering::SeqCst), PURGES);
-    assert!(rt; tasks.errand.is_counted.load(Ordering::SeqCst));
+    let placed = tasks.errand.placed.load(Ordering::SeqCst);
+    assert_same(&rt, &placed, &PURGES, &"places");
+    let is_counted = tasks.errand.is_counted.load(Ordering::SeqCst);
+    assert_true(&rt, is_counted, "the hub counts what is done");
     let store = opened(&host, rt.alloc(), device);
     assert_contents(&host, contents_of(&store), Contents::empty_at(PURGES));
     // The first half's checkpoint has epoch 1, and each further one has the next.
-    assert!(rt; 2 <= store.epoch());
+    assert_true(&rt, 2 <= store.epoch(), "there was a checkpoint");
     let _device = store.into_device();
-    Ok(())
 }

@@ -1,12 +1,12 @@
 //! A hub has 64 readers.
 
+use crate::checks::assert_same;
 use crate::host::Host;
 use hub_readers::HubReader;
 use path_hub::{Hub, HubError, HubJob, HubName, Senders, with_hub};
 use sector_dev::Device;
 use std::alloc::Global;
 use std::sync::Wait;
-use std::test::Fail;
 use std::time::Clock;
 use test_hub_scripts::stores::{ended, new_store};
 
@@ -17,18 +17,27 @@ struct TakesAll {
     alloc: Global,
 }
 
+/// Takes readers out until there is none.
+fn take_all<D: Device, N: HubName, R: Wait + Clock>(
+    hub: &Hub<D, N, R>,
+    out: &mut Vec<HubReader<N>>,
+) -> Option<()> {
+    for _ in 0..65 {
+        match hub.reader() {
+            Ok(reader) => out.push(reader).ok()?,
+            Err(HubError::NoReader) => break,
+            Err(_) => return None,
+        }
+    }
+    Some(())
+}
+
 impl<D: Device, R: Wait + Clock> HubJob<D, R> for TakesAll {
     type Out = Option<(usize, bool)>;
 
     fn run<N: HubName>(self, hub: &Hub<D, N, R>, _senders: &Senders<N>) -> Option<(usize, bool)> {
-        let mut out: Vec<HubReader<N>> = Vec::new(self.alloc);
-        for _ in 0..65 {
-            match hub.reader() {
-                Ok(reader) => out.push(reader).ok()?,
-                Err(HubError::NoReader) => break,
-                Err(_) => return None,
-            }
-        }
+        let mut out = Vec::new(self.alloc);
+        take_all(hub, &mut out)?;
         let count = out.len();
         hub.give_back(out.pop()?);
         Some((count, hub.reader().is_ok()))
@@ -36,11 +45,10 @@ impl<D: Device, R: Wait + Clock> HubJob<D, R> for TakesAll {
 }
 
 #[test]
-fn sixty_four_readers(rt: HostRuntime) -> Result<(), Fail> {
+fn sixty_four_readers(rt: HostRuntime) {
     let host = Host(&rt);
     let alloc = rt.alloc();
     let store = new_store(&host, alloc);
     let seen = ended(&host, with_hub(&rt, alloc, store, 1, TakesAll { alloc }));
-    assert_eq!(rt; seen, Some((64, true)));
-    Ok(())
+    assert_same(&rt, &seen, &Some((64, true)), &"readers");
 }

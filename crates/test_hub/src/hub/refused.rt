@@ -1,18 +1,18 @@
 //! Want of memory. The tests are run with each of their allocations refused in turn: a call that is
 //! refused changes nothing, and succeeds when it is made again.
 
+use crate::checks::assert_same;
 use crate::host::Host;
-use crate::workloads::{Errand, Tasks};
+use crate::workloads::{Errand, Tasks, attended};
 use group_core::{Durable, PublishError, StageError, Staged, StepError, SubmitError, Ticket};
 use hub_readers::{HubNote, HubReader, ReaderError};
 use path_db::Command;
-use path_hub::{Hub, HubError, HubJob, HubName, Senders, Steps, with_hub, with_workload};
+use path_hub::{Hub, HubError, HubJob, HubName, Senders, Steps, with_hub};
 use sector_dev::{Device, MemDevice};
 use std::alloc::Global;
 use std::process::Abort;
 use std::sync::Wait;
 use std::sync::atomic::{AtomicU64, Ordering};
-use std::test::Fail;
 use std::thread::Threads;
 use std::time::Clock;
 use store_open::Store;
@@ -116,7 +116,7 @@ fn shown_again<N: HubName>(rt: &impl Abort, reader: &mut HubReader<N>) -> usize 
 /// Sees how many segments a reader shows.
 fn assert_shown<N: HubName>(rt: &impl Abort, reader: &mut HubReader<N>, wanted: usize) {
     let count = shown_again(rt, reader);
-    assert_eq!(rt; count, wanted);
+    assert_same(rt, &count, &wanted, &"shown");
 }
 
 /// Publishes a group that a reader does not show before, and once more where memory is refused.
@@ -161,26 +161,51 @@ struct Adds {
     alloc: Global,
 }
 
+/// Submits the registration of the segment left by an interface.
+fn submit_one<S: Steps>(
+    rt: &impl Abort,
+    alloc: Global,
+    steps: &S,
+    sender: &mut S::Sender,
+    egress: u8,
+) -> Ticket {
+    let command = command_of(rt, alloc, egress);
+    submit_again(rt, steps, sender, command)
+}
+
+impl Adds {
+    /// Registers both segments. A reader shows them once their group is published.
+    fn add<D: Device, N: HubName, R: Wait + Clock + Abort>(
+        &self,
+        hub: &Hub<D, N, R>,
+        senders: &Senders<N>,
+        reader: &mut HubReader<N>,
+    ) -> (u64, u64) {
+        let rt = hub.handle();
+        assert_shown(rt, reader, 1);
+        let second = submit_one(rt, self.alloc, hub, &mut senders.begin(), 2);
+        let third = submit_one(rt, self.alloc, hub, &mut senders.begin(), 3);
+        let durable = durable_of(rt, hub);
+        assert_shown(rt, reader, 1);
+        let second = publish_again(hub, reader, durable, second);
+        assert_shown(rt, reader, 3);
+        let second = learn(rt, hub, reader, second);
+        let third = learn(rt, hub, reader, third);
+        assert_shown(rt, reader, 3);
+        (second, third)
+    }
+}
+
 impl<D: Device, R: Wait + Clock + Abort> HubJob<D, R> for Adds {
     type Out = (u64, u64);
 
     fn run<N: HubName>(self, hub: &Hub<D, N, R>, senders: &Senders<N>) -> (u64, u64) {
-        let rt = hub.handle();
         let Ok(mut reader) = hub.reader() else {
-            panic!(rt; "no reader");
+            panic!(hub.handle(); "no reader");
         };
-        assert_shown(rt, &mut reader, 1);
-        let second = submit_again(rt, hub, &mut senders.begin(), command_of(rt, self.alloc, 2));
-        let third = submit_again(rt, hub, &mut senders.begin(), command_of(rt, self.alloc, 3));
-        let durable = durable_of(rt, hub);
-        assert_shown(rt, &mut reader, 1);
-        let second = publish_again(hub, &mut reader, durable, second);
-        assert_shown(rt, &mut reader, 3);
-        let second = learn(rt, hub, &mut reader, second);
-        let third = learn(rt, hub, &mut reader, third);
-        assert_shown(rt, &mut reader, 3);
+        let places = self.add(hub, senders, &mut reader);
         hub.give_back(reader);
-        (second, third)
+        places
     }
 }
 
@@ -192,33 +217,52 @@ fn assert_kept<D: Device>(
     store: Store<D>,
     e: HubError,
 ) -> Store<D> {
-    assert!(rt.0;
-        matches!(e, HubError::NoMemory | HubError::NoReader),
-        "{e:?}"
-    );
+    let is_refused = matches!(e, HubError::NoMemory | HubError::NoReader);
+    assert_same(&rt.0, &is_refused, &true, &e);
     assert_contents(rt, contents_of(&store), FIRST);
     let store = opened(rt, alloc, store.into_device());
     assert_contents(rt, contents_of(&store), FIRST);
     store
 }
 
-#[test]
-fn refused_calls_may_be_made_again(rt: HostRuntime) -> Result<(), Fail> {
-    let host = Host(&rt);
-    let alloc = rt.alloc();
-    let store = first_store(&host, alloc);
-    let again = match with_hub(&rt, alloc, store, 1, Adds { alloc }) {
-        Err((store, adds, e)) => {
-            let store = assert_kept(&host, alloc, store, e);
-            with_hub(&rt, alloc, store, 1, adds)
-        }
-        done => done,
-    };
-    match again {
-        Ok((places, _device, _left)) => assert_eq!(rt; places, (1, 2)),
-        Err((_store, _adds, e)) => panic!(rt; "{e:?}"),
+/// What comes back where a hub is not made.
+type Refused = (Store<MemDevice>, Adds, HubError);
+
+/// The places of both segments, where a hub is made over a store.
+fn added<R: Wait + Clock + Abort + Copy>(
+    rt: R,
+    alloc: Global,
+    store: Store<MemDevice>,
+    adds: Adds,
+) -> Result<(u64, u64), Refused> {
+    match with_hub(rt, alloc, store, 1, adds) {
+        Ok((places, _device, _left)) => Ok(places),
+        Err(refused) => Err(refused),
     }
-    Ok(())
+}
+
+/// The places of both segments, where a hub was refused for want of memory.
+fn added_again<R: Wait + Clock + Abort + Copy + Drop>(
+    rt: R,
+    alloc: Global,
+    (store, adds, e): Refused,
+) -> (u64, u64) {
+    let store = assert_kept(&Host(rt), alloc, store, e);
+    match added(rt, alloc, store, adds) {
+        Ok(places) => places,
+        Err((_store, _adds, e)) => panic!(&rt; "{e:?}"),
+    }
+}
+
+#[test]
+fn refused_calls_may_be_made_again(rt: HostRuntime) {
+    let alloc = rt.alloc();
+    let store = first_store(&Host(&rt), alloc);
+    let places = match added(&rt, alloc, store, Adds { alloc }) {
+        Ok(places) => places,
+        Err(refused) => added_again(&rt, alloc, refused),
+    };
+    assert_same(&rt, &places, &(1, 2), &"places");
 }
 
 /// Registers a segment, each task another one, and looks it up. Counts the tasks that did.
@@ -226,6 +270,18 @@ fn refused_calls_may_be_made_again(rt: HostRuntime) -> Result<(), Fail> {
 struct Joins {
     alloc: Global,
     done: AtomicU64,
+}
+
+/// Sees that a reader shows what a ticket's command registered, once it has learnt the receipt.
+fn assert_joined<N: HubName, S: Steps<Note = HubNote<N>>>(
+    rt: &impl Abort,
+    steps: &S,
+    reader: &mut HubReader<N>,
+    ticket: Ticket,
+) {
+    learn(rt, steps, reader, ticket);
+    let count = shown_again(rt, reader);
+    assert_same(rt, &(2 <= count && count <= 3), &true, &count);
 }
 
 impl Errand for Joins {
@@ -240,15 +296,8 @@ impl Errand for Joins {
             return;
         };
         let egress = if task == 0 { 2 } else { 3 };
-        let ticket = submit_again(
-            rt,
-            hub,
-            &mut senders.begin(),
-            command_of(rt, self.alloc, egress),
-        );
-        learn(rt, hub, &mut reader, ticket);
-        let count = shown_again(rt, &mut reader);
-        assert!(rt; 2 <= count && count <= 3, "{count}");
+        let ticket = submit_one(rt, self.alloc, hub, &mut senders.begin(), egress);
+        assert_joined(rt, hub, &mut reader, ticket);
         hub.give_back(reader);
         self.done.fetch_add(1, Ordering::SeqCst);
     }
@@ -262,21 +311,28 @@ fn joined<R: Wait + Clock + Threads + Abort + Copy + Drop + Send + Sync>(
     tasks: &Tasks<Joins>,
 ) -> (MemDevice, u64) {
     let host = Host(rt);
-    let (device, _left, first) = with_workload(rt, alloc, first_store(&host, alloc), 1, tasks);
-    let e = match first {
-        Ok(attended) => return (device, attended),
-        Err(e) => e,
-    };
-    let store = assert_kept(&host, alloc, opened(&host, alloc, device), e);
-    let (device, _left, again) = with_workload(rt, alloc, store, 1, tasks);
-    match again {
-        Ok(attended) => (device, attended),
-        Err(e) => panic!(&rt; "{e:?}"),
+    let (device, first) = attended(rt, alloc, first_store(&host, alloc), tasks);
+    match first {
+        Ok(count) => (device, count),
+        Err(e) => joined_again(rt, alloc, opened(&host, alloc, device), e, tasks),
     }
 }
 
+/// The same hub over a store, where it was refused for want of memory.
+fn joined_again<R: Wait + Clock + Threads + Abort + Copy + Drop + Send + Sync>(
+    rt: R,
+    alloc: Global,
+    store: Store<MemDevice>,
+    e: HubError,
+    tasks: &Tasks<Joins>,
+) -> (MemDevice, u64) {
+    let store = assert_kept(&Host(rt), alloc, store, e);
+    let (device, again) = attended(rt, alloc, store, tasks);
+    (device, again.expect(&rt, "there is memory"))
+}
+
 #[test]
-fn refused_workloads_may_come_again(rt: HostRuntime) -> Result<(), Fail> {
+fn refused_workloads_may_come_again(rt: HostRuntime) {
     let host = Host(&rt);
     let alloc = rt.alloc();
     let joins = Joins {
@@ -286,8 +342,10 @@ fn refused_workloads_may_come_again(rt: HostRuntime) -> Result<(), Fail> {
     let tasks = Tasks::new(2, joins);
     let (device, attended) = joined(&rt, alloc, &tasks);
     // Where no thread was given for a task, the other one was there.
-    assert_eq!(rt; attended.wrapping_add(tasks.missed()), 2);
-    assert_eq!(rt; tasks.errand.done.load(Ordering::SeqCst), attended);
+    let all = attended.wrapping_add(tasks.missed());
+    assert_same(&rt, &all, &2, &"tasks");
+    let done = tasks.errand.done.load(Ordering::SeqCst);
+    assert_same(&rt, &done, &attended, &"done");
     let wanted = if attended == 2 {
         Contents {
             rows: 3,
@@ -302,5 +360,4 @@ fn refused_workloads_may_come_again(rt: HostRuntime) -> Result<(), Fail> {
         }
     };
     let _device = assert_opens_to(&host, alloc, device, wanted);
-    Ok(())
 }

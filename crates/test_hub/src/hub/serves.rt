@@ -1,5 +1,6 @@
 //! Tasks that register and look up at the same time.
 
+use crate::checks::assert_same;
 use crate::host::Host;
 use crate::workloads::{Errand, Tasks, with_tasks};
 use hub_readers::HubReader;
@@ -9,7 +10,6 @@ use std::alloc::Global;
 use std::process::Abort;
 use std::sync::Wait;
 use std::sync::atomic::{AtomicU64, Ordering};
-use std::test::Fail;
 use std::time::Clock;
 use test_hub_scripts::stores::{
     Contents, WIDE, assert_opens_to, formatted, opened, query_from, register,
@@ -25,7 +25,7 @@ const SEGMENTS: u8 = 8;
 const ORIGIN: u64 = 0x20;
 
 /// Registers segments of an AS that is the task's own, and looks them up after each. Counts the
-/// lookups that showed as many as were registered by then, up to one that did not.
+/// lookups that showed as many as were registered by then.
 #[derive(Drop)]
 struct Serves {
     alloc: Global,
@@ -42,9 +42,8 @@ impl Serves {
         origin: u8,
         egress: u8,
     ) -> Option<usize> {
-        let mut sender = senders.begin();
         let command = register(self.alloc, origin, egress)?;
-        let mut receipt = hub.register(&mut sender, command).ok()?;
+        let mut receipt = hub.register(&mut senders.begin(), command).ok()?;
         reader.learn(&mut receipt);
         Some(reader.lookup(&query_from(origin), 0).ok()?.len())
     }
@@ -65,17 +64,16 @@ impl Errand for Serves {
         };
         for egress in 1..=SEGMENTS {
             let shown = self.shown_after(hub, senders, &mut reader, origin, egress);
-            if shown != Some(usize::from(egress)) {
-                return;
+            if shown == Some(usize::from(egress)) {
+                self.shown.fetch_add(1, Ordering::SeqCst);
             }
-            self.shown.fetch_add(1, Ordering::SeqCst);
         }
         hub.give_back(reader);
     }
 }
 
 #[test]
-fn workload_serves_all(rt: HostRuntime) -> Result<(), Fail> {
+fn workload_serves_all(rt: HostRuntime) {
     let host = Host(&rt);
     let alloc = rt.alloc();
     let store = opened(&host, alloc, formatted(&host, alloc, WIDE));
@@ -85,12 +83,12 @@ fn workload_serves_all(rt: HostRuntime) -> Result<(), Fail> {
     };
     let tasks = Tasks::new(GUESTS, serves);
     let device = with_tasks(&rt, alloc, store, &tasks);
-    assert_eq!(rt; tasks.errand.shown.load(Ordering::SeqCst), 128);
+    let shown = tasks.errand.shown.load(Ordering::SeqCst);
+    assert_same(&rt, &shown, &128, &"shown");
     let wanted = Contents {
         rows: 128,
         bytes: 128 * 93,
         place: 128,
     };
     let _device = assert_opens_to(&host, alloc, device, wanted);
-    Ok(())
 }

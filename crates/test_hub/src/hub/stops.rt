@@ -1,5 +1,6 @@
 //! What is answered once the state has stopped.
 
+use crate::checks::assert_same;
 use crate::host::Host;
 use crate::workloads::{Errand, Tasks, with_tasks};
 use group_core::SubmitError;
@@ -10,7 +11,6 @@ use sector_dev::{Device, MemDevice};
 use std::alloc::Global;
 use std::process::Abort;
 use std::sync::{Mutex, Wait};
-use std::test::Fail;
 use std::thread::Threads;
 use std::time::Clock;
 use store_open::{Store, open};
@@ -65,7 +65,7 @@ fn is_stopped(answer: Option<HubError>) -> bool {
 
 // The checkpointer stops the state, as no epoch is left.
 #[test]
-fn register_in_a_state_that_stops(rt: HostRuntime) -> Result<(), Fail> {
+fn register_in_a_state_that_stops(rt: HostRuntime) {
     let host = Host(&rt);
     let alloc = rt.alloc();
     let waits = Waits {
@@ -74,10 +74,10 @@ fn register_in_a_state_that_stops(rt: HostRuntime) -> Result<(), Fail> {
     let tasks = Tasks::new(1, waits);
     let device = with_tasks(&rt, alloc, full_store(&rt, alloc), &tasks);
     let [first, second] = *tasks.errand.answers.lock(&rt);
-    assert!(rt; is_stopped(first), "{first:?}");
-    assert_eq!(rt; second, Some(HubError::Submit(SubmitError::Stopped)));
+    assert_same(&rt, &is_stopped(first), &true, &first);
+    let wanted = Some(HubError::Submit(SubmitError::Stopped));
+    assert_same(&rt, &second, &wanted, &"the second command");
     let _device = assert_opens_to(&host, alloc, device, Contents::empty_at(514));
-    Ok(())
 }
 
 /// How many calls of the device are tried.
@@ -118,11 +118,44 @@ struct Meets {
 }
 
 /// How many segments a reader shows.
-fn shown<N: HubName>(reader: &mut HubReader<N>) -> Option<usize> {
+pub(crate) fn shown<N: HubName>(reader: &mut HubReader<N>) -> Option<usize> {
     Some(reader.lookup(&query(), 0).ok()?.len())
 }
 
 impl Meets {
+    /// Registers a segment, and learns the receipt.
+    fn register_first<D: Device, N: HubName, R: Wait + Clock>(
+        &self,
+        hub: &Hub<D, N, R>,
+        senders: &Senders<N>,
+        reader: &mut HubReader<N>,
+    ) -> Option<()> {
+        let command = register(self.alloc, 0x10, 1)?;
+        let mut receipt = hub.register(&mut senders.begin(), command).ok()?;
+        reader.learn(&mut receipt);
+        Some(())
+    }
+
+    /// What is seen with two readers.
+    fn see<D: Device, N: HubName, R: Wait + Clock>(
+        &self,
+        hub: &Hub<D, N, R>,
+        senders: &Senders<N>,
+        reader: &mut HubReader<N>,
+        other: &mut HubReader<N>,
+    ) -> Option<Seen> {
+        self.register_first(hub, senders, reader)?;
+        let before = shown(reader)?;
+        let second = register(self.alloc, 0x10, 2)?;
+        let second = hub.register(&mut senders.begin(), second).err();
+        let after = shown(reader)?;
+        let elsewhere = shown(other)?;
+        let third = register(self.alloc, 0x10, 3)?;
+        let third = hub.register(&mut senders.begin(), third).err();
+        Some(([before, after, elsewhere], [second, third]))
+    }
+
+    /// What is seen with two readers of the hub.
     fn seen<D: Device, N: HubName, R: Wait + Clock>(
         &self,
         hub: &Hub<D, N, R>,
@@ -130,22 +163,10 @@ impl Meets {
     ) -> Option<Seen> {
         let mut reader = hub.reader().ok()?;
         let mut other = hub.reader().ok()?;
-        let mut receipt = hub
-            .register(&mut senders.begin(), register(self.alloc, 0x10, 1)?)
-            .ok()?;
-        reader.learn(&mut receipt);
-        let before = shown(&mut reader)?;
-        let second = hub
-            .register(&mut senders.begin(), register(self.alloc, 0x10, 2)?)
-            .err();
-        let after = shown(&mut reader)?;
-        let elsewhere = shown(&mut other)?;
-        let third = hub
-            .register(&mut senders.begin(), register(self.alloc, 0x10, 3)?)
-            .err();
+        let seen = self.see(hub, senders, &mut reader, &mut other);
         hub.give_back(reader);
         hub.give_back(other);
-        Some(([before, after, elsewhere], [second, third]))
+        seen
     }
 }
 
@@ -162,7 +183,7 @@ impl Errand for Meets {
 }
 
 #[test]
-fn failed_gate_sync_stops(rt: HostRuntime) -> Result<(), Fail> {
+fn failed_gate_sync_stops(rt: HostRuntime) {
     let host = Host(&rt);
     let alloc = rt.alloc();
     let meets = Meets {
@@ -175,7 +196,8 @@ fn failed_gate_sync_stops(rt: HostRuntime) -> Result<(), Fail> {
         Some(HubError::Stopped(1)),
         Some(HubError::Submit(SubmitError::Stopped)),
     ];
-    assert_eq!(rt; *tasks.errand.seen.lock(&rt), Some(([1, 1, 1], answers)));
+    let seen = *tasks.errand.seen.lock(&rt);
+    assert_same(&rt, &seen, &Some(([1, 1, 1], answers)), &"seen");
     // The gate was written, though its sync failed: that command was kept.
     let wanted = Contents {
         rows: 2,
@@ -183,7 +205,6 @@ fn failed_gate_sync_stops(rt: HostRuntime) -> Result<(), Fail> {
         place: 2,
     };
     let _device = assert_opens_to(&host, alloc, device.into_mem(), wanted);
-    Ok(())
 }
 
 /// How many calls of the device the actors make at most until a checkpoint has ended and a few
@@ -214,20 +235,32 @@ fn purge_until_stopped<D: Device, N: HubName, R: Wait + Clock>(
 }
 
 impl Purges {
+    /// What two readers show.
+    fn look<D: Device, N: HubName, R: Wait + Clock>(
+        hub: &Hub<D, N, R>,
+        senders: &Senders<N>,
+        reader: &mut HubReader<N>,
+        other: &mut HubReader<N>,
+    ) -> Option<[usize; 4]> {
+        let first = shown(reader)?;
+        purge_until_stopped(hub, senders)?;
+        let again = shown(reader)?;
+        let elsewhere = shown(other)?;
+        let last = shown(reader)?;
+        Some([first, again, elsewhere, last])
+    }
+
+    /// What two readers of the hub show.
     fn shown<D: Device, N: HubName, R: Wait + Clock>(
         hub: &Hub<D, N, R>,
         senders: &Senders<N>,
     ) -> Option<[usize; 4]> {
         let mut reader = hub.reader().ok()?;
         let mut other = hub.reader().ok()?;
-        let first = shown(&mut reader)?;
-        purge_until_stopped(hub, senders)?;
-        let again = shown(&mut reader)?;
-        let elsewhere = shown(&mut other)?;
-        let last = shown(&mut reader)?;
+        let shown = Purges::look(hub, senders, &mut reader, &mut other);
         hub.give_back(reader);
         hub.give_back(other);
-        Some([first, again, elsewhere, last])
+        shown
     }
 }
 
@@ -257,21 +290,21 @@ fn assert_readers_go_on<R: Wait + Clock + Threads + Abort + Copy + Drop + Send +
     };
     let tasks = Tasks::new(1, purges);
     let device = with_tasks(rt, alloc, opened(&host, alloc, failing), &tasks);
-    assert_eq!(&rt; *tasks.errand.shown.lock(&rt), Some([1; 4]), "{number}");
+    let shown = *tasks.errand.shown.lock(&rt);
+    assert_same(&rt, &shown, &Some([1; 4]), &number);
     let store = opened(&host, alloc, device.into_mem());
-    assert_eq!(&rt; contents_of(&store).rows, 1, "{number}");
+    assert_same(&rt, &contents_of(&store).rows, &1, &number);
     let _device = store.into_device();
 }
 
 // The calls of the flusher's steps and of a whole checkpoint, in whichever order the two actors
 // make them.
 #[test]
-fn readers_go_on_after_each_failed_call(rt: HostRuntime) -> Result<(), Fail> {
+fn readers_go_on_after_each_failed_call(rt: HostRuntime) {
     let host = Host(&rt);
     let alloc = rt.alloc();
     let first = calls_to_open(&rt, alloc, sealed_row(&host, alloc));
     for number in 0..ACTORS_CALLS {
         assert_readers_go_on(&rt, alloc, first.saturating_add(number));
     }
-    Ok(())
 }

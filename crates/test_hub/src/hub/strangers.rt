@@ -1,5 +1,6 @@
 //! Tickets of another hub, and commands that are not accepted.
 
+use crate::checks::{assert_same, assert_true};
 use crate::host::Host;
 use group_core::{Redeemed, SubmitError, Ticket};
 use path_db::Command;
@@ -8,7 +9,6 @@ use sector_dev::Device;
 use std::alloc::Global;
 use std::process::Abort;
 use std::sync::Wait;
-use std::test::Fail;
 use std::time::Clock;
 use test_hub_scripts::acts::{Unwatched, keep, spend, submit};
 use test_hub_scripts::stores::{ended, new_store};
@@ -19,6 +19,15 @@ struct Redeems {
     ticket: Ticket,
 }
 
+/// Redeems a ticket of another hub, which comes back.
+fn refused<S: Steps>(rt: &impl Abort, steps: &S, ticket: Ticket) -> Ticket {
+    match steps.redeem(ticket) {
+        Redeemed::Stranger(back) => back,
+        Redeemed::Waiting(_back) => panic!(rt; "no stranger"),
+        Redeemed::Committed(_) | Redeemed::Unknown(_) => panic!(rt; "redeemed"),
+    }
+}
+
 impl<D: Device, R: Wait + Clock + Abort> HubJob<D, R> for Redeems {
     type Out = Ticket;
 
@@ -27,12 +36,8 @@ impl<D: Device, R: Wait + Clock + Abort> HubJob<D, R> for Redeems {
         let rt = hub.handle();
         let host = Host(rt);
         let own = submit(&host, hub, &mut senders.begin(), &mut Unwatched);
-        assert_eq!(rt; own.place(), ticket.place());
-        let back = match hub.redeem(ticket) {
-            Redeemed::Stranger(back) => back,
-            Redeemed::Waiting(_back) => panic!(rt; "no stranger"),
-            Redeemed::Committed(_) | Redeemed::Unknown(_) => panic!(rt; "redeemed"),
-        };
+        assert_same(rt, &own.place(), &ticket.place(), &"places");
+        let back = refused(rt, hub, ticket);
         hub.stop();
         spend(&host, hub, &mut Unwatched, own);
         back
@@ -45,6 +50,15 @@ struct Visits {
     alloc: Global,
 }
 
+/// Has a ticket redeemed at a hub of another home.
+fn visited<R: Wait + Clock + Abort + Copy>(rt: R, alloc: Global, ticket: Ticket) -> Ticket {
+    let store = new_store(&Host(&rt), alloc);
+    match with_hub(rt, alloc, store, 2, Redeems { ticket }) {
+        Ok((ticket, _device, _left)) => ticket,
+        Err((_store, _job, e)) => panic!(&rt; "{e:?}"),
+    }
+}
+
 impl<D: Device, R: Wait + Clock + Abort + Copy> HubJob<D, R> for Visits {
     type Out = ();
 
@@ -52,11 +66,7 @@ impl<D: Device, R: Wait + Clock + Abort + Copy> HubJob<D, R> for Visits {
         let rt = hub.handle();
         let host = Host(rt);
         let ticket = submit(&host, hub, &mut senders.begin(), &mut Unwatched);
-        let store = new_store(&host, self.alloc);
-        let ticket = match with_hub(*rt, self.alloc, store, 2, Redeems { ticket }) {
-            Ok((ticket, _device, _left)) => ticket,
-            Err((_store, _job, e)) => panic!(rt; "{e:?}"),
-        };
+        let ticket = visited(*rt, self.alloc, ticket);
         let ticket = keep(&host, hub, &mut Unwatched, ticket);
         hub.stop();
         spend(&host, hub, &mut Unwatched, ticket);
@@ -64,12 +74,11 @@ impl<D: Device, R: Wait + Clock + Abort + Copy> HubJob<D, R> for Visits {
 }
 
 #[test]
-fn strangers(rt: HostRuntime) -> Result<(), Fail> {
+fn strangers(rt: HostRuntime) {
     let host = Host(&rt);
     let alloc = rt.alloc();
     let store = new_store(&host, alloc);
     ended(&host, with_hub(&rt, alloc, store, 1, Visits { alloc }));
-    Ok(())
 }
 
 /// How many commands may be pending.
@@ -91,12 +100,11 @@ fn assert_refused<D: Device, N: HubName, R: Wait + Clock + Abort>(
     let rt = hub.handle();
     match hub.submit(&mut senders.begin(), Command::Purge(0)) {
         Ok(_ticket) => panic!(rt; "accepted"),
-        Err((_command, refusal)) => assert_eq!(rt; refusal, wanted),
+        Err((_command, refusal)) => assert_same(rt, &refusal, &wanted, &"submitted"),
     }
-    assert_eq!(rt;
-        hub.register(&mut senders.begin(), Command::Purge(0)).err(),
-        Some(HubError::Submit(wanted))
-    );
+    let refusal = hub.register(&mut senders.begin(), Command::Purge(0)).err();
+    let wanted = Some(HubError::Submit(wanted));
+    assert_same(rt, &refusal, &wanted, &"registered");
 }
 
 /// As many tickets as may be given before any is redeemed.
@@ -117,6 +125,17 @@ fn tickets_of<S: Steps>(
     tickets
 }
 
+/// Redeems a ticket at a hub that has stopped.
+fn assert_unknown<S: Steps>(rt: &impl Abort, steps: &S, ticket: Ticket) {
+    let place = ticket.place();
+    match steps.redeem(ticket) {
+        Redeemed::Unknown(unknown) => assert_same(rt, &unknown, &place, &"places"),
+        Redeemed::Committed(_receipt) => panic!(rt; "committed"),
+        Redeemed::Waiting(_back) => panic!(rt; "a ticket waits"),
+        Redeemed::Stranger(_back) => panic!(rt; "a stranger"),
+    }
+}
+
 impl<D: Device, R: Wait + Clock + Abort> HubJob<D, R> for Fills {
     type Out = ();
 
@@ -130,24 +149,17 @@ impl<D: Device, R: Wait + Clock + Abort> HubJob<D, R> for Fills {
             let Some(ticket) = tickets.pop() else {
                 break;
             };
-            let place = ticket.place();
-            match hub.redeem(ticket) {
-                Redeemed::Unknown(unknown) => assert_eq!(rt; unknown, place),
-                Redeemed::Committed(_receipt) => panic!(rt; "committed"),
-                Redeemed::Waiting(_back) => panic!(rt; "a ticket waits"),
-                Redeemed::Stranger(_back) => panic!(rt; "a stranger"),
-            }
+            assert_unknown(rt, hub, ticket);
         }
-        assert!(rt; tickets.is_empty());
+        assert_true(rt, tickets.is_empty(), "all tickets are redeemed");
         tickets.destroy_empty();
     }
 }
 
 #[test]
-fn full_tails_are_busy(rt: HostRuntime) -> Result<(), Fail> {
+fn full_tails_are_busy(rt: HostRuntime) {
     let host = Host(&rt);
     let alloc = rt.alloc();
     let store = new_store(&host, alloc);
     ended(&host, with_hub(&rt, alloc, store, 1, Fills { alloc }));
-    Ok(())
 }

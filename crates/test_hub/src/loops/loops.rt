@@ -1,5 +1,6 @@
 //! The loops of both actors over a state that stops before one of their calls.
 
+use crate::checks::{assert_same, assert_true};
 use crate::host::Host;
 use group_core::{Prepared, Redeemed, Ticket};
 use path_db::Command;
@@ -8,7 +9,6 @@ use sector_dev::MemDevice;
 use std::alloc::Global;
 use std::process::Abort;
 use std::sync::Wait;
-use std::test::Fail;
 use store_open::format;
 use test_hub_scripts::acts::{GROUPS, Unwatched, commit_all, flush, seal, spend, submit};
 use test_hub_scripts::fakes::Fake;
@@ -23,6 +23,14 @@ const COMMANDS: usize = 40;
 /// How many calls are stopped before, one after the other.
 const STOPS: u64 = 40;
 
+/// Submits a command.
+fn submit_one<R: Wait + TestHost>(rt: &impl Abort, fake: &Fake<R>) -> Ticket {
+    match fake.submit(&mut (), Command::Purge(0)) {
+        Ok(ticket) => ticket,
+        Err((_command, refusal)) => panic!(rt; "{refusal:?}"),
+    }
+}
+
 /// Submits the commands.
 pub fn submit_all<R: Wait + TestHost>(
     rt: &impl Abort,
@@ -33,16 +41,21 @@ pub fn submit_all<R: Wait + TestHost>(
         panic!(rt; "out of memory");
     };
     for _ in 0..COMMANDS {
-        match fake.submit(&mut (), Command::Purge(0)) {
-            Ok(ticket) => {
-                if let Err(_ticket) = tickets.push(ticket) {
-                    panic!(rt; "out of memory");
-                }
-            }
-            Err((_command, refusal)) => panic!(rt; "{refusal:?}"),
+        if let Err(_ticket) = tickets.push(submit_one(rt, fake)) {
+            panic!(rt; "out of memory");
         }
     }
     tickets
+}
+
+/// Redeems a ticket: whether its command is committed, or else that is not known.
+fn redeem<R: Wait + TestHost>(rt: &impl Abort, fake: &Fake<R>, ticket: Ticket) -> bool {
+    match fake.redeem(ticket) {
+        Redeemed::Committed(_receipt) => true,
+        Redeemed::Unknown(_place) => false,
+        Redeemed::Waiting(_back) => panic!(rt; "a ticket waits"),
+        Redeemed::Stranger(_back) => panic!(rt; "a ticket is a stranger"),
+    }
 }
 
 /// Redeems all tickets: how many of their commands are committed, and of how many that is not
@@ -59,14 +72,13 @@ pub fn redeem_all<R: Wait + TestHost>(
         let Some(ticket) = tickets.pop() else {
             break;
         };
-        match fake.redeem(ticket) {
-            Redeemed::Committed(_receipt) => committed = committed.wrapping_add(1),
-            Redeemed::Unknown(_place) => unknown = unknown.wrapping_add(1),
-            Redeemed::Waiting(_back) => panic!(rt; "a ticket waits"),
-            Redeemed::Stranger(_back) => panic!(rt; "a ticket is a stranger"),
+        if redeem(rt, fake, ticket) {
+            committed = committed.wrapping_add(1);
+        } else {
+            unknown = unknown.wrapping_add(1);
         }
     }
-    assert!(rt; tickets.is_empty());
+    assert_true(rt, tickets.is_empty(), "all tickets are redeemed");
     tickets.destroy_empty();
     (committed, unknown)
 }
@@ -82,6 +94,15 @@ struct Counts {
     late: u64,
 }
 
+/// Runs both loops over a state that stops before a call: how many calls the flusher's loop makes.
+fn run_both<R: Wait + Abort>(rt: &R, fake: &Fake<Host<R>>, number: u64) -> u64 {
+    fake.stop_before(number);
+    flusher_loop(rt, fake, &Silent);
+    let calls = fake.calls();
+    checkpointer_loop(rt, fake, &Silent);
+    calls
+}
+
 /// Runs both loops over a state that stops before a call, and then redeems all tickets.
 fn stopped_at<R: Wait + Abort + Copy + Drop>(
     rt: R,
@@ -90,13 +111,10 @@ fn stopped_at<R: Wait + Abort + Copy + Drop>(
     number: u64,
 ) -> (MemDevice, Counts) {
     let mut device = device;
-    assert_eq!(&rt; format(&mut device, LEAST), Ok(()));
+    assert_same(&rt, &format(&mut device, LEAST), &Ok(()), &"format");
     let fake = Fake::new(Host(rt), alloc, device);
     let tickets = submit_all(&rt, alloc, &fake);
-    fake.stop_before(number);
-    flusher_loop(&rt, &fake, &Silent);
-    let calls = fake.calls();
-    checkpointer_loop(&rt, &fake, &Silent);
+    let calls = run_both(&rt, &fake, number);
     let (committed, unknown) = redeem_all(&rt, &fake, tickets);
     let late = calls.wrapping_sub(number).wrapping_add(1);
     let counts = Counts {
@@ -136,15 +154,14 @@ fn counts_at(number: u64) -> Counts {
 }
 
 #[test]
-fn loops_end(rt: HostRuntime) -> Result<(), Fail> {
+fn loops_end(rt: HostRuntime) {
     let host = Host(&rt);
     let mut device = formatted(&host, rt.alloc(), LEAST);
     for number in 1..=STOPS {
         let counts;
         (device, counts) = stopped_at(&rt, rt.alloc(), device, number);
-        assert_eq!(rt; counts, counts_at(number), "{number}");
+        assert_same(&rt, &counts, &counts_at(number), &number);
     }
-    Ok(())
 }
 
 /// The device of a store of no rows whose first journal is full, and sealed.
@@ -161,6 +178,18 @@ fn full_device<R: Wait + Abort + Copy + Drop>(rt: R, alloc: Global) -> MemDevice
 /// More calls than prepare a checkpoint here: one for each group of a full journal, and a few more.
 const MOST_PIECES: u64 = 1000;
 
+/// How many calls prepare a checkpoint of a state with a sealed journal.
+fn prepare<R: Wait + TestHost>(rt: &impl Abort, fake: &Fake<R>) -> u64 {
+    for number in 1..=MOST_PIECES {
+        match fake.prepare() {
+            Ok(Prepared::Part) => {}
+            Ok(Prepared::Whole) => return number,
+            Err(refusal) => panic!(rt; "{refusal:?}"),
+        }
+    }
+    panic!(rt; "the pieces make no end")
+}
+
 /// How many calls prepare a checkpoint over a device with a sealed journal.
 pub fn pieces_of<R: Wait + Abort + Copy + Drop>(
     rt: R,
@@ -168,14 +197,8 @@ pub fn pieces_of<R: Wait + Abort + Copy + Drop>(
     device: MemDevice,
 ) -> (MemDevice, u64) {
     let fake = Fake::new(Host(rt), alloc, device);
-    for number in 1..=MOST_PIECES {
-        match fake.prepare() {
-            Ok(Prepared::Part) => {}
-            Ok(Prepared::Whole) => return (fake.into_device(), number),
-            Err(refusal) => panic!(&rt; "{refusal:?}"),
-        }
-    }
-    panic!(&rt; "the pieces make no end")
+    let pieces = prepare(&rt, &fake);
+    (fake.into_device(), pieces)
 }
 
 /// What a store is found to be.
@@ -259,42 +282,87 @@ fn found_at(sealed: Found, pieces: u64, number: u64, is_committed: bool) -> Foun
     }
 }
 
-/// Has the checkpointer's loop stopped before each of the calls that prepare a checkpoint, and
-/// before this number of calls after them, over a device with a sealed journal, which opens to
-/// this: before and after a purge is committed, or by turns before the last of the former calls and
-/// those after them.
-fn fold_all<R: Wait + Abort + Copy + Drop>(
+/// A device with a sealed journal.
+#[derive(Drop)]
+struct Sealed {
+    device: MemDevice,
+    /// All its bytes.
+    image: Vec<u8>,
+    /// What it opens to.
+    found: Found,
+    /// How many calls prepare a checkpoint.
+    pieces: u64,
+}
+
+/// The device with a sealed journal, which opens to this.
+fn sealed_of<R: Wait + Abort + Copy + Drop>(
     rt: R,
     alloc: Global,
     device: MemDevice,
-    sealed: Found,
-    stops: u64,
-    by_turns: bool,
-) {
-    let host = Host(rt);
+    found: Found,
+) -> Sealed {
     let (mut device, pieces) = pieces_of(rt, alloc, device);
-    let image = bytes_of(&host, alloc, &mut device);
-    let first = if by_turns { pieces } else { 1 };
-    for number in first..=pieces.wrapping_add(stops) {
-        for is_committed in [false, true] {
-            if by_turns && is_committed == (number % 2 == 0) {
-                continue;
-            }
-            let found;
-            device = restored(&host, device, &image);
-            (device, found) = folded_at(rt, alloc, device, number, is_committed);
-            let wanted = found_at(sealed, pieces, number, is_committed);
-            assert_eq!(&rt; found, wanted, "{number} {is_committed}");
-        }
+    let image = bytes_of(&Host(rt), alloc, &mut device);
+    Sealed {
+        device,
+        image,
+        found,
+        pieces,
+    }
+}
+
+/// Has the checkpointer's loop stopped before a call, before or after a purge is committed.
+fn assert_folded<R: Wait + Abort + Copy + Drop>(
+    rt: R,
+    alloc: Global,
+    sealed: Sealed,
+    number: u64,
+    is_committed: bool,
+) -> Sealed {
+    let Sealed {
+        device,
+        image,
+        found: first,
+        pieces,
+    } = sealed;
+    let device = restored(&Host(rt), device, &image);
+    let (device, found) = folded_at(rt, alloc, device, number, is_committed);
+    let wanted = found_at(first, pieces, number, is_committed);
+    assert_same(&rt, &found, &wanted, &(number, is_committed));
+    Sealed {
+        device,
+        image,
+        found: first,
+        pieces,
+    }
+}
+
+/// Has the checkpointer's loop stopped before each of the calls that prepare a checkpoint, and
+/// before this number of calls after them, over a device with a sealed journal: before and after a
+/// purge is committed.
+fn fold_all<R: Wait + Abort + Copy + Drop>(rt: R, alloc: Global, sealed: Sealed, stops: u64) {
+    let mut sealed = sealed;
+    for number in 1..=sealed.pieces.wrapping_add(stops) {
+        sealed = assert_folded(rt, alloc, sealed, number, false);
+        sealed = assert_folded(rt, alloc, sealed, number, true);
+    }
+}
+
+/// The same by turns before the last of the former calls and those after them.
+fn fold_by_turns<R: Wait + Abort + Copy + Drop>(rt: R, alloc: Global, sealed: Sealed, stops: u64) {
+    let mut sealed = sealed;
+    for number in sealed.pieces..=sealed.pieces.wrapping_add(stops) {
+        sealed = assert_folded(rt, alloc, sealed, number, number % 2 == 1);
     }
 }
 
 #[test]
-fn checkpointer_ends(rt: HostRuntime) -> Result<(), Fail> {
+fn checkpointer_ends(rt: HostRuntime) {
     let host = Host(&rt);
     let alloc = rt.alloc();
-    fold_all(&rt, alloc, sealed_row(&host, alloc), ONE_ROW, STOPS, false);
+    let sealed = sealed_of(&rt, alloc, sealed_row(&host, alloc), ONE_ROW);
+    fold_all(&rt, alloc, sealed, STOPS);
     // A full journal takes long to read.
-    fold_all(&rt, alloc, full_device(&rt, alloc), FULL_JOURNAL, 8, true);
-    Ok(())
+    let sealed = sealed_of(&rt, alloc, full_device(&rt, alloc), FULL_JOURNAL);
+    fold_by_turns(&rt, alloc, sealed, 8);
 }

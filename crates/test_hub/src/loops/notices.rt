@@ -1,5 +1,6 @@
 //! Which notices both loops give, and in which order.
 
+use crate::checks::assert_same;
 use crate::host::Host;
 use crate::loops::loops::{pieces_of, redeem_all, submit_all};
 use crate::loops::scarce::{Damage, NONE, Refusals, Scarce};
@@ -9,7 +10,6 @@ use path_hub::{Actor, Notice, Steps, Watch, checkpointer_loop, flusher_loop};
 use std::alloc::Global;
 use std::process::Abort;
 use std::sync::{Mutex, Wait};
-use std::test::Fail;
 use test_hub_scripts::acts::{Unwatched, spend, submit};
 use test_hub_scripts::fakes::Fake;
 use test_hub_scripts::stores::{LEAST, change, formatted, sealed_row};
@@ -154,7 +154,7 @@ const SEALED: [CheckpointerRun; 12] = [
 fn assert_kept<R: Wait + Abort + Drop>(kept: Kept<R>, wanted: &[Notice]) {
     let Kept { rt, notices } = kept;
     let notices = notices.into_inner();
-    assert!(rt; notices.as_slice() == wanted, "{notices:?}");
+    assert_same(&rt, &notices.as_slice(), &wanted, &"notices");
 }
 
 /// Runs the flusher's loop over one purge.
@@ -179,7 +179,12 @@ fn assert_followed<R: Wait + Abort + Copy + Drop>(rt: R, alloc: Global, run: Flu
     fake.stop_before(run.stop);
     flusher_loop(&rt, &Scarce::new(&fake, run.refusals()), &kept);
     let (committed, unknown) = redeem_all(&rt, &fake, tickets);
-    assert_eq!(&rt; (committed, unknown), (40, 0));
+    assert_same(
+        &rt,
+        &(committed, unknown),
+        &(40, 0),
+        &"committed and not known",
+    );
     assert_kept(kept, run.noted);
     let _device = fake.into_device();
 }
@@ -197,42 +202,49 @@ fn assert_sealed<R: Wait + Abort + Copy + Drop>(rt: R, alloc: Global, run: Check
 }
 
 #[test]
-fn flusher_notes_memory(rt: HostRuntime) -> Result<(), Fail> {
+fn flusher_notes_memory(rt: HostRuntime) {
     for run in ALONE {
         assert_alone(&rt, rt.alloc(), run);
     }
     for run in FOLLOWED {
         assert_followed(&rt, rt.alloc(), run);
     }
-    Ok(())
 }
 
 #[test]
-fn checkpointer_notes_checkpoints(rt: HostRuntime) -> Result<(), Fail> {
+fn checkpointer_notes_checkpoints(rt: HostRuntime) {
     for run in SEALED {
         assert_sealed(&rt, rt.alloc(), run);
     }
-    Ok(())
+}
+
+/// Runs the checkpointer's loop over a state that has no epoch left.
+fn assert_no_epoch<R: Wait + Abort + Copy + Drop>(rt: R, alloc: Global, fake: &Fake<Host<R>>) {
+    let kept = Kept::new(rt, alloc);
+    checkpointer_loop(&rt, fake, &kept);
+    assert_kept(kept, &[Notice::NoEpoch]);
+}
+
+/// Sees that a state has stopped: it refuses a command.
+fn assert_stopped<R: Wait + Abort>(rt: &R, fake: &Fake<Host<R>>) {
+    match fake.submit(&mut (), Command::Purge(0)) {
+        Err((_command, why)) => assert_same(rt, &why, &SubmitError::Stopped, &"refused"),
+        Ok(_more) => panic!(rt; "accepted"),
+    }
 }
 
 #[test]
-fn checkpointer_stops_at_the_last_epoch(rt: HostRuntime) -> Result<(), Fail> {
+fn checkpointer_stops_at_the_last_epoch(rt: HostRuntime) {
     let host = Host(&rt);
     let alloc = rt.alloc();
     let mut device = sealed_row(&host, alloc);
     change(&mut device, 1, 8, &[0xff; 8]);
     let fake = Fake::new(host, alloc, device);
-    let kept = Kept::new(&rt, alloc);
     let ticket = submit(&host, &fake, &mut (), &mut Unwatched);
-    checkpointer_loop(&&rt, &fake, &kept);
-    assert_kept(kept, &[Notice::NoEpoch]);
+    assert_no_epoch(&rt, alloc, &fake);
     // One call prepares a checkpoint, and the next one stops the state.
-    assert_eq!(rt; fake.calls(), 3);
-    match fake.submit(&mut (), Command::Purge(0)) {
-        Err((_command, why)) => assert_eq!(rt; why, SubmitError::Stopped),
-        Ok(more) => spend(&host, &fake, &mut Unwatched, more),
-    }
+    assert_same(&rt, &fake.calls(), &3, &"calls");
+    assert_stopped(&&rt, &fake);
     spend(&host, &fake, &mut Unwatched, ticket);
     fake.end();
-    Ok(())
 }

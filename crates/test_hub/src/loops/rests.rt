@@ -1,12 +1,12 @@
 //! Which calls are counted as changes, and which rests a change ends.
 
+use crate::checks::assert_same;
 use crate::host::Host;
 use path_hub::{Awaited, Hub, HubJob, HubName, Senders, Steps, with_hub};
 use sector_dev::Device;
 use std::alloc::Global;
 use std::process::Abort;
 use std::sync::Wait;
-use std::test::Fail;
 use std::time::{Clock, Duration, Instant};
 use test_hub_scripts::acts::{
     Answer, GROUPS, Unwatched, Watch, commit, commit_all, flush, fold, seal, spend, submit,
@@ -66,7 +66,7 @@ impl<S: Steps> Watch for Counts<'_, S> {
 
 /// Sees how a kind of changes grew.
 fn assert_grown(rt: &Host<impl Abort>, kind: &str, grown: &[u64], wanted: &[u64]) {
-    assert!(rt.0; *grown == *wanted, "{kind} {grown:?}");
+    assert_same(&rt.0, &grown, &wanted, &kind);
 }
 
 /// A purge is submitted, staged, written, synced, its gate opened and synced, published, and
@@ -135,12 +135,11 @@ impl<D: Device, R: Wait + Clock + Abort> HubJob<D, R> for Makes {
 }
 
 #[test]
-fn changes_are_counted(rt: HostRuntime) -> Result<(), Fail> {
+fn changes_are_counted(rt: HostRuntime) {
     let host = Host(&rt);
     let alloc = rt.alloc();
     let store = new_store(&host, alloc);
     ended(&host, with_hub(&rt, alloc, store, 1, Makes { alloc }));
-    Ok(())
 }
 
 /// How long this number of rests takes.
@@ -167,13 +166,44 @@ fn time_of<S: Steps, R: Clock + Abort>(
 /// rests would take ten seconds else.
 fn assert_prompt<S: Steps, R: Clock + Abort>(rt: &R, steps: &S, awaited: Awaited, seen: u64) {
     let spent = time_of(rt, steps, awaited, seen, 1000);
-    assert!(rt; spent < Duration::from_secs(5), "{spent:?}");
+    assert_same(rt, &(spent < Duration::from_secs(5)), &true, &spent);
 }
 
 /// Sees that a rest ends by itself where there was no change: one takes ten milliseconds.
 fn assert_slow<S: Steps, R: Clock + Abort>(rt: &R, steps: &S, awaited: Awaited) {
     let spent = time_of(rt, steps, awaited, steps.changes(awaited), 20);
-    assert!(rt; Duration::from_millis(100) <= spent, "{spent:?}");
+    assert_same(rt, &(Duration::from_millis(100) <= spent), &true, &spent);
+}
+
+/// Rests after a command is submitted.
+fn rest_over_a_command<S: Steps, R: Clock + Abort>(rt: &R, steps: &S, sender: &mut S::Sender) {
+    let host = Host(rt);
+    let work = steps.changes(Awaited::Work);
+    let ticket = submit(&host, steps, sender, &mut Unwatched);
+    assert_prompt(rt, steps, Awaited::Work, work);
+    flush(&host, steps, &mut Unwatched);
+    spend(&host, steps, &mut Unwatched, ticket);
+}
+
+/// Rests after a journal is sealed.
+fn rest_over_a_seal<S: Steps, R: Clock + Abort>(rt: &R, steps: &S, sender: &mut S::Sender) {
+    let host = Host(rt);
+    let sealed = steps.changes(Awaited::Seal);
+    let ticket = seal(&host, steps, sender, &mut Unwatched);
+    assert_prompt(rt, steps, Awaited::Seal, sealed);
+    flush(&host, steps, &mut Unwatched);
+    spend(&host, steps, &mut Unwatched, ticket);
+}
+
+/// Rests after a checkpoint, and after the state is stopped.
+fn rest_over_an_end<S: Steps, R: Clock + Abort>(rt: &R, steps: &S) {
+    let work = steps.changes(Awaited::Work);
+    fold(&Host(rt), steps, &mut Unwatched);
+    assert_prompt(rt, steps, Awaited::Work, work);
+    let [work, sealed] = changes(steps);
+    steps.halt();
+    assert_prompt(rt, steps, Awaited::Work, work);
+    assert_prompt(rt, steps, Awaited::Seal, sealed);
 }
 
 /// Rests after changes of each kind, and after none.
@@ -188,34 +218,19 @@ impl<D: Device, R: Wait + Clock + Abort> HubJob<D, R> for Rests {
         let rt = hub.handle();
         let host = Host(rt);
         commit_all(&host, hub, &mut senders.begin(), &mut Unwatched, GROUPS - 1);
-        let work = hub.changes(Awaited::Work);
-        let ticket = submit(&host, hub, &mut senders.begin(), &mut Unwatched);
-        assert_prompt(rt, hub, Awaited::Work, work);
-        flush(&host, hub, &mut Unwatched);
-        spend(&host, hub, &mut Unwatched, ticket);
+        rest_over_a_command(rt, hub, &mut senders.begin());
         for awaited in [Awaited::Work, Awaited::Seal] {
             assert_slow(rt, hub, awaited);
         }
-        let sealed = hub.changes(Awaited::Seal);
-        let ticket = seal(&host, hub, &mut senders.begin(), &mut Unwatched);
-        assert_prompt(rt, hub, Awaited::Seal, sealed);
-        flush(&host, hub, &mut Unwatched);
-        spend(&host, hub, &mut Unwatched, ticket);
-        let work = hub.changes(Awaited::Work);
-        fold(&host, hub, &mut Unwatched);
-        assert_prompt(rt, hub, Awaited::Work, work);
-        let [work, sealed] = changes(hub);
-        hub.halt();
-        assert_prompt(rt, hub, Awaited::Work, work);
-        assert_prompt(rt, hub, Awaited::Seal, sealed);
+        rest_over_a_seal(rt, hub, &mut senders.begin());
+        rest_over_an_end(rt, hub);
     }
 }
 
 #[test]
-fn rest_sees_earlier_changes(rt: HostRuntime) -> Result<(), Fail> {
+fn rest_sees_earlier_changes(rt: HostRuntime) {
     let host = Host(&rt);
     let alloc = rt.alloc();
     let store = new_store(&host, alloc);
     ended(&host, with_hub(&rt, alloc, store, 1, Rests));
-    Ok(())
 }

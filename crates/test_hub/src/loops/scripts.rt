@@ -1,6 +1,7 @@
 //! One thread makes the calls of a long run through a hub: each is answered as by a run of an equal
 //! store, after as many syncs.
 
+use crate::checks::assert_same;
 use crate::host::Host;
 use group_core::StageError;
 use group_recovery::{Event, Reply, Run, run};
@@ -11,7 +12,6 @@ use std::alloc::Global;
 use std::process::Abort;
 use std::sync::Wait;
 use std::sync::atomic::{AtomicU64, Ordering};
-use std::test::Fail;
 use std::time::Clock;
 use store_open::Store;
 use test_fault_devices::{Gate, HeldDevice};
@@ -210,6 +210,14 @@ fn answer_of(reply: &Reply) -> Answer {
     }
 }
 
+/// What the last reply says.
+fn last_answer(rt: &impl Abort, replies: &[Reply]) -> Answer {
+    match replies.last() {
+        Some(reply) => answer_of(reply),
+        None => panic!(rt; "no reply"),
+    }
+}
+
 /// Does events in a run, and answers the reply to the last one.
 fn answered<D: Device>(
     rt: &impl Abort,
@@ -218,17 +226,14 @@ fn answered<D: Device>(
     events: &[Event],
 ) -> (Run<D>, Answer) {
     match run(alloc, held, events) {
-        Ok((held, replies)) => match replies.last() {
-            Some(reply) => (held, answer_of(reply)),
-            None => panic!(rt; "no reply"),
-        },
+        Ok((held, replies)) => (held, last_answer(rt, &replies)),
         Err((_held, _refused)) => panic!(rt; "out of memory"),
     }
 }
 
 /// Sees that what was seen of an event is what is expected.
 fn assert_seen(rt: &impl Abort, number: usize, seen: Seen, wanted: Seen) {
-    assert_eq!(rt; seen, wanted, "{number}");
+    assert_same(rt, &seen, &wanted, &number);
 }
 
 /// A device whose syncs are counted.
@@ -255,20 +260,32 @@ fn begun<'a>(rt: &Host<impl Abort>, alloc: Global, syncs: &'a AtomicU64) -> Run<
     }
 }
 
+/// Does an event in a run, and sees what comes of it.
+fn step<'a>(
+    rt: &impl Abort,
+    alloc: Global,
+    held: Run<Counted<'a>>,
+    syncs: &AtomicU64,
+    (number, event, wanted): (usize, &[Event], Seen),
+) -> Run<Counted<'a>> {
+    let (held, answer) = answered(rt, alloc, held, event);
+    let seen = (answer, syncs.load(Ordering::SeqCst));
+    assert_seen(rt, number, seen, wanted);
+    held
+}
+
 /// Does the script's events in a run.
 fn run_all(rt: &Host<impl Abort>, alloc: Global, script: &Script) {
     let syncs = AtomicU64::new(0);
     let mut held = begun(rt, alloc, &syncs);
     for (number, (event, wanted)) in script.events.chunks(1).zip(&script.seen).enumerate() {
-        let answer;
-        (held, answer) = answered(&rt.0, alloc, held, event);
-        assert_seen(
-            &rt.0,
-            number,
-            (answer, syncs.load(Ordering::SeqCst)),
-            *wanted,
-        );
+        held = step(&rt.0, alloc, held, &syncs, (number, event, *wanted));
     }
+    wind_up(rt, alloc, held);
+}
+
+/// Ends a run, and sees what its device opens to.
+fn wind_up(rt: &Host<impl Abort>, alloc: Global, held: Run<Counted<'_>>) {
     match held.wind_up() {
         Ok(device) => {
             let _device = assert_opens_to(rt, alloc, device, Contents::empty_at(2 * GROUPS));
@@ -289,18 +306,20 @@ fn played<R: Wait + Clock + Abort + Copy>(rt: R, alloc: Global) -> Vec<Seen> {
     ended(&host, with_hub(rt, alloc, store, 1, plays))
 }
 
+/// Sees that what was seen of all events is what is expected.
+fn assert_played(rt: &impl Abort, seen: &[Seen], script: &Script) {
+    let lens = [seen.len(), script.events.len(), script.seen.len()];
+    assert_same(rt, &lens, &[LINES; 3], &"lines");
+    for (number, (seen, wanted)) in seen.iter().zip(&script.seen).enumerate() {
+        assert_seen(rt, number, *seen, *wanted);
+    }
+}
+
 #[test]
-fn steps_script(rt: HostRuntime) -> Result<(), Fail> {
+fn steps_script(rt: HostRuntime) {
     let host = Host(&rt);
     let script = whole_script(&rt, rt.alloc());
     let seen = played(&rt, rt.alloc());
-    assert_eq!(rt;
-        (seen.len(), script.events.len(), script.seen.len()),
-        (LINES, LINES, LINES)
-    );
-    for (number, (seen, wanted)) in seen.iter().zip(&script.seen).enumerate() {
-        assert_seen(&rt, number, *seen, *wanted);
-    }
+    assert_played(&rt, &seen, &script);
     run_all(&host, rt.alloc(), &script);
-    Ok(())
 }

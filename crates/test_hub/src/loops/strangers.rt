@@ -1,11 +1,12 @@
 //! What both actors do with a value that a state refuses as a stranger.
 
+use crate::checks::assert_same;
 use crate::host::Host;
 use crate::loops::loops::pieces_of;
 use path_hub::{Silent, Steps, checkpointer_loop, flusher_loop};
+use std::alloc::Global;
 use std::process::Abort;
 use std::sync::Wait;
-use std::test::Fail;
 use test_hub_scripts::acts::{Unwatched, spend, submit};
 use test_hub_scripts::fakes::Fake;
 use test_hub_scripts::stores::{LEAST, formatted, sealed_row};
@@ -22,43 +23,55 @@ const CHECKPOINTER_CALLS: [u64; 6] = [2, 3, 4, 5, 6, 7];
 /// Sees that a loop met one stranger, gave it up by the call of this number, and ended by the next
 /// call.
 fn assert_given_up<R: Wait + Abort>(rt: &R, fake: &Fake<Host<R>>, number: u64) {
-    assert_eq!(rt; fake.strangers(), 1, "{number}");
-    assert_eq!(rt; fake.calls(), number.wrapping_add(1), "{number}");
+    assert_same(rt, &fake.strangers(), &1, &number);
+    let next = number.wrapping_add(1);
+    assert_same(rt, &fake.calls(), &next, &number);
+}
+
+/// Runs the flusher's loop over a state that is exchanged before the call of a number.
+fn assert_flusher<R: Wait + Abort + Copy + Drop>(
+    rt: R,
+    alloc: Global,
+    (number, given_up): (u64, u64),
+) {
+    let host = Host(rt);
+    let device = formatted(&host, alloc, LEAST);
+    let fake = Fake::with_other(host, alloc, device, formatted(&host, alloc, LEAST));
+    let ticket = submit(&host, &fake, &mut (), &mut Unwatched);
+    fake.exchange_before(number);
+    flusher_loop(&rt, &fake, &Silent);
+    assert_given_up(&rt, &fake, given_up);
+    // The first state has the ticket's outcome.
+    fake.exchange_before(1);
+    fake.halt();
+    spend(&host, &fake, &mut Unwatched, ticket);
+    fake.end();
 }
 
 #[test]
-fn flusher_gives_up_strangers(rt: HostRuntime) -> Result<(), Fail> {
-    let host = Host(&rt);
-    let alloc = rt.alloc();
-    for (number, given_up) in FLUSHER_CALLS {
-        let device = formatted(&host, alloc, LEAST);
-        let fake = Fake::with_other(host, alloc, device, formatted(&host, alloc, LEAST));
-        let ticket = submit(&host, &fake, &mut (), &mut Unwatched);
-        fake.exchange_before(number);
-        flusher_loop(&&rt, &fake, &Silent);
-        assert_given_up(&&rt, &fake, given_up);
-        // The first state has the ticket's outcome.
-        fake.exchange_before(1);
-        fake.halt();
-        spend(&host, &fake, &mut Unwatched, ticket);
-        fake.end();
+fn flusher_gives_up_strangers(rt: HostRuntime) {
+    for row in FLUSHER_CALLS {
+        assert_flusher(&rt, rt.alloc(), row);
     }
-    Ok(())
+}
+
+/// Runs the checkpointer's loop over a state that is exchanged before the call of a number.
+fn assert_checkpointer<R: Wait + Abort + Copy + Drop>(rt: R, alloc: Global, number: u64) {
+    let host = Host(rt);
+    let device = sealed_row(&host, alloc);
+    let fake = Fake::with_other(host, alloc, device, sealed_row(&host, alloc));
+    fake.exchange_before(number);
+    checkpointer_loop(&rt, &fake, &Silent);
+    assert_given_up(&rt, &fake, number.wrapping_add(1));
+    fake.end();
 }
 
 #[test]
-fn checkpointer_gives_up_strangers(rt: HostRuntime) -> Result<(), Fail> {
+fn checkpointer_gives_up_strangers(rt: HostRuntime) {
     let host = Host(&rt);
     let alloc = rt.alloc();
     let (_device, pieces) = pieces_of(&rt, alloc, sealed_row(&host, alloc));
     for call in CHECKPOINTER_CALLS {
-        let number = call.wrapping_add(pieces);
-        let device = sealed_row(&host, alloc);
-        let fake = Fake::with_other(host, alloc, device, sealed_row(&host, alloc));
-        fake.exchange_before(number);
-        checkpointer_loop(&&rt, &fake, &Silent);
-        assert_given_up(&&rt, &fake, number.wrapping_add(1));
-        fake.end();
+        assert_checkpointer(&rt, alloc, call.wrapping_add(pieces));
     }
-    Ok(())
 }

@@ -1,5 +1,6 @@
 //! Commands that are refused as busy among others that are handed in ahead.
 
+use crate::checks::assert_same;
 use crate::host::Host;
 use crate::queues::said::{Handed, Said, hand_in_purges, room, settle};
 use group_core::SubmitError;
@@ -8,7 +9,6 @@ use sector_dev::Device;
 use std::alloc::Global;
 use std::process::Abort;
 use std::sync::Wait;
-use std::test::Fail;
 use std::time::Clock;
 use test_hub_scripts::acts::{Unwatched, flush};
 use test_hub_scripts::stores::{ended, new_store};
@@ -48,10 +48,11 @@ fn assert_said<D: Device, N: HubName, R: Wait + Clock + Abort>(
     let mut number = 0;
     for handed in all {
         let (said, _outcome) = settle(hub, handed);
-        assert_eq!(hub.handle(); said, wanted(number), "{number}");
+        assert_same(hub.handle(), &said, &wanted(number), &number);
         number = number.saturating_add(1);
     }
-    assert_eq!(hub.handle(); number, COUNTS[0] + COUNTS[1]);
+    let all = COUNTS[0] + COUNTS[1];
+    assert_same(hub.handle(), &number, &all, &"commands");
 }
 
 impl<D: Device, R: Wait + Clock + Abort> HubJob<D, R> for Fills {
@@ -72,10 +73,9 @@ impl<D: Device, R: Wait + Clock + Abort> HubJob<D, R> for Fills {
 }
 
 #[test]
-fn busy_in_its_turn(rt: HostRuntime) -> Result<(), Fail> {
+fn busy_in_its_turn(rt: HostRuntime) {
     let host = Host(&rt);
     let alloc = rt.alloc();
     let store = new_store(&host, alloc);
     ended(&host, with_hub(&rt, alloc, store, 1, Fills { alloc }));
-    Ok(())
 }

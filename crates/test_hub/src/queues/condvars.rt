@@ -1,10 +1,10 @@
 //! The condition variables by which threads wait for the answers to their commands.
 
+use crate::checks::{assert_same, assert_true};
 use hub_status::Waker;
 use std::process::Abort;
 use std::sync::atomic::{AtomicU64, Ordering};
 use std::sync::{Condvar, Wait};
-use std::test::Fail;
 use std::thread::{Threads, yield_now};
 use std::time::Duration;
 use std::{array, thread};
@@ -22,14 +22,15 @@ fn assert_rung<R: Wait + Abort>(rt: &R, waker: &Waker, three: u64, five: u64) {
             5 => five,
             _ => 0,
         };
-        assert_eq!(rt; waker.condvar(condvar).notifications(), wanted, "{condvar}");
+        let found = waker.condvar(condvar).notifications();
+        assert_same(rt, &found, &wanted, &condvar);
     }
 }
 
 // Where no thread notifies, a call notifies each condition variable once that is noted, and no
 // other one.
 #[test]
-fn noted_condvars_are_rung_once(rt: HostRuntime) -> Result<(), Fail> {
+fn noted_condvars_are_rung_once(rt: HostRuntime) {
     let waker = Waker::new();
     waker.note(&rt, 3);
     waker.note(&rt, 5);
@@ -42,12 +43,11 @@ fn noted_condvars_are_rung_once(rt: HostRuntime) -> Result<(), Fail> {
     waker.note(&rt, 5);
     waker.call(&rt);
     assert_rung(&rt, &waker, 1, 2);
-    Ok(())
 }
 
 // A waker that is ended before its thread begins notifies what is noted.
 #[test]
-fn ended_waker_rings_what_is_noted(rt: HostRuntime) -> Result<(), Fail> {
+fn ended_waker_rings_what_is_noted(rt: HostRuntime) {
     let waker = Waker::new();
     waker.expect_thread();
     waker.note(&rt, 3);
@@ -57,12 +57,11 @@ fn ended_waker_rings_what_is_noted(rt: HostRuntime) -> Result<(), Fail> {
     waker.end();
     waker.run(&rt);
     assert_rung(&rt, &waker, 1, 1);
-    Ok(())
 }
 
 // A condition variable alone is notified by the call, also where a thread is expected.
 #[test]
-fn one_condvar_is_rung_at_once(rt: HostRuntime) -> Result<(), Fail> {
+fn one_condvar_is_rung_at_once(rt: HostRuntime) {
     let waker = Waker::new();
     waker.expect_thread();
     waker.call(&rt);
@@ -73,7 +72,6 @@ fn one_condvar_is_rung_at_once(rt: HostRuntime) -> Result<(), Fail> {
     assert_rung(&rt, &waker, 1, 0);
     waker.call(&rt);
     assert_rung(&rt, &waker, 1, 0);
-    Ok(())
 }
 
 /// How many threads wait for answers.
@@ -202,17 +200,16 @@ fn ask_and_answer<R: Wait + Threads + Sync>(rt: &R, waker: &Waker, desks: &Desks
 
 // Four thousand answers, each of which wakes who waits for it.
 #[test]
-fn nobody_sleeps_over_an_answer(rt: HostRuntime) -> Result<(), Fail> {
+fn nobody_sleeps_over_an_answer(rt: HostRuntime) {
     let waker = Waker::new();
     waker.expect_thread();
     let desks = Desks::new();
-    assert!(rt;
-        ask_and_answer(&&rt, &waker, &desks),
-        "NoMemory for a thread"
-    );
-    assert_eq!(rt; desks.overslept.load(Ordering::SeqCst), 0);
+    let is_ok = ask_and_answer(&&rt, &waker, &desks);
+    assert_true(&rt, is_ok, "no thread is refused, as by NoMemory");
+    let overslept = desks.overslept.load(Ordering::SeqCst);
+    assert_same(&rt, &overslept, &0, &"overslept");
     for desk in &desks.desks {
-        assert_eq!(rt; desk.answered.load(Ordering::SeqCst), ROUNDS);
+        let answered = desk.answered.load(Ordering::SeqCst);
+        assert_same(&rt, &answered, &ROUNDS, &"answered");
     }
-    Ok(())
 }

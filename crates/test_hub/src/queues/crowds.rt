@@ -1,7 +1,8 @@
 //! Sixty-four tasks that hand commands in ahead while the checkpointer works.
 
+use crate::checks::assert_same;
 use crate::host::Host;
-use crate::queues::said::{Handed, Said, hand_in, room, settle};
+use crate::queues::said::{Handed, Said, hand_in, push, room, settle};
 use crate::workloads::{Errand, Tasks, with_tasks};
 use path_hub::{Hub, HubName, Senders};
 use sector_dev::Device;
@@ -9,7 +10,6 @@ use std::alloc::Global;
 use std::process::Abort;
 use std::sync::Wait;
 use std::sync::atomic::{AtomicU64, Ordering};
-use std::test::Fail;
 use std::time::Clock;
 use test_hub_scripts::folds::{Act, Ledger, act_of, command_of, counts_of};
 use test_hub_scripts::stores::{Contents, assert_opens_to, new_store};
@@ -65,7 +65,8 @@ impl Sends {
         let mut all = room(rt, self.alloc, AHEAD);
         for number in 0..AHEAD {
             let act = act_of(task, from.saturating_add(number) as usize);
-            assert!(rt; all.push(self.hand_in(hub, senders, act)).is_ok());
+            let handed = self.hand_in(hub, senders, act);
+            push(rt, &mut all, handed);
         }
         all
     }
@@ -120,7 +121,7 @@ impl Errand for Sends {
 }
 
 #[test]
-fn sixty_four_tasks_beside_checkpoints(rt: HostRuntime) -> Result<(), Fail> {
+fn sixty_four_tasks_beside_checkpoints(rt: HostRuntime) {
     let host = Host(&rt);
     let alloc = rt.alloc();
     let sends = Sends {
@@ -131,16 +132,16 @@ fn sixty_four_tasks_beside_checkpoints(rt: HostRuntime) -> Result<(), Fail> {
     };
     let tasks = Tasks::new(GUESTS, sends);
     let device = with_tasks(&rt, alloc, new_store(&host, alloc), &tasks);
-    assert_eq!(rt; tasks.missed(), 0);
+    assert_same(&rt, &tasks.missed(), &0, &"missed");
     let rows = tasks.errand.ledger.rows(&host);
     let seals = tasks.errand.seals.load(Ordering::SeqCst);
     let checkpoints = tasks.errand.checkpoints.load(Ordering::SeqCst);
-    assert!(rt; SEALS <= seals && 1 <= checkpoints, "{seals} {checkpoints}");
+    let is_folded = SEALS <= seals && 1 <= checkpoints;
+    assert_same(&rt, &is_folded, &true, &(seals, checkpoints));
     let wanted = Contents {
         rows,
         bytes: (rows as u64).saturating_mul(93),
         place: ALL,
     };
     let _device = assert_opens_to(&host, alloc, device, wanted);
-    Ok(())
 }

@@ -1,5 +1,6 @@
 //! A device that fails while the queue is full or half full: each command is answered.
 
+use crate::checks::{assert_same, assert_true};
 use crate::host::Host;
 use crate::queues::said::{Handed, Said, hand_in_purges, room, settle};
 use crate::workloads::{Errand, Tasks, nap, with_tasks};
@@ -10,7 +11,6 @@ use std::alloc::Global;
 use std::process::Abort;
 use std::sync::atomic::{AtomicBool, AtomicU64, Ordering};
 use std::sync::{Mutex, Wait};
-use std::test::Fail;
 use std::thread::Threads;
 use std::time::Clock;
 use store_open::{Store, open};
@@ -166,7 +166,8 @@ impl Fills<'_> {
     /// Waits until the first sync is held, which the first task sees.
     fn wait_for_sync<R: Wait + Clock + Abort>(&self, rt: &R, task: u64) {
         if task == 0 {
-            assert!(rt; self.door.is_held_soon(rt), "no sync is held");
+            let is_held = self.door.is_held_soon(rt);
+            assert_true(rt, is_held, "a sync is held");
             self.is_held.store(true, Ordering::SeqCst);
         }
         for _ in 0..MOST_NAPS {
@@ -298,12 +299,12 @@ fn assert_answered<R: Wait + Clock + Threads + Abort + Copy + Drop + Send + Sync
     let number = first.saturating_add(row.call);
     let (tally, device) = answered(rt, alloc, number, waiting, true);
     let wanted = wanted(row.committed, row.stopped, waiting);
-    assert_eq!(&rt; tally, wanted, "{row:?}, {waiting} waiting");
+    assert_same(&rt, &tally, &wanted, &(row, "waiting", waiting));
     let _device = assert_opens_to(&Host(rt), alloc, device, Contents::empty_at(row.opens));
 }
 
 #[test]
-fn failed_calls_with_a_queue(rt: HostRuntime) -> Result<(), Fail> {
+fn failed_calls_with_a_queue(rt: HostRuntime) {
     let alloc = rt.alloc();
     let first = calls_to_open(&rt, alloc, formatted(&Host(&rt), alloc, LEAST));
     for waiting in WAITING {
@@ -311,7 +312,6 @@ fn failed_calls_with_a_queue(rt: HostRuntime) -> Result<(), Fail> {
             assert_answered(&rt, alloc, first, row, waiting);
         }
     }
-    Ok(())
 }
 
 /// The most commands of a group.
@@ -321,19 +321,29 @@ const MOST_OF_A_GROUP: u64 = 32;
 /// the queue also if it takes none meanwhile.
 const FITTING: [u64; 2] = [2300, 1152];
 
+/// Sees what commands are answered where the call of this number fails, which is the flusher's first
+/// one, and nothing holds the flusher.
+fn assert_first_group<R: Wait + Clock + Threads + Abort + Copy + Drop + Send + Sync>(
+    rt: R,
+    alloc: Global,
+    first: u64,
+    waiting: u64,
+) {
+    let (tally, device) = answered(rt, alloc, first, waiting, false);
+    let is_a_group = 1 <= tally.stopped && tally.stopped <= MOST_OF_A_GROUP;
+    assert_same(&rt, &is_a_group, &true, &(tally, "waiting", waiting));
+    let wanted = wanted(0, tally.stopped, waiting);
+    assert_same(&rt, &tally, &wanted, &("waiting", waiting));
+    let _device = assert_opens_to(&Host(rt), alloc, device, Contents::empty_at(0));
+}
+
 // The first write of the flusher fails while commands are handed in. How many its group has is not
 // known.
 #[test]
-fn failed_first_write(rt: HostRuntime) -> Result<(), Fail> {
+fn failed_first_write(rt: HostRuntime) {
     let alloc = rt.alloc();
     let first = calls_to_open(&rt, alloc, formatted(&Host(&rt), alloc, LEAST));
     for waiting in FITTING {
-        let (tally, device) = answered(&rt, alloc, first, waiting, false);
-        let is_a_group = 1 <= tally.stopped && tally.stopped <= MOST_OF_A_GROUP;
-        assert!(rt; is_a_group, "{tally:?}, {waiting} waiting");
-        let wanted = wanted(0, tally.stopped, waiting);
-        assert_eq!(rt; tally, wanted, "{waiting} waiting");
-        let _device = assert_opens_to(&Host(&rt), alloc, device, Contents::empty_at(0));
+        assert_first_group(&rt, alloc, first, waiting);
     }
-    Ok(())
 }

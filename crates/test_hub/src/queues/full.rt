@@ -1,7 +1,8 @@
 //! Commands that find the queue full, while the flusher can take none of it.
 
+use crate::checks::{assert_same, assert_true};
 use crate::host::Host;
-use crate::queues::said::{Handed, Said, hand_in, hand_in_purges, room, settle};
+use crate::queues::said::{Handed, Said, hand_in, hand_in_purges, push, room, settle};
 use crate::workloads::{Errand, Tasks, nap, with_tasks};
 use group_core::SubmitError;
 use hub_readers::HubReader;
@@ -12,7 +13,6 @@ use std::alloc::Global;
 use std::process::Abort;
 use std::sync::Wait;
 use std::sync::atomic::{AtomicU64, Ordering};
-use std::test::Fail;
 use std::time::Clock;
 use test_fault_devices::Gate;
 use test_hub_scripts::acts::GROUPS;
@@ -81,7 +81,7 @@ fn commit_at<D: Device, N: HubName, R: Wait + Clock + Abort>(
     place: u64,
 ) {
     let (said, _outcome) = settle(hub, hand_in(hub, senders, Command::Purge(0)));
-    assert_eq!(hub.handle(); said, Said::Committed(place));
+    assert_same(hub.handle(), &said, &Said::Committed(place), &"said");
 }
 
 /// Waits until the flusher has taken commands of the queue, as many as a group may have.
@@ -111,10 +111,11 @@ impl Fills {
         let [origin, _last] = ORIGINS;
         for _ in 0..REFUSED {
             let refused = hand_in(hub, senders, registration(rt, self.alloc, origin));
-            assert!(rt; all.push(refused).is_ok());
+            push(rt, &mut all, refused);
         }
         let (numbers, _completed) = hub.numbers();
-        assert_eq!(rt; (numbers.place, numbers.pending), (FULL, TAKEN));
+        let found = (numbers.place, numbers.pending);
+        assert_same(rt, &found, &(FULL, TAKEN), &"numbers");
         all
     }
 
@@ -128,7 +129,7 @@ impl Fills {
         let mut number = 0;
         for handed in all {
             let (said, _outcome) = settle(hub, handed);
-            assert_eq!(hub.handle(); said, wanted(number), "{number}");
+            assert_same(hub.handle(), &said, &wanted(number), &number);
             number = number.saturating_add(1);
         }
         self.settled.store(number, Ordering::SeqCst);
@@ -141,6 +142,12 @@ fn shown<N: HubName>(rt: &impl Abort, reader: &mut HubReader<N>, origin: u8) -> 
         Ok(found) => found.len(),
         Err(e) => panic!(rt; "{e:?}"),
     }
+}
+
+/// Sees that a reader shows this number of segments of a first AS.
+fn assert_shown<N: HubName>(rt: &impl Abort, reader: &mut HubReader<N>, origin: u8, wanted: usize) {
+    let count = shown(rt, reader, origin);
+    assert_same(rt, &count, &wanted, &origin);
 }
 
 /// Sees that the queue takes commands again, and that none of the refused ones has left a row.
@@ -156,13 +163,13 @@ fn assert_goes_on<D: Device, N: HubName, R: Wait + Clock + Abort>(
     let [refused, last] = ORIGINS;
     match hub.register(&mut senders.begin(), registration(rt, alloc, last)) {
         Ok(mut receipt) => {
-            assert_eq!(rt; receipt.place(), LAST);
+            assert_same(rt, &receipt.place(), &LAST, &"the last place");
             reader.learn(&mut receipt);
         }
         Err(e) => panic!(rt; "{e:?}"),
     }
-    assert_eq!(rt; shown(rt, &mut reader, refused), 0);
-    assert_eq!(rt; shown(rt, &mut reader, last), 1);
+    assert_shown(rt, &mut reader, refused, 0);
+    assert_shown(rt, &mut reader, last, 1);
     hub.give_back(reader);
 }
 
@@ -174,7 +181,8 @@ impl Errand for Fills {
         _task: u64,
     ) {
         let rt = hub.handle();
-        assert!(rt; self.door.is_held_soon(rt), "no checkpoint is held");
+        let is_held = self.door.is_held_soon(rt);
+        assert_true(rt, is_held, "a checkpoint is held");
         for place in FIRST..FULL {
             commit_at(hub, senders, place);
         }
@@ -193,7 +201,7 @@ impl Errand for Fills {
 }
 
 #[test]
-fn full_queue_is_busy(rt: HostRuntime) -> Result<(), Fail> {
+fn full_queue_is_busy(rt: HostRuntime) {
     let host = Host(&rt);
     let alloc = rt.alloc();
     let fills = Fills {
@@ -204,15 +212,16 @@ fn full_queue_is_busy(rt: HostRuntime) -> Result<(), Fail> {
     let tasks = Tasks::new(1, fills);
     let store = opened(&host, alloc, sealed_row(&host, alloc));
     let device = with_tasks(&rt, alloc, store, &tasks);
-    assert_eq!(rt; tasks.missed(), 0);
-    assert_eq!(rt; tasks.errand.door.latch(&rt), Latch::Open);
+    assert_same(&rt, &tasks.missed(), &0, &"missed");
+    let latch = tasks.errand.door.latch(&rt);
+    assert_same(&rt, &latch, &Latch::Open, &"the door");
     let settled = tasks.errand.settled.load(Ordering::SeqCst);
-    assert_eq!(rt; settled, TAKEN + WAITING + REFUSED);
+    let all = TAKEN + WAITING + REFUSED;
+    assert_same(&rt, &settled, &all, &"settled");
     let wanted = Contents {
         rows: 2,
         bytes: 2 * 93,
         place: LAST + 1,
     };
     let _device = assert_opens_to(&host, alloc, device, wanted);
-    Ok(())
 }

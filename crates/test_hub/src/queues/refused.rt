@@ -2,18 +2,18 @@
 //! allocations refused in turn: a command that is refused takes no place, and is accepted when it
 //! is handed in again.
 
+use crate::checks::{assert_same, assert_true};
 use crate::host::Host;
-use crate::queues::said::{Handed, Said, hand_in, room, settle};
-use crate::workloads::{Errand, Tasks, nap};
+use crate::queues::said::{Handed, Said, hand_in, push, room, settle};
+use crate::workloads::{Errand, Tasks, attended, nap};
 use group_core::SubmitError;
 use path_db::Command;
-use path_hub::{Hub, HubError, HubName, Senders, with_workload};
+use path_hub::{Hub, HubError, HubName, Senders};
 use sector_dev::{Device, MemDevice};
 use std::alloc::Global;
 use std::process::Abort;
 use std::sync::Wait;
 use std::sync::atomic::{AtomicU64, Ordering};
-use std::test::Fail;
 use std::thread::Threads;
 use std::time::Clock;
 use store_open::Store;
@@ -63,10 +63,11 @@ impl Grows<'_> {
     ) -> Vec<Handed<N>> {
         let rt = hub.handle();
         let mut all = room(rt, self.alloc, AHEAD + 1);
-        assert!(rt; all.push(hand_in_again(hub, senders)).is_ok());
-        assert!(rt; self.door.is_held_soon(rt), "no sync is held");
+        push(rt, &mut all, hand_in_again(hub, senders));
+        let is_held = self.door.is_held_soon(rt);
+        assert_true(rt, is_held, "a sync is held");
         for _ in 0..AHEAD {
-            assert!(rt; all.push(hand_in_again(hub, senders)).is_ok());
+            push(rt, &mut all, hand_in_again(hub, senders));
             self.handed.fetch_add(1, Ordering::SeqCst);
         }
         self.door.open(rt);
@@ -82,7 +83,7 @@ impl Grows<'_> {
         let mut place = 0;
         for handed in self.hand_in(hub, senders) {
             let (said, _outcome) = settle(hub, handed);
-            assert_eq!(hub.handle(); said, Said::Committed(place));
+            assert_same(hub.handle(), &said, &Said::Committed(place), &"said");
             place = place.saturating_add(1);
         }
         self.settled.store(place, Ordering::SeqCst);
@@ -135,32 +136,53 @@ fn held_store<R: Wait + Clock + Abort + Copy>(
     )
 }
 
+/// A hub with both tasks over a device whose syncs are held: the device, and how many tasks there
+/// were.
+fn held<R: Wait + Clock + Threads + Abort + Copy + Drop + Send + Sync>(
+    rt: R,
+    alloc: Global,
+    store: Store<HeldDevice<MemDevice, Holds<'_, R>>>,
+    tasks: &Tasks<Grows<'_>>,
+) -> (MemDevice, Result<u64, HubError>) {
+    tasks.errand.door.arm(&rt);
+    let (device, attended) = attended(rt, alloc, store, tasks);
+    (device.into_parts().0, attended)
+}
+
+/// The same hub where memory was refused for it: the device.
+fn grown_again<R: Wait + Clock + Threads + Abort + Copy + Drop + Send + Sync>(
+    rt: R,
+    alloc: Global,
+    device: MemDevice,
+    refused: HubError,
+    tasks: &Tasks<Grows<'_>>,
+) -> MemDevice {
+    let is_refused = matches!(refused, HubError::NoMemory | HubError::NoReader);
+    assert_same(&rt, &is_refused, &true, &refused);
+    let store = held_store(rt, alloc, tasks.errand.door, device);
+    assert_contents(&Host(rt), contents_of(&store), Contents::empty_at(0));
+    let (device, again) = held(rt, alloc, store, tasks);
+    assert_same(&rt, &again, &Ok(2), &"attended");
+    device
+}
+
 /// A hub with both tasks, and once more where memory is refused for it: the device.
 fn grown<R: Wait + Clock + Threads + Abort + Copy + Drop + Send + Sync>(
     rt: R,
     alloc: Global,
     tasks: &Tasks<Grows<'_>>,
 ) -> MemDevice {
-    let host = Host(rt);
-    let door = tasks.errand.door;
-    let store = held_store(rt, alloc, door, formatted(&host, alloc, LEAST));
-    door.arm(&rt);
-    let (device, _left, first) = with_workload(rt, alloc, store, 1, tasks);
-    let (device, _gate) = device.into_parts();
-    let Err(refused) = first else {
-        return device;
-    };
-    assert!(&rt; matches!(refused, HubError::NoMemory | HubError::NoReader));
-    let store = held_store(rt, alloc, door, device);
-    assert_contents(&host, contents_of(&store), Contents::empty_at(0));
-    door.arm(&rt);
-    let (device, _left, again) = with_workload(rt, alloc, store, 1, tasks);
-    assert_eq!(&rt; again, Ok(2));
-    device.into_parts().0
+    let device = formatted(&Host(rt), alloc, LEAST);
+    let store = held_store(rt, alloc, tasks.errand.door, device);
+    let (device, first) = held(rt, alloc, store, tasks);
+    match first {
+        Ok(_attended) => device,
+        Err(refused) => grown_again(rt, alloc, device, refused, tasks),
+    }
 }
 
 #[test]
-fn refused_commands_may_be_handed_in_again(rt: HostRuntime) -> Result<(), Fail> {
+fn refused_commands_may_be_handed_in_again(rt: HostRuntime) {
     let host = Host(&rt);
     let alloc = rt.alloc();
     let door = Door::new(Latch::Open);
@@ -174,7 +196,7 @@ fn refused_commands_may_be_handed_in_again(rt: HostRuntime) -> Result<(), Fail> 
     let device = grown(&rt, alloc, &tasks);
     let settled = tasks.errand.settled.load(Ordering::SeqCst);
     // Where no thread was given for the first task, nobody has handed a purge in.
-    assert!(rt; settled == AHEAD + 1 || (settled == 0 && tasks.missed() == 1));
+    let is_right = settled == AHEAD + 1 || (settled == 0 && tasks.missed() == 1);
+    assert_same(&rt, &is_right, &true, &settled);
     let _device = assert_opens_to(&host, alloc, device, Contents::empty_at(settled));
-    Ok(())
 }

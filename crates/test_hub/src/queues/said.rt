@@ -1,5 +1,6 @@
 //! Commands that are handed in, and what they are answered.
 
+use crate::checks::assert_true;
 use group_core::SubmitError;
 use path_db::{Command, Outcome};
 use path_hub::{Hub, HubClaim, HubError, HubName, Senders};
@@ -44,6 +45,11 @@ pub(crate) fn hand_in<D: Device, N: HubName, R: Wait + Clock>(
         .map_err(answer_of)
 }
 
+/// Adds a command that was handed in to those before it.
+pub(crate) fn push<N: HubName>(rt: &impl Abort, all: &mut Vec<Handed<N>>, handed: Handed<N>) {
+    assert_true(rt, all.push(handed).is_ok(), "there is room for a command");
+}
+
 /// Hands this number of purges in, one after the other, after those that were handed in before.
 pub(crate) fn hand_in_purges<D: Device, N: HubName, R: Wait + Clock + Abort>(
     hub: &Hub<D, N, R>,
@@ -53,7 +59,7 @@ pub(crate) fn hand_in_purges<D: Device, N: HubName, R: Wait + Clock + Abort>(
 ) {
     for _ in 0..count {
         let handed = hand_in(hub, senders, Command::Purge(0));
-        assert!(hub.handle(); all.push(handed).is_ok());
+        push(hub.handle(), all, handed);
     }
 }
 

@@ -69,38 +69,48 @@ fn one_row(alloc: Global, kind: SegType, bytes: &[u8]) -> Result<PathDb, Fail> {
     Ok(db)
 }
 
-/// Moments, and how many segments are shown at each.
-const MOMENTS: [(u64, usize); 5] = [
-    (0, 1),
-    (3_400_000_674, 1),
-    (3_400_000_675, 0),
-    (3_400_000_676, 0),
-    (u64::MAX, 0),
-];
-
-/// Checks that a database shows this number of segments at each of those moments.
-fn assert_moments(rt: &impl TestHost, db: &PathDb, cores: &Roster) -> Result<(), Fail> {
-    for (now, shown) in &MOMENTS {
-        let lookup = Lookup {
-            source: "1-ff00:0:110",
-            destination: "1-ff00:0:111",
-            now: *now,
-            shown: *shown,
-        };
-        assert_shown(rt, db, cores, &lookup)?;
-    }
-    Ok(())
+/// Checks how many segments each of these lookups shows in a database of one segment.
+fn assert_row_shown(
+    rt: &impl TestHost,
+    alloc: Global,
+    cores: &Roster,
+    (kind, bytes): (SegType, &[u8]),
+    lookups: &[Lookup],
+) -> Result<(), Fail> {
+    let db = one_row(alloc, kind, bytes)?;
+    assert_all_shown(rt, &db, cores, lookups)
 }
+
+/// Checks the same where these are the core ASes.
+fn assert_one_row(
+    rt: &impl TestHost,
+    alloc: Global,
+    cores: &[&str],
+    row: (SegType, &[u8]),
+    lookups: &[Lookup],
+) -> Result<(), Fail> {
+    let cores = roster(alloc, cores)?;
+    assert_row_shown(rt, alloc, &cores, row, lookups)
+}
+
+/// Lookups of the worked segment, which is to expire at 3,400,000,675 half seconds.
+#[rattlefmt::skip]
+const MOMENTS: [Lookup; 5] = [
+    Lookup { source: "1-ff00:0:110", destination: "1-ff00:0:111", now: 0, shown: 1 },
+    Lookup { source: "1-ff00:0:110", destination: "1-ff00:0:111", now: 3_400_000_674, shown: 1 },
+    Lookup { source: "1-ff00:0:110", destination: "1-ff00:0:111", now: 3_400_000_675, shown: 0 },
+    Lookup { source: "1-ff00:0:110", destination: "1-ff00:0:111", now: 3_400_000_676, shown: 0 },
+    Lookup { source: "1-ff00:0:110", destination: "1-ff00:0:111", now: u64::MAX, shown: 0 },
+];
 
 // A segment that expires at 3,400,000,675 half seconds.
 #[test]
 fn expiry_boundary_hidden(rt: HostRuntime) {
-    let host = Host(&rt);
-    let cores = done(&rt, roster(rt.alloc(), &["1-ff00:0:110"]));
     let mut bytes = SEGMENT;
     bytes[EXP_TIME] = 0;
-    let db = done(&rt, one_row(rt.alloc(), SegType::Down, &bytes));
-    done(&rt, assert_moments(&host, &db, &cores));
+    let (cores, row) = (&["1-ff00:0:110"], (SegType::Down, bytes.as_slice()));
+    let checked = assert_one_row(&Host(&rt), rt.alloc(), cores, row, &MOMENTS);
+    done(&rt, checked);
 }
 
 /// Lookups in a database of one core segment, from 2-64512 to 1-ff00:0:110.
@@ -120,10 +130,12 @@ const CORE_LOOKUPS: [Lookup; 10] = [
 
 #[test]
 fn wildcard_core_lookup(rt: HostRuntime) {
-    let host = Host(&rt);
-    let cores = done(&rt, roster(rt.alloc(), &["1-ff00:0:110", "2-64512"]));
-    let db = done(&rt, one_row(rt.alloc(), SegType::Core, &CORE_SEGMENT));
-    done(&rt, assert_all_shown(&host, &db, &cores, &CORE_LOOKUPS));
+    let (cores, row) = (
+        &["1-ff00:0:110", "2-64512"],
+        (SegType::Core, CORE_SEGMENT.as_slice()),
+    );
+    let checked = assert_one_row(&Host(&rt), rt.alloc(), cores, row, &CORE_LOOKUPS);
+    done(&rt, checked);
 }
 
 /// Lookups in a database of the worked segment as a down segment.
@@ -139,10 +151,9 @@ const DOWN_LOOKUPS: [Lookup; 5] = [
 // The worked segment, as up and as down.
 #[test]
 fn types_are_apart(rt: HostRuntime) {
-    let host = Host(&rt);
-    let cores = done(&rt, roster(rt.alloc(), &["1-ff00:0:110"]));
-    let db = done(&rt, one_row(rt.alloc(), SegType::Down, &SEGMENT));
-    done(&rt, assert_all_shown(&host, &db, &cores, &DOWN_LOOKUPS));
+    let (cores, row) = (&["1-ff00:0:110"], (SegType::Down, SEGMENT.as_slice()));
+    let checked = assert_one_row(&Host(&rt), rt.alloc(), cores, row, &DOWN_LOOKUPS);
+    done(&rt, checked);
 }
 
 /// The interfaces 1 to 65, in the order of the ids of the worked segment with each.
@@ -173,17 +184,6 @@ pub(crate) fn assert_left_by(rt: &impl TestHost, segments: &[Segment], egresses:
     }
 }
 
-// Of 65 rows that match, the first 64 by key are shown.
-#[test]
-fn first_rows_are_shown(rt: HostRuntime) {
-    let host = Host(&rt);
-    let cores = done(&rt, roster(rt.alloc(), &["1-ff00:0:110"]));
-    let db = done(&rt, all_rows(rt.alloc()));
-    let segments = done(&rt, found(&db, &cores, "1-ff00:0:110", "1-ff00:0:111", 0));
-    assert_same(&host, &segments.len(), &64, &"of 65");
-    assert_left_by(&host, &segments, &BY_ID);
-}
-
 /// What a lookup shows, which is made once more where memory is refused.
 fn answer_again(db: &PathDb, query: &Query) -> Result<Vec<Segment>, AllocError> {
     match answer(db, query, 0) {
@@ -192,19 +192,33 @@ fn answer_again(db: &PathDb, query: &Query) -> Result<Vec<Segment>, AllocError> 
     }
 }
 
-// Run with each allocation failing in turn: a lookup that is refused shows the same when it is made
-// again, and one that shows nothing takes no memory.
+/// Checks that of the 65 rows that match a query the first 64 are shown.
+fn assert_first_shown(rt: &impl TestHost, db: &PathDb, query: &Query) -> Result<(), Fail> {
+    let segments = answer_again(db, query)?;
+    assert_same(rt, &segments.len(), &64, &"of 65");
+    assert_left_by(rt, &segments, &BY_ID);
+    Ok(())
+}
+
+/// Checks that nothing is shown for a query, which takes no memory.
+fn assert_none_shown(rt: &impl TestHost, db: &PathDb, query: &Query) {
+    let none = answer(db, query, 0).map(|found| found.len());
+    assert_same(rt, &none.ok(), &Some(0), &"of none");
+}
+
+/// Checks the lookups of a database of these rows.
+fn assert_lookups(rt: &impl TestHost, db: &PathDb, cores: &Roster) -> Result<(), Fail> {
+    assert_first_shown(rt, db, &query_of(cores, "1-ff00:0:110", "1-ff00:0:111")?)?;
+    assert_none_shown(rt, db, &query_of(cores, "1-ff00:0:110", "1-5")?);
+    Ok(())
+}
+
+// Of 65 rows that match, the first 64 by key are shown. Run with each allocation failing in turn: a
+// lookup that is refused shows the same when it is made again, and one that shows nothing takes no
+// memory.
 #[test]
-fn refused_memory_of_lookups(rt: HostRuntime) -> Result<(), Fail> {
-    let host = Host(&rt);
+fn first_rows_are_shown(rt: HostRuntime) -> Result<(), Fail> {
     let cores = roster(rt.alloc(), &["1-ff00:0:110"])?;
     let db = all_rows(rt.alloc())?;
-    let query = query_of(&cores, "1-ff00:0:110", "1-ff00:0:111")?;
-    let segments = answer_again(&db, &query)?;
-    assert_same(&host, &segments.len(), &64, &"of 65");
-    assert_left_by(&host, &segments, &BY_ID);
-    let elsewhere = query_of(&cores, "1-ff00:0:110", "1-5")?;
-    let none = answer(&db, &elsewhere, 0).map(|found| found.len());
-    assert_same(&host, &none.ok(), &Some(0), &"of none");
-    Ok(())
+    assert_lookups(&Host(&rt), &db, &cores)
 }

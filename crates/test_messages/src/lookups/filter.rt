@@ -3,6 +3,7 @@
 use crate::checks::done;
 use crate::host::Host;
 use crate::lookups::worked::register;
+use crate::rows::worked::{count_rows, no_rows};
 use isd_as::IsdAs;
 use path_db::PathDb;
 use row_map::Row;
@@ -105,14 +106,20 @@ fn add_between(alloc: Global, db: &mut PathDb) -> Result<(), Fail> {
     Ok(())
 }
 
-/// 200 rows: from each of the ASes to each other one an up segment that expires early, and a core
-/// segment; and 14 down segments, from the first AS to each other one and back.
-fn rows(alloc: Global) -> Result<PathDb, Fail> {
-    let mut db = PathDb::new(alloc);
-    add_between(alloc, &mut db)?;
+/// Registers 200 rows: from each of the ASes to each other one an up segment that expires early,
+/// and a core segment; and 14 down segments, from the first AS to each other one and back.
+fn add_all(alloc: Global, db: &mut PathDb) -> Result<(), Fail> {
+    add_between(alloc, db)?;
     for other in ENDS.iter().skip(1) {
-        add_down(alloc, &mut db, other)?;
+        add_down(alloc, db, other)?;
     }
+    Ok(())
+}
+
+/// A database of these rows.
+fn rows(alloc: Global) -> Result<PathDb, Fail> {
+    let mut db = no_rows(alloc);
+    add_all(alloc, &mut db)?;
     Ok(db)
 }
 
@@ -217,14 +224,20 @@ fn assert_types_filtered(
     Ok(up.max(down).max(core))
 }
 
+/// Checks the queries of a database of those rows while all are valid, and after some have expired.
+fn assert_moments_filtered(rt: &impl TestHost, alloc: Global, db: &PathDb) -> Result<(), Fail> {
+    assert_same(rt, &count_rows(db), &200, &"rows");
+    let first = assert_types_filtered(rt, alloc, db, 0)?;
+    let early = assert_types_filtered(rt, alloc, db, EARLY)?;
+    let most = first.max(early);
+    assert_same(rt, &most, &ANSWER_LIMIT, &"the most that are shown");
+    Ok(())
+}
+
 // The queries while all rows are valid, and after some have expired.
 #[test]
 fn answers_are_those_of_a_filter(rt: HostRuntime) {
-    let host = Host(&rt);
     let db = done(&rt, rows(rt.alloc()));
-    assert_same(&host, &db.rows().count(), &200, &"rows");
-    let first = done(&rt, assert_types_filtered(&host, rt.alloc(), &db, 0));
-    let early = done(&rt, assert_types_filtered(&host, rt.alloc(), &db, EARLY));
-    let most = first.max(early);
-    assert_same(&host, &most, &ANSWER_LIMIT, &"the most that are shown");
+    let checked = assert_moments_filtered(&Host(&rt), rt.alloc(), &db);
+    done(&rt, checked);
 }

@@ -4,7 +4,8 @@ use crate::checks::done;
 use crate::host::Host;
 use crate::lookups::answers::{BY_ID, all_rows, assert_left_by, query_of};
 use crate::lookups::worked::roster;
-use path_db::{Command, PathDb};
+use crate::rows::worked::remove;
+use path_db::PathDb;
 use seg_core::{SegType, Segment};
 use seg_lookup::{Page, Query, page_after};
 use std::alloc::Global;
@@ -52,46 +53,48 @@ fn assert_page(
     Ok(last_id(&page.segments))
 }
 
+/// Checks the pages of a database of 65 rows that match, each after the last id of the one before.
+fn assert_pages(rt: &impl TestHost, db: &PathDb, query: &Query) -> Result<(), Fail> {
+    let first = assert_page(rt, db, query, None, &BY_ID[..64], true)?;
+    let second = assert_page(rt, db, query, first, &BY_ID[64..], false)?;
+    assert_page(rt, db, query, second, &[], false)?;
+    Ok(())
+}
+
 // Of 65 rows that match, the first page has 64, the second has one, and none follows.
 #[test]
 fn pages_of_all_rows(rt: HostRuntime) {
-    let host = Host(&rt);
-    let db = done(&rt, all_rows(rt.alloc()));
     let query = done(&rt, query(rt.alloc()));
-    let first = done(
-        &rt,
-        assert_page(&host, &db, &query, None, &BY_ID[..64], true),
-    );
-    let second = done(
-        &rt,
-        assert_page(&host, &db, &query, first, &BY_ID[64..], false),
-    );
-    done(&rt, assert_page(&host, &db, &query, second, &[], false));
+    let db = done(&rt, all_rows(rt.alloc()));
+    let checked = assert_pages(&Host(&rt), &db, &query);
+    done(&rt, checked);
+}
+
+/// The id of the first segment that is shown.
+fn first_shown(db: &PathDb, query: &Query) -> Result<[u8; 32], Fail> {
+    match first_id(&page(db, query, None)?) {
+        Some(id) => Ok(id),
+        None => Err(Fail::from("no segment")),
+    }
+}
+
+/// Checks the pages of a database of 65 rows that match: those after the least and the greatest id,
+/// and those of 64 rows, once the first row is removed.
+fn assert_other_pages(rt: &impl TestHost, db: &mut PathDb, query: &Query) -> Result<(), Fail> {
+    assert_page(rt, db, query, Some([0; 32]), &BY_ID[..64], true)?;
+    assert_page(rt, db, query, Some([0xff; 32]), &[], false)?;
+    let first = first_shown(db, query)?;
+    remove(db, SegType::Down, first)?;
+    assert_page(rt, db, query, None, &BY_ID[1..], false)?;
+    assert_page(rt, db, query, Some(first), &BY_ID[1..], false)?;
+    Ok(())
 }
 
 // A page after an id that no row has begins at the next one, and nothing follows 64 rows.
 #[test]
 fn pages_after_ids_without_rows(rt: HostRuntime) {
-    let host = Host(&rt);
-    let mut db = done(&rt, all_rows(rt.alloc()));
     let query = done(&rt, query(rt.alloc()));
-    done(
-        &rt,
-        assert_page(&host, &db, &query, Some([0; 32]), &BY_ID[..64], true),
-    );
-    done(
-        &rt,
-        assert_page(&host, &db, &query, Some([0xff; 32]), &[], false),
-    );
-    let first = first_id(&done(&rt, page(&db, &query, None))).expect(&rt, "a segment");
-    db.apply(&Command::Remove(SegType::Down, first))
-        .expect(&rt, "the command is applied");
-    done(
-        &rt,
-        assert_page(&host, &db, &query, None, &BY_ID[1..], false),
-    );
-    done(
-        &rt,
-        assert_page(&host, &db, &query, Some(first), &BY_ID[1..], false),
-    );
+    let mut db = done(&rt, all_rows(rt.alloc()));
+    let checked = assert_other_pages(&Host(&rt), &mut db, &query);
+    done(&rt, checked);
 }

@@ -4,6 +4,7 @@ use crate::host::Host;
 use crate::messages::checked::{EXPIRY, LONG, PEERED, SEGMENT};
 use seg_check::{CheckError, TrustAll, check, expiry};
 use seg_core::{SegError, read_segment};
+use std::alloc::Global;
 use std::test::Fail;
 use test_support::assert_same;
 
@@ -35,25 +36,21 @@ const TIMES: [Times; 5] = [
     Times { first: [0xff, 0x01], second: [0xff, 0x01], expiry: 3_400_172_800 },
 ];
 
+/// The expiry of the segment with these exp_times.
+fn expiry_of(alloc: Global, first: [u8; 2], second: [u8; 2]) -> Result<u64, SegError> {
+    let segment = read_segment(alloc, &with_exp_times(first, second))?;
+    Ok(expiry(&segment))
+}
+
 #[test]
 fn expiry_values(rt: HostRuntime) -> Result<(), Fail> {
     let host = Host(&rt);
     for row in &TIMES {
-        let segment = read_segment(rt.alloc(), &with_exp_times(row.first, row.second))?;
-        assert_same(
-            &host,
-            &expiry(&segment),
-            &row.expiry,
-            &(row.first, row.second),
-        );
+        let found = expiry_of(rt.alloc(), row.first, row.second)?;
+        assert_same(&host, &found, &row.expiry, &(row.first, row.second));
     }
-    let refused = read_segment(rt.alloc(), &with_exp_times([0x80, 0x02], [0xff, 0x01]));
-    assert_same(
-        &host,
-        &refused.err(),
-        &Some(SegError::Range),
-        &"past the greatest",
-    );
+    let refused = expiry_of(rt.alloc(), [0x80, 0x02], [0xff, 0x01]);
+    assert_same(&host, &refused, &Err(SegError::Range), &"past the greatest");
     Ok(())
 }
 

@@ -186,17 +186,33 @@ fn answered_again(alloc: Global, rows: &[(SegType, Segment)]) -> Result<Vec<u8>,
     }
 }
 
+/// Checks that the answer of rows is these bytes, which are written once more where memory is
+/// refused.
+fn assert_answered_again(
+    rt: &impl TestHost,
+    alloc: Global,
+    rows: &[(SegType, Segment)],
+    expected: &[u8],
+) -> Result<(), Fail> {
+    let answer = answered_again(alloc, rows)?;
+    assert_bytes(rt, &answer, expected, "the answer");
+    Ok(())
+}
+
+/// Checks that a message registers a down segment, and is the answer of it, where each is tried
+/// once more where memory is refused.
+fn assert_again(rt: &impl TestHost, alloc: Global, message: &[u8]) -> Result<(), Fail> {
+    let rows = rows_again(alloc, message)?;
+    assert_down(rt, &rows);
+    assert_answered_again(rt, alloc, &rows, message)
+}
+
 // Run with each allocation failing in turn: a call that is refused succeeds when it is tried again,
 // and no answer is another for it.
 #[test]
 fn refused_memory_is_told(rt: HostRuntime) -> Result<(), Fail> {
-    let host = Host(&rt);
     let mut message = [0; 96];
     message[..8].copy_from_slice(&DOWN);
     message[8..].copy_from_slice(&SEGMENT);
-    let rows = rows_again(rt.alloc(), &message)?;
-    assert_down(&host, &rows);
-    let answer = answered_again(rt.alloc(), &rows)?;
-    assert_bytes(&host, &answer, &message, "the answer");
-    Ok(())
+    assert_again(&Host(&rt), rt.alloc(), &message)
 }

@@ -22,6 +22,19 @@ fn signature_text(alloc: Global, signed: &[u8], associated: &[&[u8]]) -> Result<
     Ok(hex::encode(alloc, &keyed_signature(&KEY, signed, associated))?)
 }
 
+/// Checks a signature by that key.
+fn assert_signature(
+    rt: &impl TestHost,
+    alloc: Global,
+    signed: &[u8],
+    associated: &[&[u8]],
+    expected: &str,
+) -> Result<(), Fail> {
+    let found = signature_text(alloc, signed, associated)?;
+    assert_same(rt, &found.as_str(), &expected, &"a signature");
+    Ok(())
+}
+
 #[test]
 fn keyed_signature_values(rt: HostRuntime) {
     let host = Host(&rt);
@@ -29,51 +42,67 @@ fn keyed_signature_values(rt: HostRuntime) {
     let first = &SEGMENT[16..53];
     let second = &SEGMENT[59..];
     let signature = &SIGNED[55..87];
-    let of_first = done(&rt, signature_text(rt.alloc(), first, &[info]));
-    let of_second = done(
-        &rt,
-        signature_text(rt.alloc(), second, &[info, first, signature]),
-    );
-    for (found, expected) in [
-        (
-            of_first.as_str(),
-            "31a45617b6693c8ca6c9df0dd203759b08fa0e35bd65e554d20c1cf47480dcc7",
-        ),
-        (
-            of_second.as_str(),
-            "c32aff63a5c814036bf7635a601b59ee8e54bba3fd613a84088c277a0535122d",
-        ),
-    ] {
-        assert_same(&host, &found, &expected, &"a signature");
+    let text = "31a45617b6693c8ca6c9df0dd203759b08fa0e35bd65e554d20c1cf47480dcc7";
+    let of_first = assert_signature(&host, rt.alloc(), first, &[info], text);
+    done(&rt, of_first);
+    let text = "c32aff63a5c814036bf7635a601b59ee8e54bba3fd613a84088c277a0535122d";
+    let associated: &[&[u8]] = &[info, first, signature];
+    let of_second = assert_signature(&host, rt.alloc(), second, associated, text);
+    done(&rt, of_second);
+}
+
+/// The places of bytes of the signed segment, and what is answered where one bit of each is
+/// changed: in the segment's information, in each MAC, in each signature and in both.
+const FLIPS: [(&[usize], Result<(), CheckError>); 7] = [
+    (&[], Ok(())),
+    (&[9], Err(CheckError::BadSignature(0))),
+    (&[44], Err(CheckError::BadSignature(0))),
+    (&[113], Err(CheckError::BadSignature(1))),
+    (&[55], Err(CheckError::BadSignature(0))),
+    (&[155], Err(CheckError::BadSignature(1))),
+    (&[86, 124], Err(CheckError::BadSignature(0))),
+];
+
+/// The signed segment with one bit changed at each of these places.
+fn flipped(places: &[usize]) -> [u8; 156] {
+    let mut message = SIGNED;
+    for place in places {
+        if let Some(byte) = message.get_mut(*place) {
+            *byte ^= 1;
+        }
     }
+    message
+}
+
+/// Checks what is answered where one bit is changed at each of these places.
+fn assert_flipped(
+    rt: &impl TestHost,
+    alloc: Global,
+    verifier: &Keyed,
+    places: &[usize],
+    answer: Result<(), CheckError>,
+) -> Result<(), Fail> {
+    let segment = read_segment(alloc, &flipped(places))?;
+    let found = check(&segment, verifier, EXPIRY - 1);
+    assert_same(rt, &found, &answer, &places);
+    Ok(())
+}
+
+/// Checks all of these changes.
+fn assert_all_flipped(rt: &impl TestHost, alloc: Global, verifier: &Keyed) -> Result<(), Fail> {
+    for (places, answer) in &FLIPS {
+        assert_flipped(rt, alloc, verifier, places, *answer)?;
+    }
+    Ok(())
 }
 
 // Segments with one bit changed in the segment's information, in each MAC, in each signature and in
 // both.
 #[test]
 fn keyed_signature_refused(rt: HostRuntime) {
-    let host = Host(&rt);
     let verifier = done(&rt, keyed(rt.alloc(), &KEY));
-    let cases: [(&[usize], Result<(), CheckError>); 7] = [
-        (&[], Ok(())),
-        (&[9], Err(CheckError::BadSignature(0))),
-        (&[44], Err(CheckError::BadSignature(0))),
-        (&[113], Err(CheckError::BadSignature(1))),
-        (&[55], Err(CheckError::BadSignature(0))),
-        (&[155], Err(CheckError::BadSignature(1))),
-        (&[86, 124], Err(CheckError::BadSignature(0))),
-    ];
-    for (places, answer) in cases {
-        let mut message = SIGNED;
-        for place in places {
-            if let Some(byte) = message.get_mut(*place) {
-                *byte ^= 1;
-            }
-        }
-        let segment = read_segment(rt.alloc(), &message).expect(&rt, "a segment");
-        let found = check(&segment, &verifier, EXPIRY - 1);
-        assert_same(&host, &found, &answer, &places);
-    }
+    let checked = assert_all_flipped(&Host(&rt), rt.alloc(), &verifier);
+    done(&rt, checked);
 }
 
 /// A key of a verifier, a moment in half seconds, and why the signed segment is refused then.

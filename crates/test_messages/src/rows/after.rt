@@ -119,8 +119,9 @@ fn assert_shown(
     Ok(())
 }
 
-/// Checks all looks.
-fn assert_all_shown(rt: &impl TestHost, alloc: Global, database: &PathDb) -> Result<(), Fail> {
+/// Puts those segments into a database, and checks all looks.
+fn assert_all_shown(rt: &impl TestHost, alloc: Global, database: &mut PathDb) -> Result<(), Fail> {
+    put_seven(alloc, database)?;
     for look in &LOOKS {
         assert_shown(rt, alloc, database, look)?;
     }
@@ -129,18 +130,13 @@ fn assert_all_shown(rt: &impl TestHost, alloc: Global, database: &PathDb) -> Res
 
 #[test]
 fn segments_after_an_id_are_shown(rt: HostRuntime) -> Result<(), Fail> {
-    let host = Host(&rt);
-    let mut database = no_rows(rt.alloc());
-    put_seven(rt.alloc(), &mut database)?;
-    assert_all_shown(&host, rt.alloc(), &database)
+    assert_all_shown(&Host(&rt), rt.alloc(), &mut no_rows(rt.alloc()))
 }
 
 #[test]
 fn segments_after_an_id_are_shown_without_indexes(rt: HostRuntime) -> Result<(), Fail> {
-    let host = Host(&rt);
     let mut database = no_rows(rt.alloc()).without_indexes();
-    put_seven(rt.alloc(), &mut database)?;
-    assert_all_shown(&host, rt.alloc(), &database)
+    assert_all_shown(&Host(&rt), rt.alloc(), &mut database)
 }
 
 /// The first two down segments, or the next two after an id.
@@ -155,17 +151,34 @@ fn two(database: &PathDb, after: Option<[u8; 32]>) -> Result<Vec<Segment>, Fail>
 /// The pages of two down segments each, as the first bytes of their ids.
 const PAGES: [&[u8]; 4] = [&[0x19, 0x8a], &[0xbe, 0xe8], &[0xfe], &[]];
 
+/// Checks the page after an id. Returns its last id.
+fn assert_two(
+    rt: &impl TestHost,
+    alloc: Global,
+    database: &PathDb,
+    after: Option<[u8; 32]>,
+    page: &[u8],
+) -> Result<Option<[u8; 32]>, Fail> {
+    let shown = two(database, after)?;
+    let bytes = first_bytes(alloc, &shown)?;
+    assert_same(rt, &bytes.as_slice(), &page, &"a page");
+    Ok(shown.last().map(|segment| *segment.digest()))
+}
+
+/// Puts those segments into a database, and checks the pages, each of which begins after the last
+/// id of the page before it.
+fn assert_pages(rt: &impl TestHost, alloc: Global, database: &mut PathDb) -> Result<(), Fail> {
+    put_seven(alloc, database)?;
+    let mut after = None;
+    for page in &PAGES {
+        after = assert_two(rt, alloc, database, after, page)?;
+    }
+    Ok(())
+}
+
 // Each page begins after the last id of the page before it.
 #[test]
 fn pages_follow_each_other(rt: HostRuntime) {
-    let host = Host(&rt);
-    let mut database = no_rows(rt.alloc());
-    done(&rt, put_seven(rt.alloc(), &mut database));
-    let mut after = None;
-    for page in PAGES {
-        let shown = done(&rt, two(&database, after));
-        let bytes = done(&rt, first_bytes(rt.alloc(), &shown));
-        assert_same(&host, &bytes.as_slice(), &page, &"a page");
-        after = shown.last().map(|segment| *segment.digest());
-    }
+    let checked = assert_pages(&Host(&rt), rt.alloc(), &mut no_rows(rt.alloc()));
+    done(&rt, checked);
 }

@@ -10,7 +10,7 @@ use path_records::{DbError, read_command, write_command};
 use std::alloc::Global;
 use std::test::Fail;
 use store_layout::{JournalKind, allows};
-use test_support::assert_same;
+use test_support::{TestHost, assert_same};
 
 /// A record that registers the worked segment this number of times, as down segments.
 pub(crate) fn registration(alloc: Global, count: u8) -> Result<Vec<u8>, Fail> {
@@ -74,20 +74,27 @@ fn shape_of(command: &Command) -> Shape {
     }
 }
 
-/// What the command is that is read under a version. Where memory is refused, the bytes are read
-/// again.
-fn command_of(alloc: Global, bytes: &[u8], version: u32) -> Result<Shape, DbError> {
-    let removals = allows(version, JournalKind::Removal);
-    let command = match read_command(alloc, bytes, removals) {
-        Err(DbError::NoMemory) => read_command(alloc, bytes, removals)?,
-        read => read?,
-    };
-    let mut written = Vec::new(alloc);
-    if write_command(&command, &mut written).is_err() {
-        write_command(&command, &mut written)?;
+/// The command that is read. Where memory is refused, the bytes are read again.
+fn read_again(alloc: Global, bytes: &[u8], removals: bool) -> Result<Command, DbError> {
+    match read_command(alloc, bytes, removals) {
+        Err(DbError::NoMemory) => read_command(alloc, bytes, removals),
+        read => read,
     }
-    let is_same = written.as_slice() == bytes;
-    Ok(if is_same {
+}
+
+/// Whether a command is written as these bytes. Where memory is refused, it is written again.
+fn is_written_as(alloc: Global, command: &Command, bytes: &[u8]) -> Result<bool, DbError> {
+    let mut written = Vec::new(alloc);
+    if write_command(command, &mut written).is_err() {
+        write_command(command, &mut written)?;
+    }
+    Ok(written.as_slice() == bytes)
+}
+
+/// What the command is that is read under a version.
+fn command_of(alloc: Global, bytes: &[u8], version: u32) -> Result<Shape, DbError> {
+    let command = read_again(alloc, bytes, allows(version, JournalKind::Removal))?;
+    Ok(if is_written_as(alloc, &command, bytes)? {
         shape_of(&command)
     } else {
         Shape::Otherwise
@@ -203,22 +210,47 @@ fn changed_registrations(rt: HostRuntime) {
     }
 }
 
+/// How many segments are registered, and what is read then.
+const COUNTS: [(u8, Result<Shape, DbError>); 4] = [
+    (0, Ok(Shape::Register(0))),
+    (1, Ok(Shape::Register(1))),
+    (16, Ok(Shape::Register(16))),
+    (17, Err(BAD)),
+];
+
+/// Checks what the registration of this number of segments is read as.
+fn assert_count(
+    rt: &impl TestHost,
+    alloc: Global,
+    count: u8,
+    expected: Result<Shape, DbError>,
+) -> Result<(), Fail> {
+    let bytes = registration(alloc, count)?;
+    assert_same(rt, &command_of(alloc, &bytes, 1), &expected, &count);
+    Ok(())
+}
+
+/// Checks what the registration of long segments is read as.
+fn assert_long(
+    rt: &impl TestHost,
+    alloc: Global,
+    is_longer: bool,
+    expected: Result<Shape, DbError>,
+) -> Result<(), Fail> {
+    let bytes = long_registration(alloc, is_longer)?;
+    let read = command_of(alloc, &bytes, 1);
+    assert_same(rt, &read, &expected, &("is longer", is_longer));
+    Ok(())
+}
+
 // At most 16 segments, and at most 131,072 bytes of them.
 #[test]
 fn registrations_are_limited(rt: HostRuntime) {
     let host = Host(&rt);
-    for (count, expected) in [
-        (0, Ok(Shape::Register(0))),
-        (1, Ok(Shape::Register(1))),
-        (16, Ok(Shape::Register(16))),
-        (17, Err(BAD)),
-    ] {
-        let bytes = done(&rt, registration(rt.alloc(), count));
-        assert_same(&host, &command_of(rt.alloc(), &bytes, 1), &expected, &count);
+    for (count, expected) in &COUNTS {
+        done(&rt, assert_count(&host, rt.alloc(), *count, *expected));
     }
-    for (is_longer, expected) in [(false, Ok(Shape::Register(16))), (true, Err(BAD))] {
-        let bytes = done(&rt, long_registration(rt.alloc(), is_longer));
-        let read = command_of(rt.alloc(), &bytes, 1);
-        assert_same(&host, &read, &expected, &("is longer", is_longer));
-    }
+    let sixteen = Ok(Shape::Register(16));
+    done(&rt, assert_long(&host, rt.alloc(), false, sixteen));
+    done(&rt, assert_long(&host, rt.alloc(), true, Err(BAD)));
 }

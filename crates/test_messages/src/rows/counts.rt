@@ -1,8 +1,8 @@
 //! How many rows of each type a database has.
 
 use crate::host::Host;
-use crate::rows::worked::{apply, copy_of, dated_by, no_rows, put};
-use path_db::{Command, PathDb};
+use crate::rows::worked::{copy_of, dated_by, no_rows, purge, put, remove};
+use path_db::{Outcome, PathDb};
 use seg_core::SegType;
 use std::alloc::Global;
 use std::test::Fail;
@@ -37,9 +37,6 @@ const DOWN: SegType = SegType::Down;
 /// when that of the timestamp 10 expires.
 const TEN_EXPIRES: u64 = 43_220;
 
-/// The types, in the order of the counts.
-const KINDS: [SegType; 3] = [UP, CORE, DOWN];
-
 /// Registrations of new rows, of newer, equal and older ones, and of rows under other types;
 /// removals of a row, of none, and of one of another type; purges of none, of some and of all rows.
 #[rattlefmt::skip]
@@ -66,21 +63,21 @@ const STEPS: [Step; 20] = [
     Step { what: What::Purge(TEN_EXPIRES + 4), counts: [0, 0, 0] },
 ];
 
+/// The id of the segments that leave their first AS by an interface.
+fn id_of(alloc: Global, egress: u8) -> Result<[u8; 32], Fail> {
+    let segment = dated_by(alloc, 10, egress)?;
+    Ok(*segment.digest())
+}
+
 /// Does what a step says.
-fn take(alloc: Global, database: &mut PathDb, what: What) -> Result<(), Fail> {
-    match what {
+fn take(alloc: Global, database: &mut PathDb, what: What) -> Result<Outcome, Fail> {
+    Ok(match what {
         What::Register(kind, timestamp, egress) => {
-            put(alloc, database, kind, dated_by(alloc, timestamp, egress)?)?;
+            put(alloc, database, kind, dated_by(alloc, timestamp, egress)?)?
         }
-        What::Remove(kind, egress) => {
-            let id = *dated_by(alloc, 10, egress)?.digest();
-            apply(database, &Command::Remove(kind, id))?;
-        }
-        What::Purge(moment) => {
-            apply(database, &Command::Purge(moment))?;
-        }
-    }
-    Ok(())
+        What::Remove(kind, egress) => remove(database, kind, id_of(alloc, egress)?)?,
+        What::Purge(moment) => purge(database, moment)?,
+    })
 }
 
 /// How many of all rows are of a type.
@@ -94,29 +91,59 @@ fn counted(database: &PathDb, kind: SegType) -> usize {
     count
 }
 
-/// Checks the counts against a look at all rows, and against what they are.
-fn assert_counts(rt: &impl TestHost, database: &PathDb, step: &Step) {
-    for (kind, count) in KINDS.iter().zip(&step.counts) {
-        assert_same(rt, &database.len_of(*kind), count, step);
-        assert_same(rt, &counted(database, *kind), count, &("all rows", step));
-    }
+/// Checks the count of a type against a look at all rows, and against what it is.
+fn assert_count(rt: &impl TestHost, database: &PathDb, kind: SegType, count: usize, step: &Step) {
+    assert_same(rt, &database.len_of(kind), &count, step);
+    assert_same(rt, &counted(database, kind), &count, &("all rows", step));
 }
 
-/// Takes all steps, and looks at the database and at copies of it after each.
-fn assert_all_counted(rt: &impl TestHost, alloc: Global, database: PathDb) -> Result<(), Fail> {
-    let mut database = database;
+/// Checks all counts.
+fn assert_counts(rt: &impl TestHost, database: &PathDb, step: &Step) {
+    let [up, core, down] = step.counts;
+    assert_count(rt, database, UP, up, step);
+    assert_count(rt, database, CORE, core, step);
+    assert_count(rt, database, DOWN, down, step);
+}
+
+/// Checks the counts of a copy, with its indexes and then without them.
+fn assert_copies(rt: &impl TestHost, database: &PathDb, step: &Step) -> Result<(), Fail> {
+    let copy = copy_of(database)?;
+    assert_counts(rt, &copy, step);
+    assert_counts(rt, &copy.without_indexes(), step);
+    Ok(())
+}
+
+/// Takes a step, and looks at the database and at copies of it after that.
+fn assert_counted(
+    rt: &impl TestHost,
+    alloc: Global,
+    database: &mut PathDb,
+    step: &Step,
+) -> Result<(), Fail> {
+    take(alloc, database, step.what)?;
+    assert_counts(rt, database, step);
+    assert_copies(rt, database, step)
+}
+
+/// Takes all steps in a database.
+fn assert_all_counted(
+    rt: &impl TestHost,
+    alloc: Global,
+    database: &mut PathDb,
+) -> Result<(), Fail> {
     for step in &STEPS {
-        take(alloc, &mut database, step.what)?;
-        assert_counts(rt, &database, step);
-        assert_counts(rt, &copy_of(&database)?, step);
-        assert_counts(rt, &copy_of(&database)?.without_indexes(), step);
+        assert_counted(rt, alloc, database, step)?;
     }
     Ok(())
 }
 
 #[test]
 fn rows_of_each_type_are_counted(rt: HostRuntime) -> Result<(), Fail> {
-    let host = Host(&rt);
-    assert_all_counted(&host, rt.alloc(), no_rows(rt.alloc()))?;
-    assert_all_counted(&host, rt.alloc(), no_rows(rt.alloc()).without_indexes())
+    assert_all_counted(&Host(&rt), rt.alloc(), &mut no_rows(rt.alloc()))
+}
+
+#[test]
+fn rows_without_indexes_are_counted(rt: HostRuntime) -> Result<(), Fail> {
+    let mut database = no_rows(rt.alloc()).without_indexes();
+    assert_all_counted(&Host(&rt), rt.alloc(), &mut database)
 }

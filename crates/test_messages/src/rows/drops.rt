@@ -61,13 +61,18 @@ fn assert_drops(rt: &impl TestHost, database: &mut PathDb, row: &Drops) -> Resul
     Ok(())
 }
 
+/// Applies commands in turn.
+fn assert_each(rt: &impl TestHost, database: &mut PathDb, rows: &[Drops]) -> Result<(), Fail> {
+    for row in rows {
+        assert_drops(rt, database, row)?;
+    }
+    Ok(())
+}
+
 /// Applies commands in turn to a database of the worked down segment.
 fn assert_all(rt: &impl TestHost, alloc: Global, rows: &[Drops]) -> Result<(), Fail> {
     let mut database = row_of(alloc, SegType::Down)?;
-    for row in rows {
-        assert_drops(rt, &mut database, row)?;
-    }
-    Ok(())
+    assert_each(rt, &mut database, rows)
 }
 
 #[test]

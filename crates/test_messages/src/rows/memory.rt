@@ -1,8 +1,7 @@
 //! Refused memory: a command is applied completely or not at all.
 
-use crate::checks::assert_bytes;
 use crate::host::Host;
-use crate::rows::records::written;
+use crate::rows::records::{assert_written_as, written};
 use crate::rows::worked::{
     ID, apply, count_rows, dated_by, is_there, leaving_by, len_of, put, row_of,
 };
@@ -90,14 +89,18 @@ fn assert_sixteen(
     Ok(())
 }
 
+/// Registers sixteen rows in a database of one core segment.
+fn register_sixteen(rt: &impl TestHost, alloc: Global, database: &mut PathDb) -> Result<(), Fail> {
+    let command = sixteen(alloc)?;
+    Ok(assert_sixteen(rt, database, &command)?)
+}
+
 // Run with each allocation refused in turn. Where an allocation of the registration is refused, the
 // database is unchanged, and the registration succeeds when it is tried again.
 #[test]
 fn refused_registration_changes_nothing(rt: HostRuntime) -> Result<(), Fail> {
-    let host = Host(&rt);
     let mut database = row_of(rt.alloc(), SegType::Core)?;
-    let command = sixteen(rt.alloc())?;
-    Ok(assert_sixteen(&host, &mut database, &command)?)
+    register_sixteen(&Host(&rt), rt.alloc(), &mut database)
 }
 
 /// The command that registers eight newer segments with the ids of eight that are there, and eight
@@ -110,18 +113,12 @@ fn eight_and_eight(alloc: Global) -> Result<Command, Fail> {
     Ok(Command::Register(Registration::new(rows)))
 }
 
-/// A database of eight segments, and of a core segment.
-fn eight(alloc: Global) -> Result<PathDb, Fail> {
-    let mut database = row_of(alloc, SegType::Core)?;
+/// Registers eight segments.
+fn put_eight(alloc: Global, database: &mut PathDb) -> Result<(), Fail> {
     for egress in 1..=8 {
-        put(
-            alloc,
-            &mut database,
-            SegType::Down,
-            dated_by(alloc, 10, egress)?,
-        )?;
+        put(alloc, database, SegType::Down, dated_by(alloc, 10, egress)?)?;
     }
-    Ok(database)
+    Ok(())
 }
 
 /// The number of down segments that are shown from one AS to another.
@@ -131,46 +128,54 @@ fn count(database: &PathDb, start: u64, end: u64) -> Result<usize, Fail> {
     Ok(shown.len())
 }
 
-/// The records of all rows, and the number of down segments that are shown by the index of each end
-/// and by neither.
-fn whole(alloc: Global, database: &PathDb) -> Result<(Vec<u8>, [usize; 3]), Fail> {
-    let rows = written(alloc, database)?;
+/// The number of down segments that are shown by the index of each end and by neither.
+fn counts(database: &PathDb) -> Result<[usize; 3], Fail> {
     let by_first = count(database, 0x0001_ff00_0000_0110, 0)?;
     let by_last = count(database, 0, 0x0001_ff00_0000_0111)?;
-    Ok((rows, [by_first, by_last, count(database, 0, 0)?]))
+    Ok([by_first, by_last, count(database, 0, 0)?])
 }
 
-/// Checks that a database has these rows, and shows this by its indexes.
+/// Checks that a database has these rows, and shows eight by its indexes.
 fn assert_whole(
     rt: &impl TestHost,
     alloc: Global,
     database: &PathDb,
     rows: &[u8],
-    counts: [usize; 3],
 ) -> Result<(), Fail> {
-    let (found, shown) = whole(alloc, database)?;
-    assert_bytes(rt, &found, rows, "the rows");
-    assert_same(rt, &shown, &counts, &"by the indexes");
+    assert_written_as(rt, alloc, database, rows)?;
+    assert_same(rt, &counts(database)?, &[8, 8, 8], &"by the indexes");
     Ok(())
 }
 
-/// Applies a command. Where it is refused, the database is unchanged, and the command is applied
-/// again.
+/// Applies a command to a database of these rows. Where it is refused, the database is unchanged,
+/// and the command is applied again.
+fn replace_rows(
+    rt: &impl TestHost,
+    alloc: Global,
+    database: &mut PathDb,
+    command: &Command,
+    rows: &[u8],
+) -> Result<Outcome, Fail> {
+    match apply(database, command) {
+        Ok(outcome) => Ok(outcome),
+        Err(_) => {
+            assert_whole(rt, alloc, database, rows)?;
+            Ok(apply(database, command)?)
+        }
+    }
+}
+
+/// Applies a command to a database that shows eight by its indexes. Where it is refused, the
+/// database is unchanged, and the command is applied again.
 fn replace_again(
     rt: &impl TestHost,
     alloc: Global,
     database: &mut PathDb,
     command: &Command,
 ) -> Result<Outcome, Fail> {
-    let (rows, counts) = whole(alloc, database)?;
-    assert_same(rt, &counts, &[8, 8, 8], &"by the indexes");
-    match apply(database, command) {
-        Ok(outcome) => Ok(outcome),
-        Err(_) => {
-            assert_whole(rt, alloc, database, &rows, counts)?;
-            Ok(apply(database, command)?)
-        }
-    }
+    let rows = written(alloc, database)?;
+    assert_same(rt, &counts(database)?, &[8, 8, 8], &"by the indexes");
+    replace_rows(rt, alloc, database, command, &rows)
 }
 
 /// Checks that eight rows are replaced and eight inserted.
@@ -188,17 +193,22 @@ fn assert_replaced(
         purged: 0,
     };
     assert_same(rt, &outcome, &replaced, &"the outcome");
-    let shown = whole(alloc, database)?.1;
-    assert_same(rt, &shown, &[16, 16, 16], &"by the indexes");
+    assert_same(rt, &counts(database)?, &[16, 16, 16], &"by the indexes");
     Ok(())
+}
+
+/// Registers eight segments in a database of a core segment. Of these eight rows are replaced, and
+/// eight are inserted.
+fn replace_eight(rt: &impl TestHost, alloc: Global, database: &mut PathDb) -> Result<(), Fail> {
+    put_eight(alloc, database)?;
+    let command = eight_and_eight(alloc)?;
+    assert_replaced(rt, alloc, database, &command)
 }
 
 // Run with each allocation refused in turn, as the test above. All rows and both indexes are
 // compared.
 #[test]
 fn refused_replacement_changes_nothing(rt: HostRuntime) -> Result<(), Fail> {
-    let host = Host(&rt);
-    let mut database = eight(rt.alloc())?;
-    let command = eight_and_eight(rt.alloc())?;
-    assert_replaced(&host, rt.alloc(), &mut database, &command)
+    let mut database = row_of(rt.alloc(), SegType::Core)?;
+    replace_eight(&Host(&rt), rt.alloc(), &mut database)
 }

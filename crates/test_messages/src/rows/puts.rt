@@ -34,21 +34,24 @@ fn assert_put(
     Ok(())
 }
 
-// One segment with the timestamps 10, 11, 11 and 9, each time with another segment id, by which the
-// row is recognized.
-#[test]
-fn newer_timestamp_wins(rt: HostRuntime) -> Result<(), Fail> {
-    let host = Host(&rt);
-    let mut database = no_rows(rt.alloc());
-    for (put, found) in [
+/// Registers one segment with the timestamps 10, 11, 11 and 9, each time with another segment id.
+fn assert_puts(rt: &impl TestHost, alloc: Global, database: &mut PathDb) -> Result<(), Fail> {
+    for (put, found) in &[
         ((10, 1), (done(1, 0, 0), 1)),
         ((11, 2), (done(0, 1, 0), 2)),
         ((11, 3), (done(0, 0, 1), 2)),
         ((9, 4), (done(0, 0, 1), 2)),
     ] {
-        assert_put(&host, rt.alloc(), &mut database, put, found)?;
+        assert_put(rt, alloc, database, *put, *found)?;
     }
     Ok(())
+}
+
+// One segment with the timestamps 10, 11, 11 and 9, each time with another segment id, by which the
+// row is recognized.
+#[test]
+fn newer_timestamp_wins(rt: HostRuntime) -> Result<(), Fail> {
+    assert_puts(&Host(&rt), rt.alloc(), &mut no_rows(rt.alloc()))
 }
 
 /// Checks that the second of four segments is there once they are registered.
@@ -63,15 +66,18 @@ fn assert_second_stands(
     Ok(())
 }
 
+/// The command that registers four segments.
+fn register_four(rt: &impl TestHost, alloc: Global) -> Result<Command, Fail> {
+    let registration = four(alloc)?;
+    assert_same(rt, &registration.as_slice().len(), &4, &"segments");
+    Ok(Command::Register(Registration::new(registration.into_vec())))
+}
+
 // One registration, whose segments are put in their order.
 #[test]
 fn puts_are_in_order(rt: HostRuntime) -> Result<(), Fail> {
-    let host = Host(&rt);
-    let registration = four(rt.alloc())?;
-    assert_same(&host, &registration.as_slice().len(), &4, &"segments");
-    let again = Registration::new(registration.into_vec());
-    let mut database = no_rows(rt.alloc());
-    assert_second_stands(&host, &mut database, &Command::Register(again))
+    let command = register_four(&Host(&rt), rt.alloc())?;
+    assert_second_stands(&Host(&rt), &mut no_rows(rt.alloc()), &command)
 }
 
 /// The bytes of a database to which only this command was applied.
@@ -108,10 +114,19 @@ fn assert_within(
 
 /// Checks that a purge of nothing is applied with a limit of 0 bytes, and leaves this number of
 /// bytes.
-fn assert_purged(rt: &impl TestHost, database: &mut PathDb, len: u64) -> Result<(), Fail> {
-    let found = apply_within(database, &Command::Purge(0), 0)?;
-    assert_same(rt, &found, &done(0, 0, 0), &"the outcome");
+fn assert_purged(rt: &impl TestHost, database: &mut PathDb, len: u64) {
+    let found = apply_within(database, &Command::Purge(0), 0).ok();
+    assert_same(rt, &found, &Some(done(0, 0, 0)), &"the outcome");
     assert_same(rt, &len_of(database), &len, &"bytes");
+}
+
+/// Checks that the registration of a segment may reach the limit, and that a purge of nothing is
+/// applied with any limit.
+fn assert_limits(rt: &impl TestHost, alloc: Global, database: &mut PathDb) -> Result<(), Fail> {
+    let command = register(alloc, SegType::Down, dated(alloc, 10, 1)?)?;
+    let most = len_of_one(alloc, &command)?;
+    assert_within(rt, database, &command, most)?;
+    assert_purged(rt, database, most);
     Ok(())
 }
 
@@ -119,11 +134,6 @@ fn assert_purged(rt: &impl TestHost, database: &mut PathDb, len: u64) -> Result<
 // any limit.
 #[test]
 fn rows_stay_within_the_limit(rt: HostRuntime) {
-    let host = Host(&rt);
-    let segment = checks::done(&rt, dated(rt.alloc(), 10, 1));
-    let command = checks::done(&rt, register(rt.alloc(), SegType::Down, segment));
-    let most = checks::done(&rt, len_of_one(rt.alloc(), &command));
-    let mut database = no_rows(rt.alloc());
-    checks::done(&rt, assert_within(&host, &mut database, &command, most));
-    checks::done(&rt, assert_purged(&host, &mut database, most));
+    let checked = assert_limits(&Host(&rt), rt.alloc(), &mut no_rows(rt.alloc()));
+    checks::done(&rt, checked);
 }

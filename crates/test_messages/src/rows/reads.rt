@@ -3,11 +3,11 @@
 use crate::checks::{assert_bytes, done};
 use crate::host::Host;
 use crate::rows::worked::{
-    EXPIRY, ID, SEGMENT, apply, copy_of, count_rows, is_there, leaving_by, len_of, no_rows, put,
-    row_of, segment,
+    EXPIRY, ID, SEGMENT, copy_of, count_rows, is_there, leaving_by, len_of, no_rows, purge, put,
+    remove, row_of, segment,
 };
 use isd_as::IsdAs;
-use path_db::{Command, PathDb};
+use path_db::PathDb;
 use row_map::{Row, Rows};
 use seg_core::{SegType, Segment, write_segment};
 use std::alloc::{AllocError, Global};
@@ -33,21 +33,24 @@ fn assert_len_of_puts(
 
 /// Drops both rows, and checks how many bytes are left.
 fn assert_len_of_drops(rt: &impl TestHost, database: &mut PathDb) -> Result<(), Fail> {
-    apply(database, &Command::Remove(SegType::Down, ID))?;
+    remove(database, SegType::Down, ID)?;
     assert_same(rt, &len_of(database), &93, &"after the removal");
-    apply(database, &Command::Purge(EXPIRY))?;
+    purge(database, EXPIRY)?;
     assert_same(rt, &len_of(database), &0, &"after the purge");
     Ok(())
+}
+
+/// Puts rows into a database, drops them, and checks how many bytes the rows have.
+fn assert_len(rt: &impl TestHost, alloc: Global, database: &mut PathDb) -> Result<(), Fail> {
+    assert_same(rt, &len_of(database), &0, &"no rows");
+    assert_len_of_puts(rt, alloc, database)?;
+    assert_len_of_drops(rt, database)
 }
 
 // A row of the worked segment, whose encoding has 88 bytes, has 93.
 #[test]
 fn encoded_len_is_kept(rt: HostRuntime) -> Result<(), Fail> {
-    let host = Host(&rt);
-    let mut database = no_rows(rt.alloc());
-    assert_same(&host, &len_of(&database), &0, &"no rows");
-    assert_len_of_puts(&host, rt.alloc(), &mut database)?;
-    assert_len_of_drops(&host, &mut database)
+    assert_len(&Host(&rt), rt.alloc(), &mut no_rows(rt.alloc()))
 }
 
 /// The interface by which the segment of a row leaves its first AS.
@@ -63,46 +66,55 @@ fn next_of(rows: &mut Rows<'_>) -> Option<(SegType, u16)> {
     rows.next().map(|row| (row.kind, egress_of(row)))
 }
 
-/// Four segments under each type, in no order.
-fn twelve(alloc: Global) -> Result<PathDb, Fail> {
-    let mut database = no_rows(alloc);
-    for kind in [SegType::Core, SegType::Down, SegType::Up] {
-        for egress in 1..=4 {
-            put(alloc, &mut database, kind, leaving_by(alloc, egress)?)?;
-        }
+/// Registers four segments under a type, in no order.
+fn put_four(alloc: Global, database: &mut PathDb, kind: SegType) -> Result<(), Fail> {
+    for egress in 1..=4 {
+        put(alloc, database, kind, leaving_by(alloc, egress)?)?;
     }
-    Ok(database)
+    Ok(())
+}
+
+/// Checks that the next four rows are of a type, in the order of their ids.
+fn assert_next_four(rt: &impl TestHost, rows: &mut Rows<'_>, kind: SegType) {
+    for egress in &[2, 1, 3, 4] {
+        assert_same(rt, &next_of(rows), &Some((kind, *egress)), &"a row");
+    }
+}
+
+/// Checks that rows are in the order of their keys.
+fn assert_order(rt: &impl TestHost, rows: &mut Rows<'_>) {
+    assert_next_four(rt, rows, SegType::Up);
+    assert_next_four(rt, rows, SegType::Down);
+    assert_next_four(rt, rows, SegType::Core);
+    assert_same(rt, &next_of(rows), &None, &"the end");
+}
+
+/// Registers four segments under each type, and checks the order of the rows.
+fn assert_twelve(rt: &impl TestHost, alloc: Global, database: &mut PathDb) -> Result<(), Fail> {
+    put_four(alloc, database, SegType::Core)?;
+    put_four(alloc, database, SegType::Down)?;
+    put_four(alloc, database, SegType::Up)?;
+    assert_order(rt, &mut database.rows());
+    Ok(())
 }
 
 // The order of the ids is that of SHA-256's bytes.
 #[test]
 fn rows_are_in_the_order_of_their_keys(rt: HostRuntime) -> Result<(), Fail> {
-    let host = Host(&rt);
-    let database = twelve(rt.alloc())?;
-    let mut rows = database.rows();
-    for kind in [SegType::Up, SegType::Down, SegType::Core] {
-        for egress in [2, 1, 3, 4] {
-            assert_same(&host, &next_of(&mut rows), &Some((kind, egress)), &"a row");
-        }
-    }
-    assert_same(&host, &next_of(&mut rows), &None, &"the end");
-    Ok(())
+    assert_twelve(&Host(&rt), rt.alloc(), &mut no_rows(rt.alloc()))
+}
+
+/// Checks that a row is that of the worked segment.
+fn assert_row(rt: &impl TestHost, row: &Row) {
+    assert_same(rt, &(row.kind, *row.id()), &(SegType::Down, ID), &"a row");
 }
 
 // A row of the worked segment has its id, and so has a copy.
 #[test]
 fn rows_have_ids(rt: HostRuntime) {
-    let host = Host(&rt);
     let row = Row::new(SegType::Down, done(&rt, segment(rt.alloc())));
-    let copy = row.try_clone().expect(&rt, "a copy");
-    for row in [&row, &copy] {
-        assert_same(
-            &host,
-            &(row.kind, *row.id()),
-            &(SegType::Down, ID),
-            &"a row",
-        );
-    }
+    assert_row(&Host(&rt), &row);
+    assert_row(&Host(&rt), &row.try_clone().expect(&rt, "a copy"));
 }
 
 /// A segment's type and id, and whether it is in a database of the worked down segment.
@@ -129,31 +141,39 @@ fn assert_found(rt: &impl TestHost, database: &PathDb) {
     assert_same(rt, &len_of(database), &93, &"bytes");
 }
 
+/// Checks that the worked segment is found in a database, and in a copy too.
+fn assert_both_found(rt: &impl TestHost, database: &PathDb) -> Result<(), Fail> {
+    assert_found(rt, database);
+    assert_found(rt, &copy_of(database)?);
+    Ok(())
+}
+
 // The worked segment is found under its type and its id alone, and in a copy too.
 #[test]
 fn segments_are_found(rt: HostRuntime) {
-    let host = Host(&rt);
     let database = done(&rt, row_of(rt.alloc(), SegType::Down));
-    let copy = copy_of(&database).expect(&rt, "a copy");
-    assert_found(&host, &database);
-    assert_found(&host, &copy);
+    done(&rt, assert_both_found(&Host(&rt), &database));
 }
 
 /// Checks that a purge of a database does not change its copy.
 fn assert_apart(rt: &impl TestHost, database: &mut PathDb, copy: &PathDb) -> Result<(), Fail> {
-    apply(database, &Command::Purge(EXPIRY))?;
+    purge(database, EXPIRY)?;
     let counts = (count_rows(database), count_rows(copy));
     assert_same(rt, &counts, &(0, 1), &"rows, and the copy's");
     Ok(())
 }
 
+/// Checks that a purge of a database does not change a copy that is made before that.
+fn assert_copy_apart(rt: &impl TestHost, database: &mut PathDb) -> Result<(), Fail> {
+    let copy = copy_of(database)?;
+    assert_apart(rt, database, &copy)
+}
+
 // A change of a database does not change its copy.
 #[test]
 fn copies_are_apart(rt: HostRuntime) {
-    let host = Host(&rt);
     let mut database = done(&rt, row_of(rt.alloc(), SegType::Down));
-    let copy = copy_of(&database).expect(&rt, "a copy");
-    done(&rt, assert_apart(&host, &mut database, &copy));
+    done(&rt, assert_copy_apart(&Host(&rt), &mut database));
 }
 
 /// A look into a database: the type of the segments, the numbers of the ASes from and to which
@@ -206,6 +226,14 @@ fn assert_worked(rt: &impl TestHost, alloc: Global, segment: &Segment) -> Result
     Ok(())
 }
 
+/// Checks that each of these segments is the worked one.
+fn assert_all_worked(rt: &impl TestHost, alloc: Global, segments: &[Segment]) -> Result<(), Fail> {
+    for segment in segments {
+        assert_worked(rt, alloc, segment)?;
+    }
+    Ok(())
+}
+
 /// Checks what a look into a database of the worked segment shows.
 fn assert_shown(
     rt: &impl TestHost,
@@ -215,31 +243,46 @@ fn assert_shown(
 ) -> Result<(), Fail> {
     let shown = matching(database, look)?;
     assert_same(rt, &shown.len(), &look.shown, &look.name);
-    for segment in &shown {
-        assert_worked(rt, alloc, segment)?;
+    assert_all_worked(rt, alloc, &shown)
+}
+
+/// Checks all looks into a database of the worked segment.
+fn assert_all_shown(rt: &impl TestHost, alloc: Global, database: &PathDb) -> Result<(), Fail> {
+    for look in &LOOKS {
+        assert_shown(rt, alloc, database, look)?;
     }
     Ok(())
 }
 
 #[test]
 fn segments_are_shown(rt: HostRuntime) {
-    let host = Host(&rt);
     let database = done(&rt, row_of(rt.alloc(), SegType::Down));
-    for look in &LOOKS {
-        done(&rt, assert_shown(&host, rt.alloc(), &database, look));
-    }
+    let checked = assert_all_shown(&Host(&rt), rt.alloc(), &database);
+    done(&rt, checked);
+}
+
+/// Checks that no rows are left after a purge.
+fn assert_purged(rt: &impl TestHost, database: &mut PathDb) -> Result<(), Fail> {
+    purge(database, EXPIRY)?;
+    assert_same(rt, &count_rows(database), &0, &"rows after the purge");
+    Ok(())
+}
+
+/// Registers the worked segment, checks all looks, and purges the rows.
+fn assert_shown_till_purged(
+    rt: &impl TestHost,
+    alloc: Global,
+    database: &mut PathDb,
+) -> Result<(), Fail> {
+    put(alloc, database, SegType::Down, segment(alloc)?)?;
+    assert_all_shown(rt, alloc, database)?;
+    assert_purged(rt, database)
 }
 
 // The same segments are shown by a database without its indexes, which takes further commands.
 #[test]
 fn segments_are_shown_without_indexes(rt: HostRuntime) {
-    let host = Host(&rt);
     let mut database = no_rows(rt.alloc()).without_indexes();
-    let worked = done(&rt, segment(rt.alloc()));
-    done(&rt, put(rt.alloc(), &mut database, SegType::Down, worked));
-    for look in &LOOKS {
-        done(&rt, assert_shown(&host, rt.alloc(), &database, look));
-    }
-    apply(&mut database, &Command::Purge(EXPIRY)).expect(&rt, "the command is applied");
-    assert_same(&host, &count_rows(&database), &0, &"rows after the purge");
+    let checked = assert_shown_till_purged(&Host(&rt), rt.alloc(), &mut database);
+    done(&rt, checked);
 }

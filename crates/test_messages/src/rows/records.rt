@@ -85,15 +85,20 @@ fn assert_three(rt: &impl TestHost, database: &PathDb) {
     }
 }
 
+/// Checks that the worked row under each type is read from bytes, and written as them.
+fn assert_read_and_written(rt: &impl TestHost, alloc: Global, bytes: &[u8]) -> Result<(), Fail> {
+    let database = read_again(alloc, bytes)?;
+    assert_three(rt, &database);
+    assert_written_as(rt, alloc, &database, bytes)
+}
+
 // The worked row under each type: it is read, its id is computed again, and it is written as it
 // was.
 #[test]
 fn rows_are_read_and_written(rt: HostRuntime) {
-    let host = Host(&rt);
     let bytes = done(&rt, rows_of(rt.alloc(), &[1, 2, 3]));
-    let database = read_again(rt.alloc(), &bytes).expect(&rt, "the rows are read");
-    assert_three(&host, &database);
-    done(&rt, assert_written_as(&host, rt.alloc(), &database, &bytes));
+    let checked = assert_read_and_written(&Host(&rt), rt.alloc(), &bytes);
+    done(&rt, checked);
 }
 
 /// The numbers of three rows' types, and how many rows are read.
@@ -133,18 +138,35 @@ fn two_rows(alloc: Global, first: u8, second: u8) -> Result<Vec<u8>, Fail> {
     Ok(bytes)
 }
 
+/// Checks how many rows are read where they are of these types.
+fn assert_kinds(
+    rt: &impl TestHost,
+    alloc: Global,
+    kinds: &[u8],
+    expected: Result<usize, DbError>,
+) -> Result<(), Fail> {
+    let bytes = rows_of(alloc, kinds)?;
+    assert_same(rt, &count_of(alloc, &bytes), &expected, &kinds);
+    Ok(())
+}
+
+/// Checks how many rows are read where they have these interfaces.
+fn assert_egresses(rt: &impl TestHost, alloc: Global, row: &TwoRows) -> Result<(), Fail> {
+    let bytes = two_rows(alloc, row.first, row.second)?;
+    let found = count_of(alloc, &bytes);
+    assert_same(rt, &found, &row.count, &(row.first, row.second));
+    Ok(())
+}
+
 // The first fault is reported: the second row's order before the third row's type.
 #[test]
 fn keys_rise(rt: HostRuntime) {
     let host = Host(&rt);
-    for (kinds, expected) in KINDS {
-        let bytes = done(&rt, rows_of(rt.alloc(), &kinds));
-        assert_same(&host, &count_of(rt.alloc(), &bytes), &expected, &kinds);
+    for (kinds, expected) in &KINDS {
+        done(&rt, assert_kinds(&host, rt.alloc(), kinds, *expected));
     }
     for row in &EGRESSES {
-        let bytes = done(&rt, two_rows(rt.alloc(), row.first, row.second));
-        let found = count_of(rt.alloc(), &bytes);
-        assert_same(&host, &found, &row.count, &(row.first, row.second));
+        done(&rt, assert_egresses(&host, rt.alloc(), row));
     }
 }
 
@@ -196,15 +218,31 @@ const CHANGED_ROWS: [ChangedRow; 17] = [
     ChangedRow { what: "the last MTU", at: 278, byte: 0x0c, count: Ok(3) },
 ];
 
+/// Checks how many of these rows are read where a byte is changed.
+fn assert_changed(
+    rt: &impl TestHost,
+    alloc: Global,
+    bytes: &[u8],
+    row: &ChangedRow,
+) -> Result<(), Fail> {
+    let changed = changed(alloc, bytes, row.at, row.byte)?;
+    assert_same(rt, &count_of(alloc, &changed), &row.count, &row.what);
+    Ok(())
+}
+
+/// Checks all changes of these rows.
+fn assert_all_changed(rt: &impl TestHost, alloc: Global, bytes: &[u8]) -> Result<(), Fail> {
+    for row in &CHANGED_ROWS {
+        assert_changed(rt, alloc, bytes, row)?;
+    }
+    Ok(())
+}
+
 // Three rows with one byte changed: each begins 93 bytes after the one before, its segment 5 bytes
 // later.
 #[test]
 fn changed_rows(rt: HostRuntime) {
-    let host = Host(&rt);
     let bytes = done(&rt, rows_of(rt.alloc(), &[1, 2, 3]));
-    for row in &CHANGED_ROWS {
-        let changed = done(&rt, changed(rt.alloc(), &bytes, row.at, row.byte));
-        let count = count_of(rt.alloc(), &changed);
-        assert_same(&host, &count, &row.count, &row.what);
-    }
+    let checked = assert_all_changed(&Host(&rt), rt.alloc(), &bytes);
+    done(&rt, checked);
 }

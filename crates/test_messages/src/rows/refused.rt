@@ -47,12 +47,16 @@ fn assert_appended(
     Ok(())
 }
 
+/// Checks that the rows of these bytes are written as they are, after the earlier bytes.
+fn assert_rows_appended(rt: &impl TestHost, alloc: Global, bytes: &[u8]) -> Result<(), Fail> {
+    let database = read_once(alloc, bytes)?;
+    assert_appended(rt, alloc, &database, bytes)
+}
+
 #[test]
 fn refused_memory_of_written_rows(rt: HostRuntime) -> Result<(), Fail> {
-    let host = Host(&rt);
     let bytes = rows_of(rt.alloc(), &[1, 2, 3])?;
-    let database = read_once(rt.alloc(), &bytes)?;
-    assert_appended(&host, rt.alloc(), &database, &bytes)
+    assert_rows_appended(&Host(&rt), rt.alloc(), &bytes)
 }
 
 /// Checks that a database is written as these bytes, or that reading was refused with this error,
@@ -60,31 +64,44 @@ fn refused_memory_of_written_rows(rt: HostRuntime) -> Result<(), Fail> {
 fn assert_rows(
     rt: &impl TestHost,
     alloc: Global,
-    read: Result<PathDb, DbError>,
+    read: &Result<PathDb, DbError>,
     bytes: &[u8],
     refusal: Option<DbError>,
 ) -> Result<(), Fail> {
     match read {
         Ok(database) => {
             assert_same(rt, &refusal, &None, &"rows are read");
-            assert_written_as(rt, alloc, &database, bytes)?;
+            assert_written_as(rt, alloc, database, bytes)?;
         }
-        Err(found) => assert_same(rt, &Some(found), &refusal, &"rows are refused"),
+        Err(found) => assert_same(rt, &Some(*found), &refusal, &"rows are refused"),
     }
     Ok(())
+}
+
+/// The types of three rows, and why these are refused.
+const KINDS: [([u8; 3], Option<DbError>); 3] = [
+    ([1, 2, 3], None),
+    ([1, 3, 2], Some(DbError::Order)),
+    ([1, 2, 4], Some(DbError::BadRecord)),
+];
+
+/// Checks what rows of these types are read as.
+fn assert_rows_of(
+    rt: &impl TestHost,
+    alloc: Global,
+    kinds: &[u8],
+    refusal: Option<DbError>,
+) -> Result<(), Fail> {
+    let bytes = rows_of(alloc, kinds)?;
+    let read = read_again(alloc, &bytes);
+    assert_rows(rt, alloc, &read, &bytes, refusal)
 }
 
 #[test]
 fn refused_memory_of_read_rows(rt: HostRuntime) -> Result<(), Fail> {
     let host = Host(&rt);
-    for (kinds, refusal) in [
-        ([1, 2, 3], None),
-        ([1, 3, 2], Some(DbError::Order)),
-        ([1, 2, 4], Some(DbError::BadRecord)),
-    ] {
-        let bytes = rows_of(rt.alloc(), &kinds)?;
-        let read = read_again(rt.alloc(), &bytes);
-        assert_rows(&host, rt.alloc(), read, &bytes, refusal)?;
+    for (kinds, refusal) in &KINDS {
+        assert_rows_of(&host, rt.alloc(), kinds, *refusal)?;
     }
     Ok(())
 }
@@ -98,20 +115,31 @@ fn read_in_pieces(alloc: Global, bytes: &[u8]) -> Result<PathDb, DbError> {
     reader.finish()
 }
 
+/// The same; where memory is refused, the pieces are fed again.
+fn read_in_pieces_again(alloc: Global, bytes: &[u8]) -> Result<PathDb, DbError> {
+    match read_in_pieces(alloc, bytes) {
+        Err(DbError::NoMemory) => read_in_pieces(alloc, bytes),
+        read => read,
+    }
+}
+
+/// Checks what rows of these types are read as in pieces.
+fn assert_pieces_of(
+    rt: &impl TestHost,
+    alloc: Global,
+    kinds: &[u8],
+    refusal: Option<DbError>,
+) -> Result<(), Fail> {
+    let bytes = rows_of(alloc, kinds)?;
+    let read = read_in_pieces_again(alloc, &bytes);
+    assert_rows(rt, alloc, &read, &bytes, refusal)
+}
+
 #[test]
 fn refused_memory_of_rows_in_pieces(rt: HostRuntime) -> Result<(), Fail> {
     let host = Host(&rt);
-    for (kinds, refusal) in [
-        ([1, 2, 3], None),
-        ([1, 3, 2], Some(DbError::Order)),
-        ([1, 2, 4], Some(DbError::BadRecord)),
-    ] {
-        let bytes = rows_of(rt.alloc(), &kinds)?;
-        let read = match read_in_pieces(rt.alloc(), &bytes) {
-            Err(DbError::NoMemory) => read_in_pieces(rt.alloc(), &bytes),
-            read => read,
-        };
-        assert_rows(&host, rt.alloc(), read, &bytes, refusal)?;
+    for (kinds, refusal) in &KINDS {
+        assert_pieces_of(&host, rt.alloc(), kinds, *refusal)?;
     }
     Ok(())
 }
@@ -128,15 +156,25 @@ const REMOVAL: [u8; 34] = [
 ];
 
 /// Checks that a command is written as these bytes, after the earlier bytes.
-fn assert_written(rt: &impl TestHost, alloc: Global, bytes: &[u8]) -> Result<(), Fail> {
-    let command = read_command(alloc, bytes, true)?;
+fn assert_command_appended(
+    rt: &impl TestHost,
+    alloc: Global,
+    command: &Command,
+    bytes: &[u8],
+) -> Result<(), Fail> {
     let mut out = Vec::from_slice(alloc, &FRONT)?;
-    if write_command(&command, &mut out).is_err() {
+    if write_command(command, &mut out).is_err() {
         assert_behind_front(rt, &out, &[]);
-        write_command(&command, &mut out)?;
+        write_command(command, &mut out)?;
     }
     assert_behind_front(rt, &out, bytes);
     Ok(())
+}
+
+/// Checks that the command of these bytes is written as they are, after the earlier bytes.
+fn assert_written(rt: &impl TestHost, alloc: Global, bytes: &[u8]) -> Result<(), Fail> {
+    let command = read_command(alloc, bytes, true)?;
+    assert_command_appended(rt, alloc, &command, bytes)
 }
 
 #[test]
@@ -179,17 +217,37 @@ fn assert_read(
     Ok(())
 }
 
+/// Checks that a registration is refused where its third segment is of no type.
+fn assert_third_is_none(rt: &impl TestHost, alloc: Global, three: &[u8]) -> Result<(), Fail> {
+    let third_is_none = changed(alloc, three, 188, 4)?;
+    assert_read(rt, alloc, &third_is_none, true, false)
+}
+
+/// Checks the registration of three segments, and how it is refused.
+fn assert_three(rt: &impl TestHost, alloc: Global) -> Result<(), Fail> {
+    let three = registration(alloc, 3)?;
+    assert_read(rt, alloc, &three, true, true)?;
+    assert_third_is_none(rt, alloc, &three)
+}
+
+/// Checks that the registration of 17 segments is refused.
+fn assert_seventeen(rt: &impl TestHost, alloc: Global) -> Result<(), Fail> {
+    let seventeen = registration(alloc, 17)?;
+    assert_read(rt, alloc, &seventeen, false, false)
+}
+
+/// Checks the other commands, which take no memory.
+fn assert_others(rt: &impl TestHost, alloc: Global) -> Result<(), Fail> {
+    assert_read(rt, alloc, &PURGE, false, true)?;
+    assert_read(rt, alloc, &REMOVAL, false, true)?;
+    assert_read(rt, alloc, &PURGE[..8], false, false)?;
+    assert_read(rt, alloc, &REMOVAL[..33], false, false)
+}
+
 #[test]
 fn refused_memory_of_read_commands(rt: HostRuntime) -> Result<(), Fail> {
     let host = Host(&rt);
-    let three = registration(rt.alloc(), 3)?;
-    let third_is_none = changed(rt.alloc(), &three, 188, 4)?;
-    let seventeen = registration(rt.alloc(), 17)?;
-    assert_read(&host, rt.alloc(), &three, true, true)?;
-    assert_read(&host, rt.alloc(), &third_is_none, true, false)?;
-    assert_read(&host, rt.alloc(), &seventeen, false, false)?;
-    assert_read(&host, rt.alloc(), &PURGE, false, true)?;
-    assert_read(&host, rt.alloc(), &REMOVAL, false, true)?;
-    assert_read(&host, rt.alloc(), &PURGE[..8], false, false)?;
-    assert_read(&host, rt.alloc(), &REMOVAL[..33], false, false)
+    assert_three(&host, rt.alloc())?;
+    assert_seventeen(&host, rt.alloc())?;
+    assert_others(&host, rt.alloc())
 }

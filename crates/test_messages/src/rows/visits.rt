@@ -2,7 +2,7 @@
 
 use crate::checks::done;
 use crate::host::Host;
-use crate::rows::worked::{apply, copy_of, count_rows, no_rows};
+use crate::rows::worked::{apply, copy_of, count_rows, no_rows, purge};
 use path_db::{Command, PathDb, Registration};
 use seg_core::{SegType, Segment, read_segment};
 use std::alloc::Global;
@@ -33,6 +33,16 @@ fn numbered(alloc: Global, number: u32, exp_time: u8) -> Result<Segment, Fail> {
     Ok(read_segment(alloc, &message)?)
 }
 
+/// The command that registers down segments from the ASes of `count` numbers from `first` on.
+fn many(alloc: Global, first: u32, count: u32, exp_time: u8) -> Result<Command, Fail> {
+    let mut rows = Vec::new(alloc);
+    for number in 0..count {
+        let segment = numbered(alloc, first.wrapping_add(number), exp_time)?;
+        rows.push((SegType::Down, segment))?;
+    }
+    Ok(Command::Register(Registration::new(rows)))
+}
+
 /// Registers down segments from the ASes of `count` numbers from `first` on, in one registration.
 fn fill(
     alloc: Global,
@@ -41,23 +51,17 @@ fn fill(
     count: u32,
     exp_time: u8,
 ) -> Result<(), Fail> {
-    let mut rows = Vec::new(alloc);
-    for number in 0..count {
-        let segment = numbered(alloc, first.wrapping_add(number), exp_time)?;
-        rows.push((SegType::Down, segment))?;
-    }
-    apply(database, &Command::Register(Registration::new(rows)))?;
+    let command = many(alloc, first, count, exp_time)?;
+    apply(database, &command)?;
     Ok(())
 }
 
-/// A database of the rows that no purge drops, of 100 rows that expire one unit earlier, and of one
-/// that expires two units earlier.
-fn many(alloc: Global) -> Result<PathDb, Fail> {
-    let mut database = no_rows(alloc);
-    fill(alloc, &mut database, LEAST, ROWS, 63)?;
-    fill(alloc, &mut database, LEAST + ROWS, 100, 62)?;
-    fill(alloc, &mut database, LEAST + ROWS + 100, 1, 61)?;
-    Ok(database)
+/// Registers the rows that no purge drops, 100 rows that expire one unit earlier, and one that
+/// expires two units earlier.
+fn fill_many(alloc: Global, database: &mut PathDb) -> Result<(), Fail> {
+    fill(alloc, database, LEAST, ROWS, 63)?;
+    fill(alloc, database, LEAST + ROWS, 100, 62)?;
+    fill(alloc, database, LEAST + ROWS + 100, 1, 61)
 }
 
 /// Purges, and checks how many rows are dropped and that few were visited: a bucket of 65,536 of a
@@ -69,7 +73,7 @@ fn assert_purge(
     dropped: u32,
 ) -> Result<(), Fail> {
     let before = database.visited_by_purges();
-    let outcome = apply(database, &Command::Purge(moment))?;
+    let outcome = purge(database, moment)?;
     let visited = database.visited_by_purges().saturating_sub(before);
     assert_same(rt, &outcome.purged, &dropped, &moment);
     let is_few = visited <= (u64::from(dropped) + 1) * 64;
@@ -77,21 +81,37 @@ fn assert_purge(
     Ok(())
 }
 
+/// Moments, and how many rows are dropped by a purge at each, after those before it.
+const PURGES: [(u64, u32); 4] = [
+    (EXPIRY - 3 * UNIT, 0),
+    (EXPIRY - 2 * UNIT, 1),
+    (EXPIRY - UNIT, 100),
+    (EXPIRY - 1, 0),
+];
+
 /// Purges of no row, of one and of 100 rows leave the others.
 fn assert_purges(rt: &impl TestHost, database: &mut PathDb) -> Result<(), Fail> {
-    assert_purge(rt, database, EXPIRY - 3 * UNIT, 0)?;
-    assert_purge(rt, database, EXPIRY - 2 * UNIT, 1)?;
-    assert_purge(rt, database, EXPIRY - UNIT, 100)?;
-    assert_purge(rt, database, EXPIRY - 1, 0)?;
+    for (moment, dropped) in &PURGES {
+        assert_purge(rt, database, *moment, *dropped)?;
+    }
     assert_same(rt, &count_rows(database), &100_000, &"rows");
     Ok(())
 }
 
+/// Registers those rows in a database, makes a copy of it, and purges both.
+fn assert_both_purged(
+    rt: &impl TestHost,
+    alloc: Global,
+    database: &mut PathDb,
+) -> Result<(), Fail> {
+    fill_many(alloc, database)?;
+    let mut copy = copy_of(database)?;
+    assert_purges(rt, database)?;
+    assert_purges(rt, &mut copy)
+}
+
 #[test]
 fn purges_visit_few_rows(rt: HostRuntime) {
-    let host = Host(&rt);
-    let mut database = done(&rt, many(rt.alloc()));
-    let mut copy = copy_of(&database).expect(&rt, "a copy");
-    done(&rt, assert_purges(&host, &mut database));
-    done(&rt, assert_purges(&host, &mut copy));
+    let checked = assert_both_purged(&Host(&rt), rt.alloc(), &mut no_rows(rt.alloc()));
+    done(&rt, checked);
 }

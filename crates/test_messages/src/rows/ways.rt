@@ -80,23 +80,29 @@ fn put_between(alloc: Global, database: &mut PathDb, start: u64, end: u64) -> Re
     Ok(())
 }
 
-/// 50,000 rows from ISD 3 and two from ISD 4 to `GREAT`, 49,995 from ISD 2 to one AS of ISD 3, and
-/// three from `SMALL`.
-fn filled(alloc: Global) -> Result<PathDb, Fail> {
-    let mut database = no_rows(alloc);
-    for asn in 0..50_000u64 {
-        put_between(alloc, &mut database, ISD_3 + 1 + asn, GREAT)?;
+/// Puts core segments from the ASes of `count` numbers from `first` on to one end.
+fn put_many(
+    alloc: Global,
+    database: &mut PathDb,
+    first: u64,
+    count: u64,
+    end: u64,
+) -> Result<(), Fail> {
+    for number in 0..count {
+        put_between(alloc, database, first.wrapping_add(number), end)?;
     }
-    for asn in 0..49_995u64 {
-        put_between(alloc, &mut database, ISD_2 + 100 + asn, ISD_3 + 9)?;
+    Ok(())
+}
+
+/// Puts 50,000 rows from ISD 3 and two from ISD 4 to `GREAT`, 49,995 from ISD 2 to one AS of ISD 3,
+/// and three from `SMALL`.
+fn fill(alloc: Global, database: &mut PathDb) -> Result<(), Fail> {
+    put_many(alloc, database, ISD_3 + 1, 50_000, GREAT)?;
+    put_many(alloc, database, ISD_2 + 100, 49_995, ISD_3 + 9)?;
+    for end in &[GREAT, ISD_3 + 8, ISD_3 + 10] {
+        put_between(alloc, database, SMALL, *end)?;
     }
-    for end in [GREAT, ISD_3 + 8, ISD_3 + 10] {
-        put_between(alloc, &mut database, SMALL, end)?;
-    }
-    for start in [ISD_4 + 1, ISD_4 + 2] {
-        put_between(alloc, &mut database, start, GREAT)?;
-    }
-    Ok(database)
+    put_many(alloc, database, ISD_4 + 1, 2, GREAT)
 }
 
 /// A look: the patterns for the ends, how many segments are shown, and the most rows that are
@@ -137,11 +143,17 @@ fn assert_look(rt: &impl TestHost, database: &PathDb, look: &Look) -> Result<(),
     Ok(())
 }
 
+/// Puts those rows into a database, and checks all looks.
+fn assert_looks(rt: &impl TestHost, alloc: Global, database: &mut PathDb) -> Result<(), Fail> {
+    fill(alloc, database)?;
+    for look in &LOOKS {
+        assert_look(rt, database, look)?;
+    }
+    Ok(())
+}
+
 #[test]
 fn short_ways_are_found(rt: HostRuntime) {
-    let host = Host(&rt);
-    let database = done(&rt, filled(rt.alloc()));
-    for look in &LOOKS {
-        done(&rt, assert_look(&host, &database, look));
-    }
+    let checked = assert_looks(&Host(&rt), rt.alloc(), &mut no_rows(rt.alloc()));
+    done(&rt, checked);
 }

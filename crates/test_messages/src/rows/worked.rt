@@ -57,6 +57,20 @@ pub(crate) fn apply(database: &mut PathDb, command: &Command) -> Result<Outcome,
     database.apply(command)
 }
 
+/// Purges what expires before a moment.
+pub(crate) fn purge(database: &mut PathDb, moment: u64) -> Result<Outcome, AllocError> {
+    apply(database, &Command::Purge(moment))
+}
+
+/// Removes the segment of a type and an id.
+pub(crate) fn remove(
+    database: &mut PathDb,
+    kind: SegType,
+    id: [u8; 32],
+) -> Result<Outcome, AllocError> {
+    apply(database, &Command::Remove(kind, id))
+}
+
 /// Registers a segment.
 pub(crate) fn put(
     alloc: Global,

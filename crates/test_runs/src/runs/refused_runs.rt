@@ -1,7 +1,7 @@
 //! Want of memory in runs. The tests are run with each of their allocations refused in turn: an
 //! event that is refused changes nothing, and is answered as it was to be when it is tried again.
 
-use crate::runs::host::Host;
+use crate::host::Host;
 use crate::runs::runs::{rested, sealed_run};
 use group_core::{BeginError, StageError, SubmitError};
 use group_recovery::{PublishRefusal, Reply, Run, run};
@@ -12,7 +12,7 @@ use std::test::Fail;
 use test_group_scripts::acts::{Act, GONE, INSERTED, Line, Said, event_of, events_of, heard};
 use test_group_scripts::runs::{done, ended};
 use test_group_scripts::stores::{Contents, assert_contents, assert_opens_to, contents_at};
-use test_support::assert_same;
+use test_support::{TestHost, assert_same};
 
 /// The events and answers of a state whose store was sealed at place 1, after the segment left by
 /// interface 1: a group, a round, and a further group that is written.
@@ -49,6 +49,14 @@ const STEPS: [Line; 27] = [
 /// After this number of them the first group is durable, and is not published yet.
 const DURABLE: usize = 9;
 
+/// What the reply to one event says.
+fn said(rt: &Host<impl Abort>, replies: &[Reply]) -> Said {
+    match replies.first() {
+        Some(reply) => heard(reply),
+        None => rt.fail("no reply"),
+    }
+}
+
 /// What one event is answered.
 fn answered(
     rt: &Host<impl Abort>,
@@ -59,10 +67,7 @@ fn answered(
     let events = [event_of(rt, alloc, act)];
     match run(alloc, held, &events) {
         Err((held, _refused)) => (held, Said::NotRun),
-        Ok((held, replies)) => match replies.first() {
-            Some(reply) => (held, heard(reply)),
-            None => panic!(rt.0; "no reply"),
-        },
+        Ok((held, replies)) => (held, said(rt, &replies)),
     }
 }
 
@@ -133,25 +138,30 @@ fn refused_events_may_be_tried_again(rt: HostRuntime) -> Result<(), Fail> {
     Ok(())
 }
 
+/// The device of a run that has ended. Where its end is refused, the group is not published yet,
+/// and the end is tried again.
+fn ended_again(rt: &Host<impl Abort>, alloc: Global, held: Run<MemDevice>) -> MemDevice {
+    let held = match held.wind_up() {
+        Ok(device) => return device,
+        Err(held) => held,
+    };
+    let (held, rows) = rows_of(rt, alloc, held);
+    assert_same(rt, &rows, &Said::Shows(0b10), &DURABLE);
+    ended(rt, held)
+}
+
 #[test]
 fn refused_ends_may_be_tried_again(rt: HostRuntime) -> Result<(), Fail> {
     let host = Host(&rt);
     let held = told_events(&host, rt.alloc(), DURABLE);
-    let device = match held.wind_up() {
-        Ok(device) => device,
-        Err(held) => {
-            let (held, rows) = rows_of(&host, rt.alloc(), held);
-            assert_same(&host, &rows, &Said::Shows(0b10), &DURABLE);
-            ended(&host, held)
-        }
-    };
+    let device = ended_again(&host, rt.alloc(), held);
     let _device = assert_opens_to(&host, rt.alloc(), device, COMMITTED);
     Ok(())
 }
 
 /// Sees that replies are as wanted up to the first where memory was refused.
 fn assert_front(rt: &Host<impl Abort>, replies: &[Reply]) {
-    assert_eq!(rt.0; replies.len(), STEPS.len());
+    assert_same(rt, &replies.len(), &STEPS.len(), &"replies");
     for (reply, (act, wanted)) in replies.iter().zip(&STEPS) {
         let got = heard(reply);
         if is_refusal(got) {

@@ -1,8 +1,9 @@
 //! Runs of lists of events: each event's reply, lists that are cut in two, and the ends of runs.
 
-use crate::runs::host::Host;
+use crate::host::Host;
 use group_core::{
-    BeginError, FollowError, PlainShow, Redeemed, StageError, State, StepError, SubmitError,
+    BeginError, FollowError, PlainShow, Plan, Redeemed, StageError, Staged, State, StepError,
+    SubmitError, Ticket,
 };
 use group_recovery::{Event, Reply, Run, StepRefusal};
 use path_db::{Command, PathDb};
@@ -17,7 +18,7 @@ use test_group_scripts::acts::{
 use test_group_scripts::runs::{begun, done, ended};
 use test_group_scripts::stores::{SECTORS, bytes_of, opened, sealed_store};
 use test_group_scripts::work::state_of;
-use test_support::assert_same;
+use test_support::{TestHost, assert_same};
 
 /// What a state is given and answers whose store was sealed at place 1, after the segment left by
 /// interface 1.
@@ -212,22 +213,10 @@ fn device_bytes(rt: &Host<impl Abort>, alloc: Global, held: Run<MemDevice>) -> V
 
 /// Sees that replies are as the script says.
 fn assert_told(rt: &Host<impl Abort>, lines: &[Line], replies: &[Reply]) {
-    assert_eq!(rt.0; replies.len(), lines.len());
+    assert_same(rt, &replies.len(), &lines.len(), &"replies");
     for (reply, (act, wanted)) in replies.iter().zip(lines) {
         assert_same(rt, &heard(reply), wanted, act);
     }
-}
-
-#[test]
-fn every_event_is_answered(rt: HostRuntime) -> Result<(), Fail> {
-    let host = Host(&rt);
-    let lines = told_lines(&host, rt.alloc());
-    let events = events_of(&host, rt.alloc(), &lines);
-    let held = sealed_run(&host, rt.alloc());
-    let (held, replies) = done(&host, rt.alloc(), held, &events);
-    assert_told(&host, &lines, &replies);
-    let _device = ended(&host, held);
-    Ok(())
 }
 
 /// Does events in a run, and sees what they are answered.
@@ -241,6 +230,17 @@ fn assert_done(
     let (held, replies) = done(rt, alloc, held, events);
     assert_told(rt, lines, &replies);
     held
+}
+
+#[test]
+fn every_event_is_answered(rt: HostRuntime) -> Result<(), Fail> {
+    let host = Host(&rt);
+    let lines = told_lines(&host, rt.alloc());
+    let events = events_of(&host, rt.alloc(), &lines);
+    let held = sealed_run(&host, rt.alloc());
+    let held = assert_done(&host, rt.alloc(), held, &lines, &events);
+    let _device = ended(&host, held);
+    Ok(())
 }
 
 /// Sees that events that are cut in two after this number of events leave the same bytes.
@@ -272,28 +272,41 @@ fn assert_bytes(
     assert_same(rt, &(bytes.as_slice() == whole), &true, &count);
 }
 
+/// Sees so for a third of the numbers of events, so that the test is short.
+fn assert_cuts(
+    rt: &Host<impl Abort>,
+    alloc: Global,
+    lines: &[Line],
+    events: &[Event],
+    whole: &[u8],
+) {
+    for count in 0..=events.len().min(lines.len()) {
+        if count % 3 == 0 {
+            assert_cut(rt, alloc, lines, events, count, whole);
+        }
+    }
+}
+
+/// A run of a state of the store that was sealed, after these events.
+fn run_after(rt: &Host<impl Abort>, alloc: Global, events: &[Event]) -> Run<MemDevice> {
+    let (held, _replies) = done(rt, alloc, sealed_run(rt, alloc), events);
+    held
+}
+
 #[test]
 fn lists_may_be_cut_in_two(rt: HostRuntime) -> Result<(), Fail> {
     let host = Host(&rt);
     let lines = told_lines(&host, rt.alloc());
     let events = events_of(&host, rt.alloc(), &lines);
-    let held = sealed_run(&host, rt.alloc());
-    let (held, _replies) = done(&host, rt.alloc(), held, &events);
+    let held = run_after(&host, rt.alloc(), &events);
     let whole = device_bytes(&host, rt.alloc(), held);
-    for count in 0..=events.len().min(lines.len()) {
-        // A third of the cuts, so that the test is short.
-        if count % 3 > 0 {
-            continue;
-        }
-        assert_cut(&host, rt.alloc(), &lines, &events, count, &whole);
-    }
+    assert_cuts(&host, rt.alloc(), &lines, &events, &whole);
     Ok(())
 }
 
 /// Sees to what the device of a run opens that ends after these events.
 fn assert_end(rt: &Host<impl Abort>, alloc: Global, front: &[Event]) -> Result<(), Fail> {
-    let (held, _replies) = done(rt, alloc, sealed_run(rt, alloc), front);
-    let (place, db) = rested(rt, alloc, held);
+    let (place, db) = rested(rt, alloc, run_after(rt, alloc, front));
     let rows = rows_shown(&db)?;
     let count = front.len();
     assert_same(rt, &(place, rows), &place_behind(count), &count);
@@ -305,17 +318,21 @@ fn rows_shown(db: &PathDb) -> Result<u64, Fail> {
     Ok(shown(&answer(db, &query(), 0)?))
 }
 
+/// Sees so for each number of these events.
+fn assert_ends(rt: &Host<impl Abort>, alloc: Global, events: &[Event]) -> Result<(), Fail> {
+    assert_same(rt, &events.len(), &115, &"events");
+    for count in 0..=events.len() {
+        let (front, _rest) = events.split_at(count);
+        assert_end(rt, alloc, front)?;
+    }
+    Ok(())
+}
+
 #[test]
 fn runs_end_anywhere(rt: HostRuntime) -> Result<(), Fail> {
     let host = Host(&rt);
-    let lines = told_lines(&host, rt.alloc());
-    let events = events_of(&host, rt.alloc(), &lines);
-    assert_eq!(rt; events.len(), 115);
-    for count in 0..=events.len() {
-        let (front, _rest) = events.split_at(count);
-        assert_end(&host, rt.alloc(), front)?;
-    }
-    Ok(())
+    let events = events_of(&host, rt.alloc(), &told_lines(&host, rt.alloc()));
+    assert_ends(&host, rt.alloc(), &events)
 }
 
 /// The state that no run is made of.
@@ -326,7 +343,67 @@ fn not_begun<D: Device>(
 ) -> State<D, PlainShow> {
     match Run::new(alloc, state) {
         Err(state) => state,
-        Ok(_held) => panic!(rt.0; "a run"),
+        Ok(_held) => rt.fail("a run"),
+    }
+}
+
+/// The ticket of a purge that is submitted.
+fn submitted(rt: &Host<impl Abort>, state: &mut State<MemDevice, PlainShow>) -> Ticket {
+    match state.submit(Command::Purge(0)) {
+        Ok(ticket) => ticket,
+        Err(_refused) => rt.fail("refused"),
+    }
+}
+
+/// A group that is staged.
+fn group_of(rt: &Host<impl Abort>, state: &mut State<MemDevice, PlainShow>) -> Staged {
+    match state.stage() {
+        Ok(staged) => staged,
+        Err(_refused) => rt.fail("not staged"),
+    }
+}
+
+/// A checkpoint that is begun.
+fn plan_of(rt: &Host<impl Abort>, state: &mut State<MemDevice, PlainShow>) -> Plan {
+    match state.begin() {
+        Ok(plan) => plan,
+        Err(_refused) => rt.fail("not begun"),
+    }
+}
+
+/// Sees that a state that has stopped writes no group.
+fn assert_no_group(rt: &Host<impl Abort>, state: &mut State<MemDevice, PlainShow>, staged: Staged) {
+    match state.write_group(staged) {
+        Err(StepError::Stopped) => {}
+        _other => rt.fail("written"),
+    }
+}
+
+/// Sees that it writes no chunk of a checkpoint.
+fn assert_no_chunk(rt: &Host<impl Abort>, state: &mut State<MemDevice, PlainShow>, plan: Plan) {
+    match state.write_chunk(plan) {
+        Err(StepError::Stopped) => {}
+        _other => rt.fail("written"),
+    }
+}
+
+/// Sees that the fate of a command at place 1 is not known.
+fn assert_unknown(rt: &Host<impl Abort>, state: &mut State<MemDevice, PlainShow>, ticket: Ticket) {
+    match state.redeem(ticket) {
+        Redeemed::Unknown(place) => assert_same(rt, &place, &1, &"a place"),
+        _other => rt.fail("known"),
+    }
+}
+
+/// The run of a state of which no value is out.
+fn run_of(
+    rt: &Host<impl Abort>,
+    alloc: Global,
+    state: State<MemDevice, PlainShow>,
+) -> Run<MemDevice> {
+    match Run::new(alloc, state) {
+        Ok(held) => held,
+        Err(_state) => rt.fail("a value is out"),
     }
 }
 
@@ -335,36 +412,16 @@ fn no_run_begins_while_a_value_is_out(rt: HostRuntime) -> Result<(), Fail> {
     let host = Host(&rt);
     let store = opened(&host, rt.alloc(), sealed_store(&host, rt.alloc(), 2));
     let mut state = state_of(&host, rt.alloc(), store, 1);
-    let Ok(ticket) = state.submit(Command::Purge(0)) else {
-        panic!(rt; "refused");
-    };
-    let Ok(staged) = state.stage() else {
-        panic!(rt; "not staged");
-    };
+    let ticket = submitted(&host, &mut state);
+    let staged = group_of(&host, &mut state);
     let mut state = not_begun(&host, rt.alloc(), state);
-    let Ok(plan) = state.begin() else {
-        panic!(rt; "not begun");
-    };
+    let plan = plan_of(&host, &mut state);
     let mut state = not_begun(&host, rt.alloc(), state);
     state.halt();
-    match state.write_group(staged) {
-        Err(StepError::Stopped) => {}
-        _other => panic!(rt; "written"),
-    }
+    assert_no_group(&host, &mut state, staged);
     let mut state = not_begun(&host, rt.alloc(), state);
-    match state.write_chunk(plan) {
-        Err(StepError::Stopped) => {}
-        _other => panic!(rt; "written"),
-    }
-    match state.redeem(ticket) {
-        Redeemed::Unknown(place) => assert_eq!(rt; place, 1),
-        _other => panic!(rt; "known"),
-    }
-    match Run::new(rt.alloc(), state) {
-        Ok(held) => {
-            let _device = ended(&host, held);
-        }
-        Err(_state) => panic!(rt; "a value is out"),
-    }
+    assert_no_chunk(&host, &mut state, plan);
+    assert_unknown(&host, &mut state, ticket);
+    let _device = ended(&host, run_of(&host, rt.alloc(), state));
     Ok(())
 }

@@ -1,15 +1,15 @@
 //! Listeners that fail.
 
 use crate::server::checks::assert_same;
-use crate::server::stores::{LEAST, assert_opens_to, formatted, opened};
-use crate::server::worlds::{Counts, options};
-use path_server::{AcceptFailure, Listener, Listeners, RunError, after_failure, serve_store};
+use crate::server::stores::{LEAST, assert_opens_to, formatted};
+use crate::server::worlds::{Counts, options, serve};
+use path_server::{AcceptFailure, Listener, Listeners, RunError, after_failure};
 use std::io;
 use std::net::{OpenListener, SocketAddr, TcpStream};
 use std::sync::atomic::{AtomicUsize, Ordering};
 
 /// The numbers of Linux's errors of accept(2), and what is done after them.
-const FAILURES: [(i32, AcceptFailure); 14] = [
+const FAILURES: &[(i32, AcceptFailure)] = &[
     (9, AcceptFailure::Broken), // EBADF
     (14, AcceptFailure::Broken), // EFAULT
     (22, AcceptFailure::Broken), // EINVAL
@@ -26,9 +26,14 @@ const FAILURES: [(i32, AcceptFailure); 14] = [
     (110, AcceptFailure::Pause), // ETIMEDOUT
 ];
 
+/// These failures. The prover writes a constant out where it is named, so no loop names it.
+fn failures() -> &'static [(i32, AcceptFailure)] {
+    FAILURES
+}
+
 #[test]
 fn failures_by_their_number(rt: HostRuntime) {
-    for (number, wanted) in &FAILURES {
+    for (number, wanted) in failures() {
         let failure = after_failure(&io::Error::from_raw_os_error(*number));
         assert_same(&rt, &failure, wanted, number);
     }
@@ -56,21 +61,14 @@ impl Listener for Script {}
 #[test]
 fn a_broken_listener_ends_the_server(rt: HostRuntime) {
     let alloc = rt.alloc();
-    let store = opened(&rt, alloc, formatted(&rt, alloc, LEAST));
-    let options = options(&rt, alloc, 0);
-    let listener = Script {
+    let device = formatted(&rt, alloc, LEAST);
+    let listeners = Listeners::of_sessions(Script {
         errors: [103, 24, 1, 12],
         next: AtomicUsize::new(0),
-    };
+    });
     let counts = Counts::new();
-    let (device, _left, served) = serve_store(
-        &rt,
-        alloc,
-        Listeners::of_sessions(listener),
-        store,
-        &options,
-        &counts,
-    );
+    let options = options(&rt, alloc, 0);
+    let (device, served) = serve(&rt, alloc, listeners, device, &options, &counts);
     assert_same(&rt, &served, &Err(RunError::Net), &"served");
     assert_same(&rt, &counts.stopped(), &0, &"stopped");
     let _device = assert_opens_to(&rt, alloc, device, 0, 0);

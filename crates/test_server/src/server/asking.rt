@@ -2,18 +2,23 @@
 //! nothing.
 
 use crate::server::checks::{assert_same, assert_true};
-use crate::server::peers::{EMPTY_LOOKUP, NO_DESTINATION, Peer};
-use crate::server::stores::{LEAST, assert_opens_to, formatted};
-use crate::server::watching::{GET_NUMBERS, answer_to, connect, listen_for_status, received};
+use crate::server::peers::{EMPTY_LOOKUP, NO_DESTINATION, Peer, has_session};
+use crate::server::watching::{GET_NUMBERS, answer_to, connect, received, status_listener};
 use crate::server::worlds::{
-    Clients, Counts, Outside, assert_served, listen, options, serve_watched,
+    Clients, Counts, End, Others, Outside, World, assert_beside, listen, options, second_handle,
 };
 use std::alloc::Global;
 use std::io;
 use std::io::Write;
-use std::net::{Shutdown, SocketAddr, TcpStream};
-use std::os::fd::OwnedFd;
+use std::net::{Shutdown, SocketAddr, TcpListener, TcpStream};
 use std::time::{Duration, Instant};
+
+/// The end of a server after a session without commands.
+const UNCHANGED: End = End {
+    sessions: 1,
+    rows: 0,
+    place: 0,
+};
 
 /// Asks for other things than the page.
 #[derive(Drop)]
@@ -37,7 +42,7 @@ fn large_head(alloc: Global) -> io::Result<String> {
 }
 
 /// Requests, and the first line of the answer to each.
-const REQUESTS: [(&str, &str); 9] = [
+const REQUESTS: &[(&str, &str)] = &[
     ("GET /index.html HTTP/1.1\r\n\r\n", "HTTP/1.1 404 Not Found"),
     ("GET /metrics/ HTTP/1.1\r\n\r\n", "HTTP/1.1 404 Not Found"),
     ("POST /ready HTTP/1.1\r\n\r\n", "HTTP/1.1 404 Not Found"),
@@ -54,6 +59,11 @@ const REQUESTS: [(&str, &str); 9] = [
     ("\u{7f}\r\n\r\n", "HTTP/1.1 400 Bad Request"),
     ("", "HTTP/1.1 400 Bad Request"),
 ];
+
+/// These requests. The prover writes a constant out where it is named, so no loop names it.
+fn requests() -> &'static [(&'static str, &'static str)] {
+    REQUESTS
+}
 
 /// Whether an answer begins with this line, and has nothing after its head.
 fn is_refusal(answer: &str, line: &str) -> bool {
@@ -77,44 +87,49 @@ fn assert_refused<R: Outside>(
     Ok(())
 }
 
+/// Sees that a request is refused whose head is too large.
+fn assert_large_refused<R: Outside>(rt: R, alloc: Global, at: SocketAddr) -> io::Result<()> {
+    let large = large_head(alloc)?;
+    assert_refused(rt, alloc, at, large.as_str(), "HTTP/1.1 400 Bad Request")
+}
+
 impl Clients for Asking {
     type Seen = bool;
 
     fn meet<R: Outside>(&self, rt: R, alloc: Global, to: SocketAddr) -> io::Result<bool> {
-        for (request, line) in &REQUESTS {
+        for (request, line) in requests() {
             assert_refused(rt, alloc, self.at, *request, *line)?;
         }
-        let large = large_head(alloc)?;
-        assert_refused(
-            rt,
-            alloc,
-            self.at,
-            large.as_str(),
-            "HTTP/1.1 400 Bad Request",
-        )?;
-        Peer::connect(rt, alloc, to)?.asks(EMPTY_LOOKUP, NO_DESTINATION)
+        assert_large_refused(rt, alloc, self.at)?;
+        has_session(rt, alloc, to)
     }
+}
+
+/// Has clients meet a server for one session and for requests, whose store they leave as it is:
+/// what they saw.
+fn assert_seen<R: World, C: Clients + Sync>(
+    rt: R,
+    alloc: Global,
+    status: Others,
+    clients: &C,
+) -> C::Seen {
+    let options = options(&rt, alloc, 1);
+    assert_beside(
+        rt,
+        alloc,
+        status,
+        &options,
+        clients,
+        &Counts::new(),
+        UNCHANGED,
+    )
 }
 
 #[test]
 fn other_requests_are_refused(rt: HostRuntime) {
-    let alloc = rt.alloc();
-    let device = formatted(&rt, alloc, LEAST);
-    let options = options(&rt, alloc, 1);
-    let (status, at) = listen_for_status(&rt);
-    let clients = Asking { at };
-    let (device, served, seen) = serve_watched(
-        &rt,
-        alloc,
-        device,
-        status,
-        &options,
-        &clients,
-        &Counts::new(),
-    );
-    let seen = assert_served(&rt, served, seen, 1);
+    let (status, at) = status_listener(&rt);
+    let seen = assert_seen(&rt, rt.alloc(), status, &Asking { at });
     assert_true(&rt, seen, "a session is served after the refusals");
-    let _device = assert_opens_to(&rt, alloc, device, 0, 0);
 }
 
 /// One peer is silent at the listener for requests, while a session is served; another one asks for
@@ -127,49 +142,67 @@ struct Hushed {
 /// The time within which a silent peer is closed: a second, and what a busy machine adds.
 const SOON: u64 = 10;
 
+/// Connects to the listener for requests, and sends this.
+fn sent<R: Outside>(rt: R, at: SocketAddr, text: &str) -> io::Result<TcpStream> {
+    let mut stream = connect(rt, at)?;
+    stream.write_all(text.as_bytes())?;
+    Ok(stream)
+}
+
+/// Whether the server closes a connection without an answer, soon after this moment.
+fn is_closed_soon<R: Outside>(
+    rt: R,
+    alloc: Global,
+    stream: &mut TcpStream,
+    begun: Instant,
+) -> io::Result<bool> {
+    let is_closed = received(alloc, stream)?.is_empty();
+    let is_soon = begun.elapsed(&rt)? < Duration::from_secs(SOON);
+    Ok(is_closed && is_soon)
+}
+
+/// Whether the server answers as to the request of the numbers.
+fn shows_numbers(alloc: Global, stream: &mut TcpStream) -> io::Result<bool> {
+    Ok(
+        received(alloc, stream)?
+            .as_str()
+            .starts_with("HTTP/1.1 200 OK"),
+    )
+}
+
+/// Has a session while one peer has been silent since this moment and another one has asked for the
+/// numbers: whether it is served, the silent one is closed soon, and the other one is answered.
+fn are_served<R: Outside>(
+    rt: R,
+    alloc: Global,
+    to: SocketAddr,
+    (silent, begun): (&mut TcpStream, Instant),
+    next: &mut TcpStream,
+) -> io::Result<bool> {
+    let mut peer = Peer::connect(rt, alloc, to)?;
+    let is_served = peer.asks(EMPTY_LOOKUP, NO_DESTINATION)?;
+    let is_closed = is_closed_soon(rt, alloc, silent, begun)?;
+    let is_answered = shows_numbers(alloc, next)?;
+    drop(peer);
+    Ok(is_served && is_closed && is_answered)
+}
+
 impl Clients for Hushed {
     type Seen = bool;
 
     fn meet<R: Outside>(&self, rt: R, alloc: Global, to: SocketAddr) -> io::Result<bool> {
         let begun = Instant::now(&rt)?;
-        let mut silent = connect(rt, self.at)?;
-        silent.write_all(b"GET /met")?;
-        let mut next = connect(rt, self.at)?;
-        next.write_all(GET_NUMBERS.as_bytes())?;
-        let mut peer = Peer::connect(rt, alloc, to)?;
-        let is_served = peer.asks(EMPTY_LOOKUP, NO_DESTINATION)?;
-        let rest = received(alloc, &mut silent)?;
-        let is_soon = begun.elapsed(&rt)? < Duration::from_secs(SOON);
-        let answer = received(alloc, &mut next)?;
-        drop(peer);
-        Ok(
-            is_served
-                && is_soon
-                && rest.is_empty()
-                && answer.as_str().starts_with("HTTP/1.1 200 OK"),
-        )
+        let mut silent = sent(rt, self.at, "GET /met")?;
+        let mut next = sent(rt, self.at, GET_NUMBERS)?;
+        are_served(rt, alloc, to, (&mut silent, begun), &mut next)
     }
 }
 
 #[test]
 fn silent_peers_are_closed_soon(rt: HostRuntime) {
-    let alloc = rt.alloc();
-    let device = formatted(&rt, alloc, LEAST);
-    let options = options(&rt, alloc, 1);
-    let (status, at) = listen_for_status(&rt);
-    let clients = Hushed { at };
-    let (device, served, seen) = serve_watched(
-        &rt,
-        alloc,
-        device,
-        status,
-        &options,
-        &clients,
-        &Counts::new(),
-    );
-    let seen = assert_served(&rt, served, seen, 1);
+    let (status, at) = status_listener(&rt);
+    let seen = assert_seen(&rt, rt.alloc(), status, &Hushed { at });
     assert_true(&rt, seen, "one peer is closed soon, the others are served");
-    let _device = assert_opens_to(&rt, alloc, device, 0, 0);
 }
 
 /// Many peers are silent at the listener for requests, and another one asks for the numbers after
@@ -186,6 +219,13 @@ const CROWD: usize = 160;
 /// nothing would take 40 seconds.
 const PROMPT: u64 = 5_000;
 
+/// Connects one more peer, who sends nothing.
+fn add_silent<R: Outside>(rt: R, at: SocketAddr, peers: &mut Vec<TcpStream>) -> io::Result<()> {
+    let peer = connect(rt, at)?;
+    peers.push(peer)?;
+    Ok(())
+}
+
 /// Connects this number of peers, who send nothing.
 fn silent_peers<R: Outside>(
     rt: R,
@@ -195,9 +235,32 @@ fn silent_peers<R: Outside>(
 ) -> io::Result<Vec<TcpStream>> {
     let mut peers = Vec::new(alloc);
     for _ in 0..count {
-        peers.push(connect(rt, at)?)?;
+        add_silent(rt, at, &mut peers)?;
     }
     Ok(peers)
+}
+
+/// Asks for the numbers: whether there is an answer, and whether it comes within the time since
+/// this moment.
+fn answered_since<R: Outside>(
+    rt: R,
+    alloc: Global,
+    at: SocketAddr,
+    begun: Instant,
+) -> io::Result<(bool, bool)> {
+    let mut asking = sent(rt, at, GET_NUMBERS)?;
+    let is_answered = shows_numbers(alloc, &mut asking)?;
+    let is_prompt = begun.elapsed(&rt)? < Duration::from_millis(PROMPT);
+    Ok((is_answered, is_prompt))
+}
+
+/// The same, after many peers who send nothing.
+fn answered_in_crowd<R: Outside>(rt: R, alloc: Global, at: SocketAddr) -> io::Result<(bool, bool)> {
+    let begun = Instant::now(&rt)?;
+    let before = silent_peers(rt, alloc, at, CROWD)?;
+    let answered = answered_since(rt, alloc, at, begun);
+    drop(before);
+    answered
 }
 
 impl Clients for Crowd {
@@ -206,14 +269,7 @@ impl Clients for Crowd {
     fn meet<R: Outside>(&self, rt: R, alloc: Global, to: SocketAddr) -> io::Result<[bool; 3]> {
         let mut peer = Peer::connect(rt, alloc, to)?;
         let is_served = peer.asks(EMPTY_LOOKUP, NO_DESTINATION)?;
-        let begun = Instant::now(&rt)?;
-        let before = silent_peers(rt, alloc, self.at, CROWD)?;
-        let mut asking = connect(rt, self.at)?;
-        asking.write_all(GET_NUMBERS.as_bytes())?;
-        let answer = received(alloc, &mut asking)?;
-        let is_prompt = begun.elapsed(&rt)? < Duration::from_millis(PROMPT);
-        let is_answered = answer.as_str().starts_with("HTTP/1.1 200 OK");
-        drop(before);
+        let (is_answered, is_prompt) = answered_in_crowd(rt, alloc, self.at)?;
         drop(peer);
         Ok([is_served, is_answered, is_prompt])
     }
@@ -221,23 +277,9 @@ impl Clients for Crowd {
 
 #[test]
 fn silent_peers_hold_up_no_other(rt: HostRuntime) {
-    let alloc = rt.alloc();
-    let device = formatted(&rt, alloc, LEAST);
-    let options = options(&rt, alloc, 1);
-    let (status, at) = listen_for_status(&rt);
-    let clients = Crowd { at };
-    let (device, served, seen) = serve_watched(
-        &rt,
-        alloc,
-        device,
-        status,
-        &options,
-        &clients,
-        &Counts::new(),
-    );
-    let seen = assert_served(&rt, served, seen, 1);
+    let (status, at) = status_listener(&rt);
+    let seen = assert_seen(&rt, rt.alloc(), status, &Crowd { at });
     assert_same(&rt, &seen, &[true; 3], &"served, answered and prompt");
-    let _device = assert_opens_to(&rt, alloc, device, 0, 0);
 }
 
 /// Two sessions, one after the other.
@@ -247,38 +289,33 @@ impl Clients for Twice {
     type Seen = [bool; 2];
 
     fn meet<R: Outside>(&self, rt: R, alloc: Global, to: SocketAddr) -> io::Result<[bool; 2]> {
-        let first = Peer::connect(rt, alloc, to)?.asks(EMPTY_LOOKUP, NO_DESTINATION)?;
-        let second = Peer::connect(rt, alloc, to)?.asks(EMPTY_LOOKUP, NO_DESTINATION)?;
+        let first = has_session(rt, alloc, to)?;
+        let second = has_session(rt, alloc, to)?;
         Ok([first, second])
     }
 }
 
-// The second listener is shut down before the server begins, so that its first accept says that it
-// is broken.
+/// A listener that is shut down, so that its first accept says that it is broken.
+fn broken_listener<R: World>(rt: R) -> TcpListener {
+    let (listener, _at) = listen(rt);
+    second_handle(&rt, &listener)
+        .shutdown(Shutdown::Both)
+        .expect(&rt, "the listener is shut down");
+    listener
+}
+
+// The second listener is shut down before the server begins.
 #[test]
 fn a_broken_second_listener_ends_its_thread_alone(rt: HostRuntime) {
-    let alloc = rt.alloc();
-    let device = formatted(&rt, alloc, LEAST);
-    let options = options(&rt, alloc, 2);
-    let (listener, _at) = listen(&rt);
-    let other = listener
-        .try_clone()
-        .expect(&rt, "the listener has a second handle");
-    let stop = TcpStream::from(OwnedFd::from(other));
-    stop.shutdown(Shutdown::Both)
-        .expect(&rt, "the listener is shut down");
+    let status = Others::of_status(Some(broken_listener(&rt)));
+    let options = options(&rt, rt.alloc(), 2);
     let counts = Counts::new();
-    let (device, served, seen) = serve_watched(
-        &rt,
-        alloc,
-        device,
-        Some(listener),
-        &options,
-        &Twice,
-        &counts,
-    );
-    let seen = assert_served(&rt, served, seen, 2);
+    let end = End {
+        sessions: 2,
+        rows: 0,
+        place: 0,
+    };
+    let seen = assert_beside(&rt, rt.alloc(), status, &options, &Twice, &counts, end);
     assert_same(&rt, &seen, &[true; 2], &"sessions that are answered");
     assert_same(&rt, &counts.stopped(), &0, &"stopped");
-    let _device = assert_opens_to(&rt, alloc, device, 0, 0);
 }

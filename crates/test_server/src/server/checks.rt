@@ -1,5 +1,5 @@
-//! Checks of a test, each in one call. A macro is a branch in the body that it stands in, which the
-//! prover follows with all that lives there.
+//! Checks of a test, each in one call. A macro is a branch in the body of a test, which the prover
+//! follows with all values that live there.
 ghost use Rattle.std.specs.Prelude.{◌≡◌, true};
 
 use crate::server::host::Host;

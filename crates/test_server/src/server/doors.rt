@@ -16,6 +16,13 @@ pub(crate) fn nap(rt: &impl Clock) {
     sleep(rt, Duration::from_millis(NAP));
 }
 
+/// Sleeps for this number of naps.
+pub(crate) fn naps(rt: &impl Clock, count: u64) {
+    for _ in 0..count {
+        nap(rt);
+    }
+}
+
 /// What a door does to syncs.
 #[derive(Clone, Copy, Debug, PartialEq, Eq)]
 pub(crate) enum Latch {

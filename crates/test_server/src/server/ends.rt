@@ -1,10 +1,9 @@
 //! How sessions end.
 
 use crate::server::checks::{assert_same, assert_true};
-use crate::server::peers::{EMPTY_LOOKUP, NO_DESTINATION, Peer, assert_replies, replies};
+use crate::server::peers::{NO_DESTINATION, Peer, assert_replies, four_replies, has_session};
 use crate::server::rows::{FOUND, LOOKUP, NOTHING, REGISTERED, REGISTRATION};
-use crate::server::stores::{LEAST, assert_opens_to, formatted};
-use crate::server::worlds::{Clients, Counts, Outside, assert_served, options, serve_clients};
+use crate::server::worlds::{Clients, Counts, End, Outside, assert_met, options};
 use std::alloc::Global;
 use std::io;
 use std::net::SocketAddr;
@@ -25,31 +24,23 @@ impl Clients for Faults {
     type Seen = [String; 4];
 
     fn meet<R: Outside>(&self, rt: R, alloc: Global, to: SocketAddr) -> io::Result<[String; 4]> {
-        let by_kind = replies(rt, alloc, to, BEFORE_A_FAULT)?;
-        let by_length = replies(rt, alloc, to, "0000000102ffffffff")?;
-        let within = replies(rt, alloc, to, "000000010200000061010a5e08")?;
-        let next = replies(rt, alloc, to, LOOKUP)?;
-        Ok([by_kind, by_length, within, next])
+        let by_length = "0000000102ffffffff";
+        let within = "000000010200000061010a5e08";
+        four_replies(rt, alloc, to, [BEFORE_A_FAULT, by_length, within, LOOKUP])
     }
 }
 
 #[test]
 fn frame_faults_end_their_session_alone(rt: HostRuntime) {
-    let alloc = rt.alloc();
-    let device = formatted(&rt, alloc, LEAST);
-    let options = options(&rt, alloc, 4);
-    let (device, served, seen) = serve_clients(
-        &rt,
-        alloc,
-        device,
-        &options,
-        &Faults,
-        &Counts::new(),
-    );
-    let seen = assert_served(&rt, served, seen, 4);
+    let options = options(&rt, rt.alloc(), 4);
+    let end = End {
+        sessions: 4,
+        rows: 0,
+        place: 1,
+    };
+    let seen = assert_met(&rt, rt.alloc(), &options, &Faults, &Counts::new(), end);
     let wanted = [PLACE_0, NO_DESTINATION, NO_DESTINATION, NOTHING];
     assert_replies(&rt, &seen, &wanted);
-    let _device = assert_opens_to(&rt, alloc, device, 0, 1);
 }
 
 /// Sends each byte by itself.
@@ -68,14 +59,15 @@ impl Clients for Slow {
 
 #[test]
 fn bytes_may_come_one_by_one(rt: HostRuntime) {
-    let alloc = rt.alloc();
-    let device = formatted(&rt, alloc, LEAST);
-    let options = options(&rt, alloc, 1);
-    let (device, served, seen) = serve_clients(&rt, alloc, device, &options, &Slow, &Counts::new());
-    let seen = assert_served(&rt, served, seen, 1);
+    let options = options(&rt, rt.alloc(), 1);
+    let end = End {
+        sessions: 1,
+        rows: 1,
+        place: 1,
+    };
+    let seen = assert_met(&rt, rt.alloc(), &options, &Slow, &Counts::new(), end);
     let found = seen.as_str().strip_prefix(REGISTERED);
     assert_same(&rt, &found, &Some(FOUND), &"found");
-    let _device = assert_opens_to(&rt, alloc, device, 1, 1);
 }
 
 /// Two peers: the first one is silent until the server ends its session, and the second one is
@@ -88,29 +80,28 @@ impl Clients for SilentPeer {
     fn meet<R: Outside>(&self, rt: R, alloc: Global, to: SocketAddr) -> io::Result<(bool, String)> {
         let mut silent = Peer::connect(rt, alloc, to)?;
         silent.send("000000")?;
-        let mut other = Peer::connect(rt, alloc, to)?;
-        let is_served = other.asks(EMPTY_LOOKUP, NO_DESTINATION)?;
-        let received = silent.receive()?;
-        Ok((is_served, received))
+        let is_served = has_session(rt, alloc, to)?;
+        Ok((is_served, silent.receive()?))
     }
 }
 
 #[test]
 fn silent_peers_are_given_up(rt: HostRuntime) {
-    let alloc = rt.alloc();
-    let device = formatted(&rt, alloc, LEAST);
-    let mut options = options(&rt, alloc, 2);
+    let mut options = options(&rt, rt.alloc(), 2);
     options.idle = Some(Duration::from_millis(200));
-    let (device, served, seen) = serve_clients(
+    let end = End {
+        sessions: 2,
+        rows: 0,
+        place: 0,
+    };
+    let (is_served, received) = assert_met(
         &rt,
-        alloc,
-        device,
+        rt.alloc(),
         &options,
         &SilentPeer,
         &Counts::new(),
+        end,
     );
-    let (is_served, received) = assert_served(&rt, served, seen, 2);
     assert_true(&rt, is_served, "the second peer is served");
     assert_same(&rt, &received.as_str(), &"", &"received");
-    let _device = assert_opens_to(&rt, alloc, device, 0, 0);
 }

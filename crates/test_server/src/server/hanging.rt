@@ -1,19 +1,14 @@
 //! A device that holds a sync for long, while peers wait for their commits, give up and come again.
 
 use crate::server::checks::{assert_same, assert_true};
-use crate::server::doors::{Door, Holds, Latch, nap};
-use crate::server::peers::{Peer, replies, seated};
+use crate::server::doors::{Door, naps};
+use crate::server::held::serve_held;
+use crate::server::peers::{Peer, is_replied, replies, seated};
 use crate::server::rows::{FOUND, LOOKUP, NOTHING, PURGE, REGISTERED, REGISTRATION};
-use crate::server::stores::{LEAST, assert_opens_to, formatted};
-use crate::server::worlds::{
-    Clients, Counts, Met, Outside, World, assert_served, options, serve_clients,
-};
-use path_server::Options;
-use sector_dev::MemDevice;
+use crate::server::worlds::{Clients, Others, Outside, assert_served, options};
 use std::alloc::Global;
 use std::io;
 use std::net::SocketAddr;
-use test_fault_devices::HeldDevice;
 
 /// How many of the 64 seats are for sessions without commands under way.
 const SPARE: u64 = 8;
@@ -37,18 +32,6 @@ fn hold<R: Outside>(rt: R, alloc: Global, to: SocketAddr, door: &Door) -> io::Re
     Ok((first, is_held))
 }
 
-/// Has clients meet a server of a device that holds its syncs at a door.
-fn meet_held<'a, R: World, C: Clients + Sync>(
-    rt: R,
-    alloc: Global,
-    door: &'a Door,
-    options: &Options,
-    clients: &C,
-) -> Met<HeldDevice<MemDevice, Holds<'a, R>>, C::Seen> {
-    let device = HeldDevice::new(formatted(&rt, alloc, LEAST), Holds { rt, door });
-    serve_clients(rt, alloc, device, options, clients, &Counts::new())
-}
-
 /// How many rounds of peers come and give up.
 const ROUNDS: u64 = 20;
 
@@ -67,17 +50,39 @@ struct GivingUp<'a> {
     door: &'a Door,
 }
 
+/// Has a peer come, send a purge and close.
+fn give_up<R: Outside>(rt: R, alloc: Global, to: SocketAddr) -> io::Result<()> {
+    let mut peer = Peer::connect(rt, alloc, to)?;
+    peer.send(PURGE)
+}
+
 /// Has the peers of a round come, send a purge and close: what a new session is replied then.
 fn round<R: Outside>(rt: R, alloc: Global, to: SocketAddr) -> io::Result<bool> {
     for _ in 0..PEERS {
-        let mut peer = Peer::connect(rt, alloc, to)?;
-        peer.send(PURGE)?;
+        give_up(rt, alloc, to)?;
     }
-    let is_answered = Peer::connect(rt, alloc, to)?.asks(LOOKUP, NOTHING);
-    for _ in 0..NAPS {
-        nap(&rt);
+    let is_answered = is_replied(rt, alloc, to, LOOKUP, NOTHING)?;
+    naps(&rt, NAPS);
+    Ok(is_answered)
+}
+
+/// The number of rounds in which a new session is answered.
+fn answered_rounds<R: Outside>(rt: R, alloc: Global, to: SocketAddr) -> io::Result<u64> {
+    let mut answered: u64 = 0;
+    for _ in 0..ROUNDS {
+        if round(rt, alloc, to)? {
+            answered = answered.saturating_add(1);
+        }
     }
-    is_answered
+    Ok(answered)
+}
+
+/// Whether the last replies to the first peer are as they should be.
+fn last_replies(first: &mut Peer) -> io::Result<[bool; 3]> {
+    let is_acknowledged = first.receives(REGISTERED)?;
+    let is_last = first.asks(PURGE, PURGED_LAST)?;
+    let is_found = first.asks(LOOKUP, FOUND)?;
+    Ok([is_acknowledged, is_last, is_found])
 }
 
 impl Clients for GivingUp<'_> {
@@ -90,17 +95,10 @@ impl Clients for GivingUp<'_> {
         to: SocketAddr,
     ) -> io::Result<(bool, u64, [bool; 3])> {
         let (mut first, is_held) = hold(rt, alloc, to, self.door)?;
-        let mut answered: u64 = 0;
-        for _ in 0..ROUNDS {
-            if round(rt, alloc, to)? {
-                answered = answered.saturating_add(1);
-            }
-        }
+        let answered = answered_rounds(rt, alloc, to)?;
         self.door.open(&rt);
-        let is_acknowledged = first.receives(REGISTERED)?;
-        let is_last = first.asks(PURGE, PURGED_LAST)?;
-        let is_found = first.asks(LOOKUP, FOUND)?;
-        Ok((is_held, answered, [is_acknowledged, is_last, is_found]))
+        let last = last_replies(&mut first)?;
+        Ok((is_held, answered, last))
     }
 }
 
@@ -108,19 +106,17 @@ impl Clients for GivingUp<'_> {
 // purge that comes later.
 #[test]
 fn seats_are_given_back_while_the_device_hangs(rt: HostRuntime) {
-    let alloc = rt.alloc();
     let door = Door::new();
-    let mut options = options(&rt, alloc, 0);
+    let mut options = options(&rt, rt.alloc(), 0);
     options.spare = SPARE;
     let clients = GivingUp { door: &door };
-    let (device, _served, seen) = meet_held(&rt, alloc, &door, &options, &clients);
+    let others = Others::none();
+    let left = (1, 2 + ROUNDS * PEERS);
+    let (_served, seen) = serve_held(&rt, rt.alloc(), &door, others, &options, &clients, left);
     let (is_held, answered, last) = seen.expect(&rt, "the clients meet the server");
     assert_true(&rt, is_held, "a sync is held");
     assert_same(&rt, &answered, &ROUNDS, &"rounds that are answered");
     assert_same(&rt, &last, &[true; 3], &"the last replies");
-    assert_same(&rt, &door.latch(&rt), &Latch::Open, &"latch");
-    let (device, _gate) = device.into_parts();
-    let _device = assert_opens_to(&rt, alloc, device, 1, 2 + ROUNDS * PEERS);
 }
 
 /// Has one more session send a command than have room, while a sync is held.
@@ -139,6 +135,24 @@ struct Outcomes {
     busy: usize,
 }
 
+impl Outcomes {
+    /// Counts the reply to a purge.
+    fn count(&mut self, reply: &str) {
+        if reply == BUSY {
+            self.busy = self.busy.saturating_add(1);
+        } else if reply.starts_with(PURGED.0) && reply.len() == PURGED.1 {
+            self.acknowledged = self.acknowledged.saturating_add(1);
+        }
+    }
+
+    /// Counts what became of the purge of a peer.
+    fn end(&mut self, peer: Peer) -> io::Result<()> {
+        let reply = peer.end()?;
+        self.count(reply.as_str());
+        Ok(())
+    }
+}
+
 /// What became of the purges of these peers.
 fn outcomes_of(peers: Vec<Peer>) -> io::Result<Outcomes> {
     let mut outcomes = Outcomes {
@@ -146,18 +160,50 @@ fn outcomes_of(peers: Vec<Peer>) -> io::Result<Outcomes> {
         busy: 0,
     };
     for peer in peers {
-        let reply = peer.end()?;
-        if reply.as_str() == BUSY {
-            outcomes.busy = outcomes.busy.saturating_add(1);
-        } else if reply.as_str().starts_with(PURGED.0) && reply.len() == PURGED.1 {
-            outcomes.acknowledged = outcomes.acknowledged.saturating_add(1);
-        }
+        outcomes.end(peer)?;
     }
     Ok(outcomes)
 }
 
 /// How long the peers wait, in naps: a second.
 const WAIT: u64 = 200;
+
+/// Adds a peer that has sent a purge.
+fn add_purging<R: Outside>(
+    rt: R,
+    alloc: Global,
+    to: SocketAddr,
+    peers: &mut Vec<Peer>,
+) -> io::Result<()> {
+    let mut peer = Peer::connect(rt, alloc, to)?;
+    peer.send(PURGE)?;
+    peers.push(peer)?;
+    Ok(())
+}
+
+/// Peers that have sent a purge each, one more than have room.
+fn purging_peers<R: Outside>(rt: R, alloc: Global, to: SocketAddr) -> io::Result<Vec<Peer>> {
+    let mut peers = Vec::new(alloc);
+    for _ in 0..ROOMS {
+        add_purging(rt, alloc, to, &mut peers)?;
+    }
+    Ok(peers)
+}
+
+/// Whether a session finds nothing once it has a seat.
+fn finds_nothing<R: Outside>(rt: R, alloc: Global, to: SocketAddr) -> io::Result<bool> {
+    let mut peer = seated(rt, alloc, to)?;
+    peer.asks(LOOKUP, NOTHING)
+}
+
+/// Whether as many sessions as have spare seats look up, one after the other.
+fn are_answered<R: Outside>(rt: R, alloc: Global, to: SocketAddr) -> io::Result<bool> {
+    let mut are_answered = true;
+    for _ in 0..SPARE {
+        are_answered &= finds_nothing(rt, alloc, to)?;
+    }
+    Ok(are_answered)
+}
 
 impl Clients for Waiting<'_> {
     type Seen = ([bool; 3], Outcomes);
@@ -169,19 +215,9 @@ impl Clients for Waiting<'_> {
         to: SocketAddr,
     ) -> io::Result<([bool; 3], Outcomes)> {
         let (mut first, is_held) = hold(rt, alloc, to, self.door)?;
-        let mut peers = Vec::new(alloc);
-        for _ in 0..ROOMS {
-            let mut peer = Peer::connect(rt, alloc, to)?;
-            peer.send(PURGE)?;
-            peers.push(peer)?;
-        }
-        for _ in 0..WAIT {
-            nap(&rt);
-        }
-        let mut are_answered = true;
-        for _ in 0..SPARE {
-            are_answered &= seated(rt, alloc, to)?.asks(LOOKUP, NOTHING)?;
-        }
+        let peers = purging_peers(rt, alloc, to)?;
+        naps(&rt, WAIT);
+        let are_answered = are_answered(rt, alloc, to)?;
         self.door.open(&rt);
         let is_acknowledged = first.receives(REGISTERED)?;
         let outcomes = outcomes_of(peers)?;
@@ -191,12 +227,13 @@ impl Clients for Waiting<'_> {
 
 #[test]
 fn spare_seats_have_no_commands_under_way(rt: HostRuntime) {
-    let alloc = rt.alloc();
     let door = Door::new();
-    let mut options = options(&rt, alloc, 0);
+    let mut options = options(&rt, rt.alloc(), 0);
     options.spare = SPARE;
     let clients = Waiting { door: &door };
-    let (device, _served, seen) = meet_held(&rt, alloc, &door, &options, &clients);
+    let others = Others::none();
+    let left = (1, ROOMS as u64);
+    let (_served, seen) = serve_held(&rt, rt.alloc(), &door, others, &options, &clients, left);
     let (seen, outcomes) = seen.expect(&rt, "the clients meet the server");
     assert_same(&rt, &seen, &[true; 3], &"held, answered and acknowledged");
     let wanted = Outcomes {
@@ -204,15 +241,23 @@ fn spare_seats_have_no_commands_under_way(rt: HostRuntime) {
         busy: 1,
     };
     assert_same(&rt, &outcomes, &wanted, &"purges");
-    assert_same(&rt, &door.latch(&rt), &Latch::Open, &"latch");
-    let (device, _gate) = device.into_parts();
-    let _device = assert_opens_to(&rt, alloc, device, 1, ROOMS as u64);
 }
 
 /// A peer sends a command and ends its side while a sync is held, and waits for the reply.
 #[derive(Drop)]
 struct Ending<'a> {
     door: &'a Door,
+}
+
+/// Whether the first peer is replied that its registration has the place 0, and that its purge has
+/// the place 2.
+fn next_replies(first: &mut Peer) -> io::Result<(bool, bool)> {
+    let is_acknowledged = first.receives(REGISTERED)?;
+    let is_next = first.asks(
+        PURGE,
+        "0000001983000000000000000200000000000000000000000000000000",
+    )?;
+    Ok((is_acknowledged, is_next))
 }
 
 impl Clients for Ending<'_> {
@@ -227,11 +272,7 @@ impl Clients for Ending<'_> {
         let (mut first, is_held) = hold(rt, alloc, to, self.door)?;
         let given_up = replies(rt, alloc, to, PURGE)?;
         self.door.open(&rt);
-        let is_acknowledged = first.receives(REGISTERED)?;
-        let is_next = first.asks(
-            PURGE,
-            "0000001983000000000000000200000000000000000000000000000000",
-        )?;
+        let (is_acknowledged, is_next) = next_replies(&mut first)?;
         Ok(([is_held, is_acknowledged, is_next], given_up))
     }
 }
@@ -239,14 +280,12 @@ impl Clients for Ending<'_> {
 // The purge that is not awaited has the place 1.
 #[test]
 fn a_peer_that_has_ended_its_side_is_not_awaited(rt: HostRuntime) {
-    let alloc = rt.alloc();
     let door = Door::new();
-    let options = options(&rt, alloc, 2);
+    let options = options(&rt, rt.alloc(), 2);
     let clients = Ending { door: &door };
-    let (device, served, seen) = meet_held(&rt, alloc, &door, &options, &clients);
+    let others = Others::none();
+    let (served, seen) = serve_held(&rt, rt.alloc(), &door, others, &options, &clients, (1, 3));
     let (seen, given_up) = assert_served(&rt, served, seen, 2);
     assert_same(&rt, &seen, &[true; 3], &"held, acknowledged and next");
     assert_same(&rt, &given_up.as_str(), &NOT_AWAITED, &"given up");
-    let (device, _gate) = device.into_parts();
-    let _device = assert_opens_to(&rt, alloc, device, 1, 3);
 }

@@ -61,12 +61,17 @@ impl Peer {
         Ok(())
     }
 
+    /// Receives as many bytes as are wanted: whether they are these.
+    fn receives_bytes(&mut self, bytes: &mut [u8], wanted: &[u8]) -> io::Result<bool> {
+        self.stream.read_exact(bytes)?;
+        Ok(*bytes == *wanted)
+    }
+
     /// Receives as many bytes as this hexadecimal text encodes: whether they are these.
     pub(crate) fn receives(&mut self, text: &str) -> io::Result<bool> {
         let wanted = bytes_of(self.alloc, text)?;
         let mut bytes = bytes_of(self.alloc, text)?;
-        self.stream.read_exact(bytes.as_mut_slice())?;
-        Ok(bytes.as_slice() == wanted.as_slice())
+        self.receives_bytes(bytes.as_mut_slice(), wanted.as_slice())
     }
 
     /// Sends a request, and receives the reply: whether it is this one.
@@ -107,6 +112,31 @@ pub(crate) fn replies<R: Outside>(
     peer.end()
 }
 
+/// Has two sessions, one after the other: what a server replies to each.
+fn two_replies<R: Outside>(
+    rt: R,
+    alloc: Global,
+    to: SocketAddr,
+    one: &str,
+    other: &str,
+) -> io::Result<(String, String)> {
+    let first = replies(rt, alloc, to, one)?;
+    let second = replies(rt, alloc, to, other)?;
+    Ok((first, second))
+}
+
+/// Has four sessions, one after the other: what a server replies to each.
+pub(crate) fn four_replies<R: Outside>(
+    rt: R,
+    alloc: Global,
+    to: SocketAddr,
+    requests: [&str; 4],
+) -> io::Result<[String; 4]> {
+    let (first, second) = two_replies(rt, alloc, to, requests[0], requests[1])?;
+    let (third, fourth) = two_replies(rt, alloc, to, requests[2], requests[3])?;
+    Ok([first, second, third, fourth])
+}
+
 /// Sees that sessions were replied this, each by its number.
 pub(crate) fn assert_replies(rt: &impl Abort, seen: &[String; 4], wanted: &[&str; 4]) {
     for (number, (replies, wanted)) in seen.iter().zip(wanted).enumerate() {
@@ -114,12 +144,40 @@ pub(crate) fn assert_replies(rt: &impl Abort, seen: &[String; 4], wanted: &[&str
     }
 }
 
+/// Asks in a session of its own: whether the reply is this one.
+pub(crate) fn is_replied<R: Outside>(
+    rt: R,
+    alloc: Global,
+    to: SocketAddr,
+    request: &str,
+    reply: &str,
+) -> io::Result<bool> {
+    Peer::connect(rt, alloc, to)?.asks(request, reply)
+}
+
+/// Whether an empty lookup in a session of its own is answered.
+pub(crate) fn has_session<R: Outside>(rt: R, alloc: Global, to: SocketAddr) -> io::Result<bool> {
+    is_replied(rt, alloc, to, EMPTY_LOOKUP, NO_DESTINATION)
+}
+
+/// What a peer is sent that sends nothing itself, until the server ends the connection.
+pub(crate) fn unasked<R: Outside>(rt: R, alloc: Global, to: SocketAddr) -> io::Result<String> {
+    Peer::connect(rt, alloc, to)?.receive()
+}
+
+/// A peer that has asked for a seat, and whether it has one.
+fn asking<R: Outside>(rt: R, alloc: Global, to: SocketAddr) -> io::Result<(Peer, bool)> {
+    let mut peer = Peer::connect(rt, alloc, to)?;
+    let is_seated = peer.asks(EMPTY_LOOKUP, NO_DESTINATION).unwrap_or(false);
+    Ok((peer, is_seated))
+}
+
 /// A peer that has a seat. An earlier session may not have left its own yet, so the peer asks
 /// again.
 pub(crate) fn seated<R: Outside>(rt: R, alloc: Global, to: SocketAddr) -> io::Result<Peer> {
     for _ in 0..MOST_ASKED {
-        let mut peer = Peer::connect(rt, alloc, to)?;
-        if let Ok(true) = peer.asks(EMPTY_LOOKUP, NO_DESTINATION) {
+        let (peer, is_seated) = asking(rt, alloc, to)?;
+        if is_seated {
             return Ok(peer);
         }
     }

@@ -1,18 +1,21 @@
 //! A server that purges by itself.
 
 use crate::server::checks::{assert_same, assert_true};
-use crate::server::doors::nap;
-use crate::server::peers::{EMPTY_LOOKUP, NO_DESTINATION, Peer};
+use crate::server::doors::{nap, naps};
+use crate::server::peers::{EMPTY_LOOKUP, NO_DESTINATION, Peer, is_replied};
 use crate::server::rows::{FOUND, LOOKUP, REGISTERED, REGISTRATION};
-use crate::server::stores::{LEAST, assert_opens_to, failing, formatted, opened};
-use crate::server::worlds::{Clients, Counts, Outside, assert_served, options, serve_clients};
+use crate::server::stores::{LEAST, assert_opens_to, formatted, opened};
+use crate::server::worlds::{
+    Clients, Counts, End, Others, Outside, assert_met, assert_met_failing, assert_served, options,
+    serve_beside,
+};
 use path_server::Options;
+use sector_dev::MemDevice;
 use std::alloc::Global;
 use std::io;
 use std::net::SocketAddr;
 use std::process::Abort;
-use std::test::Fail;
-use std::time::Duration;
+use std::time::{Clock, Duration};
 
 /// The period of the purges, in milliseconds.
 const PERIOD: u64 = 20;
@@ -30,21 +33,32 @@ fn purging(rt: &impl Abort, alloc: Global, period: Duration) -> Options {
 /// Registers, and keeps its session open for some periods.
 struct Staying;
 
+/// Registers and waits for some periods: whether the session is open, and the segment is found.
+fn stay(clock: &impl Clock, peer: &mut Peer) -> io::Result<[bool; 2]> {
+    let is_open = peer.asks(EMPTY_LOOKUP, NO_DESTINATION)?;
+    peer.send(REGISTRATION)?;
+    naps(clock, PERIOD);
+    // The place of the registration is not known, as a purge may come before it.
+    let _is_first = peer.receives(REGISTERED)?;
+    let is_found = peer.asks(LOOKUP, FOUND)?;
+    Ok([is_open, is_found])
+}
+
 impl Clients for Staying {
     type Seen = [bool; 2];
 
     fn meet<R: Outside>(&self, rt: R, alloc: Global, to: SocketAddr) -> io::Result<[bool; 2]> {
         let mut peer = Peer::connect(rt, alloc, to)?;
-        let is_open = peer.asks(EMPTY_LOOKUP, NO_DESTINATION)?;
-        peer.send(REGISTRATION)?;
-        for _ in 0..PERIOD {
-            nap(&rt);
-        }
-        // The place of the registration is not known, as a purge may come before it.
-        let _is_first = peer.receives(REGISTERED)?;
-        let is_found = peer.asks(LOOKUP, FOUND)?;
-        Ok([is_open, is_found])
+        stay(&rt, &mut peer)
     }
+}
+
+/// Sees that a device opens to one row, at a place after that of a purge.
+fn assert_purged(rt: &impl Abort, alloc: Global, device: MemDevice) {
+    let store = opened(rt, alloc, device);
+    let place = store.place();
+    assert_true(rt, place > 1, "a purge has a place");
+    let _device = assert_opens_to(rt, alloc, store.into_device(), 1, place);
 }
 
 // Each purge takes a place of its own, and drops nothing that is valid.
@@ -54,14 +68,14 @@ fn server_purges_by_itself(rt: HostRuntime) {
     let device = formatted(&rt, alloc, LEAST);
     let options = purging(&rt, alloc, Duration::from_millis(PERIOD));
     let counts = Counts::new();
-    let (device, served, seen) = serve_clients(&rt, alloc, device, &options, &Staying, &counts);
+    let others = Others::none();
+    let (device, served, seen) = serve_beside(
+        &rt, alloc, device, others, &options, &Staying, &counts,
+    );
+    assert_purged(&rt, alloc, device);
     let seen = assert_served(&rt, served, seen, 1);
     assert_same(&rt, &seen, &[true; 2], &"open and found");
     assert_same(&rt, &counts.not_purged(), &0, &"not purged");
-    let store = opened(&rt, alloc, device);
-    let place = store.place();
-    assert_true(&rt, place > 1, "a purge has a place");
-    let _device = assert_opens_to(&rt, alloc, store.into_device(), 1, place);
 }
 
 /// Registers once, and ends its session.
@@ -71,21 +85,21 @@ impl Clients for Leaving {
     type Seen = bool;
 
     fn meet<R: Outside>(&self, rt: R, alloc: Global, to: SocketAddr) -> io::Result<bool> {
-        Peer::connect(rt, alloc, to)?.asks(REGISTRATION, REGISTERED)
+        is_replied(rt, alloc, to, REGISTRATION, REGISTERED)
     }
 }
 
 // The server ends before its first period does.
 #[test]
 fn end_does_not_wait_for_a_period(rt: HostRuntime) {
-    let alloc = rt.alloc();
-    let device = formatted(&rt, alloc, LEAST);
-    let options = purging(&rt, alloc, Duration::from_secs(1_000_000));
-    let counts = Counts::new();
-    let (device, served, seen) = serve_clients(&rt, alloc, device, &options, &Leaving, &counts);
-    let seen = assert_served(&rt, served, seen, 1);
+    let options = purging(&rt, rt.alloc(), Duration::from_secs(1_000_000));
+    let end = End {
+        sessions: 1,
+        rows: 1,
+        place: 1,
+    };
+    let seen = assert_met(&rt, rt.alloc(), &options, &Leaving, &Counts::new(), end);
     assert_true(&rt, seen, "the registration is acknowledged");
-    let _device = assert_opens_to(&rt, alloc, device, 1, 1);
 }
 
 /// Waits until a purge was refused, and for some more periods.
@@ -94,36 +108,38 @@ struct Refused<'a> {
     counts: &'a Counts,
 }
 
+impl Refused<'_> {
+    /// Waits until a purge was refused.
+    fn wait(&self, clock: &impl Clock) {
+        for _ in 0..MOST_NAPS {
+            if self.counts.not_purged() > 0 {
+                break;
+            }
+            nap(clock);
+        }
+    }
+}
+
 impl Clients for Refused<'_> {
     type Seen = bool;
 
     fn meet<R: Outside>(&self, rt: R, alloc: Global, to: SocketAddr) -> io::Result<bool> {
         let mut peer = Peer::connect(rt, alloc, to)?;
-        for _ in 0..MOST_NAPS {
-            if self.counts.not_purged() > 0 {
-                break;
-            }
-            nap(&rt);
-        }
-        for _ in 0..PERIOD {
-            nap(&rt);
-        }
+        self.wait(&rt);
+        naps(&rt, PERIOD);
         peer.asks(EMPTY_LOOKUP, NO_DESTINATION)
     }
 }
 
 // The device fails in the second purge. It is refused, as are those after it: one report says so.
 #[test]
-fn refused_purges_are_reported_once(rt: HostRuntime) -> Result<(), Fail> {
-    let alloc = rt.alloc();
-    let device = failing(&rt, alloc);
-    let options = purging(&rt, alloc, Duration::from_millis(PERIOD));
+fn refused_purges_are_reported_once(rt: HostRuntime) {
+    let options = purging(&rt, rt.alloc(), Duration::from_millis(PERIOD));
     let counts = Counts::new();
     let clients = Refused { counts: &counts };
-    let (_device, served, seen) = serve_clients(&rt, alloc, device, &options, &clients, &counts);
-    assert_same(&rt, &served, &Ok(1), &"sessions");
-    assert_true(&rt, seen?, "the session goes on");
+    let others = Others::none();
+    let seen = assert_met_failing(&rt, rt.alloc(), others, &options, &clients, &counts, 1);
+    assert_true(&rt, seen, "the session goes on");
     assert_same(&rt, &counts.not_purged(), &1, &"not purged");
     assert_same(&rt, &counts.stopped(), &1, &"stopped");
-    Ok(())
 }

@@ -3,13 +3,14 @@
 //! by that, and reports no fault of its device.
 
 use crate::server::checks::{assert_same, assert_true};
-use crate::server::stores::{LEAST, assert_opens_to, formatted, opened};
-use crate::server::worlds::{Counts, World};
-use path_server::{Listener, Listeners, Options, RunError, serve_store};
+use crate::server::stores::{LEAST, assert_opens_to, formatted};
+use crate::server::worlds::{Counts, World, serve};
+use path_server::{Listener, Listeners, Options, RunError};
 use seg_lookup::Roster;
 use std::alloc::Global;
 use std::io;
 use std::net::{OpenListener, SocketAddr, TcpStream};
+use std::process::Abort;
 use std::time::Duration;
 
 /// A listener that is none.
@@ -26,11 +27,9 @@ impl OpenListener for Broken {
 
 impl Listener for Broken {}
 
-/// Has a server begin over a new store, with a second listener or without one: whether its threads
-/// were given.
-fn has_threads<R: World>(rt: R, alloc: Global, status: Option<Broken>) -> bool {
-    let store = opened(&rt, alloc, formatted(&rt, alloc, LEAST));
-    let options = Options {
+/// The options of a server without core ASes, for any number of sessions.
+fn no_cores(alloc: Global) -> Options {
+    Options {
         cores: Roster::new(Vec::new(alloc)),
         key: None,
         sessions: 0,
@@ -41,29 +40,35 @@ fn has_threads<R: World>(rt: R, alloc: Global, status: Option<Broken>) -> bool {
         lookup_seats: 0,
         purge: None,
         grace: Duration::from_millis(100),
-    };
-    let counts = Counts::new();
-    let (device, _left, served) = serve_store(
-        rt,
-        alloc,
-        Listeners {
-            sessions: Broken,
-            lookups: None,
-            status,
-        },
-        store,
-        &options,
-        &counts,
-    );
-    assert_same(&rt, &counts.stopped(), &0, &"stopped");
-    let _device = assert_opens_to(&rt, alloc, device, 0, 0);
+    }
+}
+
+/// Whether a server, which has reported no stop, ended by its broken listener. Otherwise it was
+/// given no threads.
+fn was_ready(rt: &impl Abort, served: Result<u64, RunError>, counts: &Counts) -> bool {
+    assert_same(rt, &counts.stopped(), &0, &"stopped");
     if served == Err(RunError::NoMemory) {
-        assert_same(&rt, &counts.ready(), &0, &"ready without threads");
+        assert_same(rt, &counts.ready(), &0, &"ready without threads");
         return false;
     }
-    assert_same(&rt, &served, &Err(RunError::Net), &"served");
-    assert_same(&rt, &counts.ready(), &1, &"ready");
+    assert_same(rt, &served, &Err(RunError::Net), &"served");
+    assert_same(rt, &counts.ready(), &1, &"ready");
     true
+}
+
+/// Has a server begin over a new store, with a second listener or without one: whether its threads
+/// were given.
+fn has_threads<R: World>(rt: R, alloc: Global, status: Option<Broken>) -> bool {
+    let device = formatted(&rt, alloc, LEAST);
+    let listeners = Listeners {
+        sessions: Broken,
+        lookups: None,
+        status,
+    };
+    let counts = Counts::new();
+    let (device, served) = serve(rt, alloc, listeners, device, &no_cores(alloc), &counts);
+    let _device = assert_opens_to(&rt, alloc, device, 0, 0);
+    was_ready(&rt, served, &counts)
 }
 
 // At most one allocation is refused, so that of two servers one has its actors.

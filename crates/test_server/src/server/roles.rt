@@ -11,7 +11,6 @@ use path_server::{MOST_LOOKUP_SEATS, MOST_SESSIONS, Options};
 use std::alloc::Global;
 use std::io;
 use std::net::{SocketAddr, TcpListener};
-use std::test::Fail;
 
 /// What is replied to a command in a session that only looks up.
 const NO_COMMANDS: &str = "00000002ff64";
@@ -44,26 +43,31 @@ struct Asking {
     lookups: SocketAddr,
 }
 
+/// Whether the replies in a session of each listener are as they should be.
+fn are_replied(first: &mut Peer, second: &mut Peer) -> io::Result<[bool; 6]> {
+    Ok([
+        second.asks(LOOKUP, NOTHING)?,
+        second.asks(REGISTRATION, NO_COMMANDS)?,
+        first.asks(REGISTRATION, REGISTERED)?,
+        second.asks(PURGE, NO_COMMANDS)?,
+        first.asks(LOOKUP, FOUND)?,
+        second.asks(LOOKUP, FOUND)?,
+    ])
+}
+
 impl Clients for Asking {
     type Seen = [bool; 6];
 
     fn meet<R: Outside>(&self, rt: R, alloc: Global, to: SocketAddr) -> io::Result<[bool; 6]> {
         let mut first = Peer::connect(rt, alloc, to)?;
         let mut second = Peer::connect(rt, alloc, self.lookups)?;
-        Ok([
-            second.asks(LOOKUP, NOTHING)?,
-            second.asks(REGISTRATION, NO_COMMANDS)?,
-            first.asks(REGISTRATION, REGISTERED)?,
-            second.asks(PURGE, NO_COMMANDS)?,
-            first.asks(LOOKUP, FOUND)?,
-            second.asks(LOOKUP, FOUND)?,
-        ])
+        are_replied(&mut first, &mut second)
     }
 }
 
 // The device opens to the one command of the first listener.
 #[test]
-fn commands_are_refused_at_the_listener_of_lookups(rt: HostRuntime) -> Result<(), Fail> {
+fn commands_are_refused_at_the_listener_of_lookups(rt: HostRuntime) {
     let alloc = rt.alloc();
     let mut options = options(&rt, alloc, 2);
     options.lookup_seats = 16;
@@ -72,8 +76,8 @@ fn commands_are_refused_at_the_listener_of_lookups(rt: HostRuntime) -> Result<()
     let counts = Counts::new();
     let (served, seen) = meet_both(&rt, alloc, listener, &options, &clients, &counts);
     assert_same(&rt, &served, &2, &"sessions");
-    assert_same(&rt, &seen?, &[true; 6], &"replies");
-    Ok(())
+    let seen = seen.expect(&rt, "the clients meet the server");
+    assert_same(&rt, &seen, &[true; 6], &"replies");
 }
 
 /// Takes all seats of both listeners, and asks each for one more.
@@ -82,17 +86,56 @@ struct Filling {
     lookups: SocketAddr,
 }
 
+/// Sees that a peer has a seat.
+fn check_seat(peer: &mut Peer) -> io::Result<()> {
+    if !peer.asks(EMPTY_LOOKUP, NO_DESTINATION)? {
+        return Err(io::Error::from(io::ErrorKind::Other));
+    }
+    Ok(())
+}
+
+/// Adds a peer with a seat.
+fn add_seated<R: Outside>(
+    rt: R,
+    alloc: Global,
+    to: SocketAddr,
+    peers: &mut Vec<Peer>,
+) -> io::Result<()> {
+    let mut peer = Peer::connect(rt, alloc, to)?;
+    check_seat(&mut peer)?;
+    peers.push(peer)?;
+    Ok(())
+}
+
 /// This number of peers with seats.
 fn held<R: Outside>(rt: R, alloc: Global, to: SocketAddr, count: u64) -> io::Result<Vec<Peer>> {
     let mut peers = Vec::new(alloc);
     for _ in 0..count {
-        let mut peer = Peer::connect(rt, alloc, to)?;
-        if !peer.asks(EMPTY_LOOKUP, NO_DESTINATION)? {
-            return Err(io::Error::from(io::ErrorKind::Other));
-        }
-        peers.push(peer)?;
+        add_seated(rt, alloc, to, &mut peers)?;
     }
     Ok(peers)
+}
+
+/// Whether a peer is turned away.
+fn is_turned_away<R: Outside>(rt: R, alloc: Global, to: SocketAddr) -> io::Result<bool> {
+    Ok(replies(rt, alloc, to, "")?.as_str() == NO_SEAT)
+}
+
+/// Whether the last one of some peers registers.
+fn is_registered(peers: &mut Vec<Peer>) -> io::Result<bool> {
+    match peers.pop() {
+        Some(mut peer) => peer.asks(REGISTRATION, REGISTERED),
+        None => Ok(false),
+    }
+}
+
+/// Takes the seats of the first listener: whether one more peer is turned away, and whether one of
+/// those with seats registers.
+fn fill<R: Outside>(rt: R, alloc: Global, to: SocketAddr) -> io::Result<(bool, bool)> {
+    let mut others = held(rt, alloc, to, MOST_SESSIONS - MOST_LOOKUP_SEATS)?;
+    let is_full = is_turned_away(rt, alloc, to)?;
+    let is_registered = is_registered(&mut others)?;
+    Ok((is_full, is_registered))
 }
 
 impl Clients for Filling {
@@ -100,13 +143,8 @@ impl Clients for Filling {
 
     fn meet<R: Outside>(&self, rt: R, alloc: Global, to: SocketAddr) -> io::Result<[bool; 3]> {
         let _lookups = held(rt, alloc, self.lookups, MOST_LOOKUP_SEATS)?;
-        let is_refused = replies(rt, alloc, self.lookups, "")?.as_str() == NO_SEAT;
-        let mut others = held(rt, alloc, to, MOST_SESSIONS - MOST_LOOKUP_SEATS)?;
-        let is_full = replies(rt, alloc, to, "")?.as_str() == NO_SEAT;
-        let is_registered = match others.pop() {
-            Some(mut peer) => peer.asks(REGISTRATION, REGISTERED)?,
-            None => false,
-        };
+        let is_refused = is_turned_away(rt, alloc, self.lookups)?;
+        let (is_full, is_registered) = fill(rt, alloc, to)?;
         Ok([is_refused, is_full, is_registered])
     }
 }

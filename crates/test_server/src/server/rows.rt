@@ -1,11 +1,8 @@
 //! Sessions as they should be.
 
 use crate::server::checks::assert_same;
-use crate::server::peers::{Peer, assert_replies, replies};
-use crate::server::stores::{LEAST, assert_opens_to, formatted};
-use crate::server::worlds::{
-    Clients, Counts, Outside, World, assert_served, options, serve_clients,
-};
+use crate::server::peers::{Peer, assert_replies, four_replies};
+use crate::server::worlds::{Clients, Counts, End, Outside, World, assert_met, options};
 use seg_check::Keyed;
 use std::alloc::Global;
 use std::io;
@@ -32,16 +29,10 @@ impl Clients for Talks {
     type Seen = [String; 4];
 
     fn meet<R: Outside>(&self, rt: R, alloc: Global, to: SocketAddr) -> io::Result<[String; 4]> {
-        let registered = replies(rt, alloc, to, REGISTRATION)?;
-        let found = replies(rt, alloc, to, LOOKUP)?;
-        let empty = replies(rt, alloc, to, "00000001020000000101")?;
-        let purged = replies(
-            rt,
-            alloc,
-            to,
-            "000000090300000000000000000000000903000000000000000000000009030000000000000000",
-        )?;
-        Ok([registered, found, empty, purged])
+        let empty = "00000001020000000101";
+        let purges =
+            "000000090300000000000000000000000903000000000000000000000009030000000000000000";
+        four_replies(rt, alloc, to, [REGISTRATION, LOOKUP, empty, purges])
     }
 }
 
@@ -57,20 +48,14 @@ const TALKED: [&str; 4] = [
 
 #[test]
 fn register_then_lookup(rt: HostRuntime) {
-    let alloc = rt.alloc();
-    let device = formatted(&rt, alloc, LEAST);
-    let options = options(&rt, alloc, 4);
-    let (device, served, seen) = serve_clients(
-        &rt,
-        alloc,
-        device,
-        &options,
-        &Talks,
-        &Counts::new(),
-    );
-    let seen = assert_served(&rt, served, seen, 4);
+    let options = options(&rt, rt.alloc(), 4);
+    let end = End {
+        sessions: 4,
+        rows: 1,
+        place: 5,
+    };
+    let seen = assert_met(&rt, rt.alloc(), &options, &Talks, &Counts::new(), end);
     assert_replies(&rt, &seen, &TALKED);
-    let _device = assert_opens_to(&rt, alloc, device, 1, 5);
 }
 
 /// Registers a segment that nobody has signed, and looks it up.
@@ -90,21 +75,16 @@ impl Clients for Unsigned {
 #[test]
 fn signatures_are_checked_by_the_key(rt: HostRuntime) {
     let alloc = rt.alloc();
-    let device = formatted(&rt, alloc, LEAST);
     let mut options = options(&rt, alloc, 1);
     options.key = Some(Keyed::new(Vec::new(alloc)));
-    let (device, served, seen) = serve_clients(
-        &rt,
-        alloc,
-        device,
-        &options,
-        &Unsigned,
-        &Counts::new(),
-    );
-    let seen = assert_served(&rt, served, seen, 1);
+    let end = End {
+        sessions: 1,
+        rows: 0,
+        place: 0,
+    };
+    let seen = assert_met(&rt, alloc, &options, &Unsigned, &Counts::new(), end);
     let found = seen.as_str().strip_prefix(NO_SIGNATURE);
     assert_same(&rt, &found, &Some(NOTHING), &"found");
-    let _device = assert_opens_to(&rt, alloc, device, 0, 0);
 }
 
 /// The refusal of a time that lies in the future.
@@ -120,11 +100,7 @@ impl Clients for Early {
     type Seen = [String; 4];
 
     fn meet<R: Outside>(&self, rt: R, alloc: Global, to: SocketAddr) -> io::Result<[String; 4]> {
-        let registered = replies(rt, alloc, to, REGISTRATION)?;
-        let found = replies(rt, alloc, to, LOOKUP)?;
-        let all = replies(rt, alloc, to, PURGE_ALL)?;
-        let none = replies(rt, alloc, to, PURGE)?;
-        Ok([registered, found, all, none])
+        four_replies(rt, alloc, to, [REGISTRATION, LOOKUP, PURGE_ALL, PURGE])
     }
 }
 
@@ -136,13 +112,15 @@ fn assert_early<R: World>(
     wanted: [&str; 4],
     (rows, place): (usize, u64),
 ) {
-    let device = formatted(&rt, alloc, LEAST);
     let mut options = options(&rt, alloc, 4);
     options.future = bound;
-    let (device, served, seen) = serve_clients(rt, alloc, device, &options, &Early, &Counts::new());
-    let seen = assert_served(&rt, served, seen, 4);
+    let end = End {
+        sessions: 4,
+        rows,
+        place,
+    };
+    let seen = assert_met(rt, alloc, &options, &Early, &Counts::new(), end);
     assert_replies(&rt, &seen, &wanted);
-    let _device = assert_opens_to(&rt, alloc, device, rows, place);
 }
 
 #[test]

@@ -1,15 +1,16 @@
 //! A sync that is held, and a device that fails, while sessions are open.
 
 use crate::server::checks::assert_same;
-use crate::server::doors::{Door, Holds, Latch};
+use crate::server::doors::Door;
+use crate::server::held::serve_held;
 use crate::server::peers::{EMPTY_LOOKUP, NO_DESTINATION, Peer};
 use crate::server::rows::{FOUND, LOOKUP, NOTHING, PURGE, REGISTERED, REGISTRATION};
-use crate::server::stores::{LEAST, assert_opens_to, failing, formatted};
-use crate::server::worlds::{Clients, Counts, Outside, assert_served, options, serve_clients};
+use crate::server::worlds::{
+    Clients, Counts, Others, Outside, assert_met_failing, assert_served, options,
+};
 use std::alloc::Global;
 use std::io;
 use std::net::SocketAddr;
-use test_fault_devices::HeldDevice;
 
 /// One session registers while a sync of its group is held, and another looks up meanwhile; then
 /// the first one gets its receipt, and both see the segment.
@@ -18,12 +19,14 @@ struct Holding<'a> {
     door: &'a Door,
 }
 
-impl Clients for Holding<'_> {
-    type Seen = [bool; 6];
-
-    fn meet<R: Outside>(&self, rt: R, alloc: Global, to: SocketAddr) -> io::Result<[bool; 6]> {
-        let mut first = Peer::connect(rt, alloc, to)?;
-        let mut second = Peer::connect(rt, alloc, to)?;
+impl Holding<'_> {
+    /// What both sessions see.
+    fn hold<R: Outside>(
+        &self,
+        rt: R,
+        first: &mut Peer,
+        second: &mut Peer,
+    ) -> io::Result<[bool; 6]> {
         // The store is open once a request is answered.
         let is_open = second.asks(EMPTY_LOOKUP, NO_DESTINATION)?;
         self.door.arm(&rt);
@@ -46,30 +49,25 @@ impl Clients for Holding<'_> {
     }
 }
 
+impl Clients for Holding<'_> {
+    type Seen = [bool; 6];
+
+    fn meet<R: Outside>(&self, rt: R, alloc: Global, to: SocketAddr) -> io::Result<[bool; 6]> {
+        let mut first = Peer::connect(rt, alloc, to)?;
+        let mut second = Peer::connect(rt, alloc, to)?;
+        self.hold(rt, &mut first, &mut second)
+    }
+}
+
 #[test]
 fn held_sync_lookup(rt: HostRuntime) {
-    let alloc = rt.alloc();
     let door = Door::new();
-    let holds = Holds {
-        rt: &rt,
-        door: &door,
-    };
-    let device = HeldDevice::new(formatted(&rt, alloc, LEAST), holds);
-    let options = options(&rt, alloc, 2);
+    let options = options(&rt, rt.alloc(), 2);
     let clients = Holding { door: &door };
-    let (device, served, seen) = serve_clients(
-        &rt,
-        alloc,
-        device,
-        &options,
-        &clients,
-        &Counts::new(),
-    );
+    let others = Others::none();
+    let (served, seen) = serve_held(&rt, rt.alloc(), &door, others, &options, &clients, (1, 1));
     let seen = assert_served(&rt, served, seen, 2);
     assert_same(&rt, &seen, &[true; 6], &"seen");
-    assert_same(&rt, &door.latch(&rt), &Latch::Open, &"latch");
-    let (device, _gate) = device.into_parts();
-    let _device = assert_opens_to(&rt, alloc, device, 1, 1);
 }
 
 /// The most lookups while a stop is not reported yet.
@@ -94,19 +92,16 @@ struct Failing<'a> {
     counts: &'a Counts,
 }
 
-impl Clients for Failing<'_> {
-    type Seen = [bool; 6];
-
-    fn meet<R: Outside>(&self, rt: R, alloc: Global, to: SocketAddr) -> io::Result<[bool; 6]> {
-        let mut first = Peer::connect(rt, alloc, to)?;
-        let mut second = Peer::connect(rt, alloc, to)?;
+impl Failing<'_> {
+    /// What both sessions see.
+    fn fail(&self, first: &mut Peer, second: &mut Peer) -> io::Result<[bool; 6]> {
         let is_new = second.asks(LOOKUP, NOTHING)?;
         let is_acknowledged = first.asks(REGISTRATION, REGISTERED)?;
         let is_unknown = first.asks(PURGE, "00000002ff62")?;
         let is_stopped = second.asks(PURGE, "00000002ff54")?;
         let is_found = first.asks(LOOKUP, FOUND)?;
         let is_shown = second.asks(LOOKUP, FOUND)?;
-        look_up_until_stopped(&mut second, self.counts)?;
+        look_up_until_stopped(second, self.counts)?;
         Ok([
             is_new,
             is_acknowledged,
@@ -118,15 +113,23 @@ impl Clients for Failing<'_> {
     }
 }
 
+impl Clients for Failing<'_> {
+    type Seen = [bool; 6];
+
+    fn meet<R: Outside>(&self, rt: R, alloc: Global, to: SocketAddr) -> io::Result<[bool; 6]> {
+        let mut first = Peer::connect(rt, alloc, to)?;
+        let mut second = Peer::connect(rt, alloc, to)?;
+        self.fail(&mut first, &mut second)
+    }
+}
+
 #[test]
 fn lookups_go_on_after_a_fault(rt: HostRuntime) {
-    let alloc = rt.alloc();
-    let device = failing(&rt, alloc);
-    let options = options(&rt, alloc, 2);
+    let options = options(&rt, rt.alloc(), 2);
     let counts = Counts::new();
     let clients = Failing { counts: &counts };
-    let (_device, served, seen) = serve_clients(&rt, alloc, device, &options, &clients, &counts);
-    let seen = assert_served(&rt, served, seen, 2);
+    let others = Others::none();
+    let seen = assert_met_failing(&rt, rt.alloc(), others, &options, &clients, &counts, 2);
     assert_same(&rt, &seen, &[true; 6], &"seen");
     assert_same(&rt, &counts.stopped(), &1, &"stopped");
     assert_same(&rt, &counts.turned_away(), &0, &"turned away");

@@ -32,12 +32,16 @@ pub(crate) fn formatted(rt: &impl Abort, alloc: Global, geometry: Geometry) -> M
 }
 
 /// Opens a device. Where memory is refused, it is tried once more.
-pub(crate) fn opened<D: Device>(rt: &impl Abort, alloc: Global, device: D) -> Store<D> {
-    let again = match open(alloc, device) {
+fn open_again<D: Device>(alloc: Global, device: D) -> Result<Store<D>, (D, OpenError)> {
+    match open(alloc, device) {
         Err((device, OpenError::NoMemory)) => open(alloc, device),
         answer => answer,
-    };
-    match again {
+    }
+}
+
+/// Opens a device that opens. Where memory is refused, it is tried once more.
+pub(crate) fn opened<D: Device>(rt: &impl Abort, alloc: Global, device: D) -> Store<D> {
+    match open_again(alloc, device) {
         Ok(store) => store,
         Err((_device, e)) => panic!(rt; "{e:?}"),
     }
@@ -63,16 +67,23 @@ pub(crate) fn assert_opens_to<D: Device>(
     store.into_device()
 }
 
+/// Whether a new store opens on a device that fails in the call of this number.
+fn opens(rt: &impl Abort, alloc: Global, number: u64) -> bool {
+    let device = formatted(rt, alloc, LEAST);
+    match open(alloc, FaultDevice::new(device, number)) {
+        Ok(store) => {
+            let _device = store.into_device();
+            true
+        }
+        Err((_device, _e)) => false,
+    }
+}
+
 /// How many calls of the device it takes to open a new store.
 fn calls_to_open(rt: &impl Abort, alloc: Global) -> u64 {
-    let mut device = formatted(rt, alloc, LEAST);
     for number in 0..MANY {
-        match open(alloc, FaultDevice::new(device, number)) {
-            Ok(store) => {
-                let _device = store.into_device();
-                return number;
-            }
-            Err((failing, _e)) => device = failing.into_mem(),
+        if opens(rt, alloc, number) {
+            return number;
         }
     }
     panic!(rt; "opening makes no end")

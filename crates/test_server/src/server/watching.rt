@@ -1,21 +1,21 @@
 //! Requests of a server's numbers, at its second listener.
 
 use crate::server::checks::assert_same;
-use crate::server::doors::{Door, Holds, Latch};
+use crate::server::doors::Door;
+use crate::server::held::serve_held;
 use crate::server::page::is_page;
 use crate::server::peers::{EMPTY_LOOKUP, NO_DESTINATION, Peer};
 use crate::server::rows::{FOUND, LOOKUP, PURGE, REGISTERED, REGISTRATION};
-use crate::server::stores::{LEAST, assert_opens_to, failing, formatted};
 use crate::server::worlds::{
-    Clients, Counts, Outside, World, assert_served, listen, options, serve_watched,
+    Clients, Counts, End, Others, Outside, World, assert_beside, assert_met_failing, assert_served,
+    listen, options,
 };
-use path_server::set_accept_timeout;
 use std::alloc::Global;
 use std::io;
-use std::io::{ErrorKind, Read, Write};
-use std::net::{Shutdown, SocketAddr, TcpListener, TcpStream};
+use std::io::{Read, Write};
+use std::net::{Shutdown, SocketAddr, TcpStream};
+use std::process::Abort;
 use std::time::Duration;
-use test_fault_devices::HeldDevice;
 
 /// How long a peer waits for an answer, in seconds.
 const PATIENCE: u64 = 20;
@@ -36,10 +36,9 @@ const GET_READY: &str = "GET /readyz HTTP/1.1\r\nHost: localhost\r\n\r\n";
 const GET_PLOTS: &str = "GET / HTTP/1.1\r\nHost: localhost\r\n\r\n";
 
 /// A listener for requests of the numbers, and its address.
-pub(crate) fn listen_for_status<R: World>(rt: R) -> (Option<TcpListener>, SocketAddr) {
+pub(crate) fn status_listener<R: World>(rt: R) -> (Others, SocketAddr) {
     let (listener, at) = listen(rt);
-    set_accept_timeout(&listener).expect(&rt, "accepts are bounded");
-    (Some(listener), at)
+    (Others::of_status(Some(listener)), at)
 }
 
 /// Connects to the listener for requests of the numbers.
@@ -102,7 +101,7 @@ const LIST: &str = "000000120503ffffffffffffffffffffffffffffffff";
 const NOTHING_LISTED: &str = "000000028500";
 
 /// What is asked, and the replies.
-const ASKED: [(&str, &str); 9] = [
+const ASKED: &[(&str, &str)] = &[
     (REGISTRATION, REGISTERED),
     (LOOKUP, FOUND),
     (LIST, NOTHING_LISTED),
@@ -114,39 +113,52 @@ const ASKED: [(&str, &str); 9] = [
     (EMPTY_LOOKUP, NO_DESTINATION),
 ];
 
+/// All this. The prover writes a constant out where it is named, so no loop names it.
+fn asked() -> &'static [(&'static str, &'static str)] {
+    ASKED
+}
+
+/// Asks all this in a session, and sees that the replies are these.
+fn assert_asked(rt: &impl Abort, peer: &mut Peer) -> io::Result<()> {
+    for (request, reply) in asked() {
+        let is_replied = peer.asks(*request, *reply)?;
+        assert_same(rt, &is_replied, &true, request);
+    }
+    Ok(())
+}
+
 impl Clients for Counting {
     type Seen = String;
 
     fn meet<R: Outside>(&self, rt: R, alloc: Global, to: SocketAddr) -> io::Result<String> {
         let mut peer = Peer::connect(rt, alloc, to)?;
-        for (request, reply) in &ASKED {
-            assert_same(&rt, &peer.asks(*request, *reply)?, &true, request);
-        }
-        let answer = answer_to(rt, alloc, self.at, GET_NUMBERS)?;
+        assert_asked(&rt, &mut peer)?;
+        let answer = answer_to(rt, alloc, self.at, GET_NUMBERS);
         drop(peer);
-        Ok(answer)
+        answer
     }
 }
 
 #[test]
 fn page_after_a_session(rt: HostRuntime) {
-    let alloc = rt.alloc();
-    let device = formatted(&rt, alloc, LEAST);
-    let options = options(&rt, alloc, 1);
-    let (status, at) = listen_for_status(&rt);
+    let options = options(&rt, rt.alloc(), 1);
+    let (status, at) = status_listener(&rt);
+    let end = End {
+        sessions: 1,
+        rows: 1,
+        place: 4,
+    };
     let clients = Counting { at };
-    let (device, served, seen) = serve_watched(
+    let answer = assert_beside(
         &rt,
-        alloc,
-        device,
+        rt.alloc(),
         status,
         &options,
         &clients,
         &Counts::new(),
+        end,
     );
-    let answer = assert_served(&rt, served, seen, 1);
-    assert!(rt; is_page(answer.as_str()), "{answer}");
-    let _device = assert_opens_to(&rt, alloc, device, 1, 4);
+    assert_same(&rt, &is_page(answer.as_str()), &true, &answer);
 }
 
 /// Asks for the page and for the health while a sync is held under the state's lock, and for the
@@ -184,58 +196,78 @@ struct Held {
     call_has_ended: bool,
 }
 
-impl Clients for Waiting<'_> {
-    type Seen = Held;
+/// Whether a request has this answer.
+fn is_answered<R: Outside>(
+    rt: R,
+    alloc: Global,
+    at: SocketAddr,
+    request: &str,
+    wanted: &str,
+) -> io::Result<bool> {
+    Ok(answer_to(rt, alloc, at, request)?.as_str() == wanted)
+}
 
-    fn meet<R: Outside>(&self, rt: R, alloc: Global, to: SocketAddr) -> io::Result<Held> {
-        let mut peer = Peer::connect(rt, alloc, to)?;
+/// Whether the page shows the call that is held, and whether it shows a command that is pending.
+fn shown_while_held<R: Outside>(rt: R, alloc: Global, at: SocketAddr) -> io::Result<(bool, bool)> {
+    let page = answer_to(rt, alloc, at, GET_NUMBERS)?;
+    let page = page.as_str();
+    let call_is_shown = page.contains(HELD_CALL) && !page.contains(NO_CALL);
+    Ok((call_is_shown, page.contains("\npathd_commands_pending 1\n")))
+}
+
+/// Whether the page shows that the call is not under way.
+fn call_has_ended<R: Outside>(rt: R, alloc: Global, at: SocketAddr) -> io::Result<bool> {
+    Ok(
+        answer_to(rt, alloc, at, GET_NUMBERS)?
+            .as_str()
+            .contains(NO_CALL),
+    )
+}
+
+impl Waiting<'_> {
+    /// What is seen in the session of a peer.
+    fn wait<R: Outside>(&self, rt: R, alloc: Global, peer: &mut Peer) -> io::Result<Held> {
         // The store is open once a request is answered.
         let is_open = peer.asks(EMPTY_LOOKUP, NO_DESTINATION)?;
         self.door.arm(&rt);
         peer.send(REGISTRATION)?;
         let is_held = self.door.is_held_soon(&rt);
-        let held = answer_to(rt, alloc, self.at, GET_NUMBERS);
-        let health = answer_to(rt, alloc, self.at, GET_HEALTH);
-        let ready = answer_to(rt, alloc, self.at, GET_READY);
+        let shown = shown_while_held(rt, alloc, self.at);
+        let is_healthy = is_answered(rt, alloc, self.at, GET_HEALTH, IS_HEALTHY);
+        let is_ready = is_answered(rt, alloc, self.at, GET_READY, IS_HEALTHY);
         self.door.open(&rt);
         let is_acknowledged = peer.receives(REGISTERED)?;
-        let after = answer_to(rt, alloc, self.at, GET_NUMBERS)?;
-        let held = held?;
-        let held = held.as_str();
+        let call_has_ended = call_has_ended(rt, alloc, self.at)?;
+        let (call_is_shown, command_is_pending) = shown?;
         Ok(Held {
             is_open,
             is_held,
-            call_is_shown: held.contains(HELD_CALL) && !held.contains(NO_CALL),
-            command_is_pending: held.contains("\npathd_commands_pending 1\n"),
-            is_healthy: health?.as_str() == IS_HEALTHY,
-            is_ready: ready?.as_str() == IS_HEALTHY,
+            call_is_shown,
+            command_is_pending,
+            is_healthy: is_healthy?,
+            is_ready: is_ready?,
             is_acknowledged,
-            call_has_ended: after.as_str().contains(NO_CALL),
+            call_has_ended,
         })
+    }
+}
+
+impl Clients for Waiting<'_> {
+    type Seen = Held;
+
+    fn meet<R: Outside>(&self, rt: R, alloc: Global, to: SocketAddr) -> io::Result<Held> {
+        let mut peer = Peer::connect(rt, alloc, to)?;
+        self.wait(rt, alloc, &mut peer)
     }
 }
 
 #[test]
 fn page_while_a_sync_is_held(rt: HostRuntime) {
-    let alloc = rt.alloc();
     let door = Door::new();
-    let holds = Holds {
-        rt: &rt,
-        door: &door,
-    };
-    let device = HeldDevice::new(formatted(&rt, alloc, LEAST), holds);
-    let options = options(&rt, alloc, 1);
-    let (status, at) = listen_for_status(&rt);
+    let options = options(&rt, rt.alloc(), 1);
+    let (status, at) = status_listener(&rt);
     let clients = Waiting { door: &door, at };
-    let (device, served, seen) = serve_watched(
-        &rt,
-        alloc,
-        device,
-        status,
-        &options,
-        &clients,
-        &Counts::new(),
-    );
+    let (served, seen) = serve_held(&rt, rt.alloc(), &door, status, &options, &clients, (1, 1));
     let seen = assert_served(&rt, served, seen, 1);
     let wanted = Held {
         is_open: true,
@@ -248,9 +280,6 @@ fn page_while_a_sync_is_held(rt: HostRuntime) {
         call_has_ended: true,
     };
     assert_same(&rt, &seen, &wanted, &"seen");
-    assert_same(&rt, &door.latch(&rt), &Latch::Open, &"latch");
-    let (device, _gate) = device.into_parts();
-    let _device = assert_opens_to(&rt, alloc, device, 1, 1);
 }
 
 /// Whether each of these requests has this answer.
@@ -261,7 +290,7 @@ fn are_answered<R: Outside>(
     answers: &[(&str, &str); 3],
 ) -> io::Result<bool> {
     for (request, wanted) in answers {
-        if answer_to(rt, alloc, at, *request)?.as_str() != *wanted {
+        if !is_answered(rt, alloc, at, *request, *wanted)? {
             return Ok(false);
         }
     }
@@ -298,38 +327,55 @@ struct Stopped {
     plots_are_shown: bool,
 }
 
-impl Clients for Stopping {
-    type Seen = Stopped;
+/// Whether the plots are shown.
+fn plots_are_shown<R: Outside>(rt: R, alloc: Global, at: SocketAddr) -> io::Result<bool> {
+    Ok(
+        answer_to(rt, alloc, at, GET_PLOTS)?
+            .as_str()
+            .ends_with("</html>\n"),
+    )
+}
 
-    fn meet<R: Outside>(&self, rt: R, alloc: Global, to: SocketAddr) -> io::Result<Stopped> {
-        let mut peer = Peer::connect(rt, alloc, to)?;
+impl Stopping {
+    /// What is seen beside the session of a peer.
+    fn stop<R: Outside>(&self, rt: R, alloc: Global, peer: &mut Peer) -> io::Result<Stopped> {
         let is_acknowledged = peer.asks(REGISTRATION, REGISTERED)?;
         let is_healthy_before = are_answered(rt, alloc, self.at, &BEFORE)?;
         let is_unknown = peer.asks(PURGE, "00000002ff62")?;
         let has_stopped_after = are_answered(rt, alloc, self.at, &AFTER)?;
-        let plots = answer_to(rt, alloc, self.at, GET_PLOTS)?;
         Ok(Stopped {
             is_acknowledged,
             is_healthy_before,
             is_unknown,
             has_stopped_after,
-            plots_are_shown: plots.as_str().ends_with("</html>\n"),
+            plots_are_shown: plots_are_shown(rt, alloc, self.at)?,
         })
+    }
+}
+
+impl Clients for Stopping {
+    type Seen = Stopped;
+
+    fn meet<R: Outside>(&self, rt: R, alloc: Global, to: SocketAddr) -> io::Result<Stopped> {
+        let mut peer = Peer::connect(rt, alloc, to)?;
+        self.stop(rt, alloc, &mut peer)
     }
 }
 
 #[test]
 fn health_before_and_after_a_fault(rt: HostRuntime) {
-    let alloc = rt.alloc();
-    let device = failing(&rt, alloc);
-    let options = options(&rt, alloc, 1);
-    let (status, at) = listen_for_status(&rt);
+    let options = options(&rt, rt.alloc(), 1);
+    let (status, at) = status_listener(&rt);
     let clients = Stopping { at };
-    let counts = Counts::new();
-    let (_device, served, seen) = serve_watched(
-        &rt, alloc, device, status, &options, &clients, &counts,
+    let seen = assert_met_failing(
+        &rt,
+        rt.alloc(),
+        status,
+        &options,
+        &clients,
+        &Counts::new(),
+        1,
     );
-    let seen = assert_served(&rt, served, seen, 1);
     let wanted = Stopped {
         is_acknowledged: true,
         is_healthy_before: true,

@@ -1,9 +1,11 @@
 //! Servers beside their clients.
 
 use crate::server::checks::assert_same;
-use crate::server::stores::opened;
+use crate::server::stores::{LEAST, assert_opens_to, failing, formatted, opened};
 use isd_as::IsdAs;
-use path_server::{Listeners, Options, Report, Reports, RunError, serve_store, set_accept_timeout};
+use path_server::{
+    Listener, Listeners, Options, Report, Reports, RunError, serve_store, set_accept_timeout,
+};
 use sector_dev::Device;
 use seg_lookup::Roster;
 use std::alloc::Global;
@@ -161,6 +163,15 @@ pub(crate) fn options(rt: &impl Abort, alloc: Global, sessions: u64) -> Options 
 /// saw.
 pub(crate) type Met<D, T> = (D, Result<u64, RunError>, io::Result<T>);
 
+/// How a server ends: after this number of sessions, and its device opens to this number of rows at
+/// this place.
+#[derive(Clone, Copy)]
+pub(crate) struct End {
+    pub(crate) sessions: u64,
+    pub(crate) rows: usize,
+    pub(crate) place: u64,
+}
+
 /// Sees that a server ended after this number of sessions, and that its clients met it: what they
 /// saw.
 pub(crate) fn assert_served<T>(
@@ -173,44 +184,27 @@ pub(crate) fn assert_served<T>(
     seen.expect(rt, "the clients meet the server")
 }
 
+/// The address of a listener.
+fn address_of(rt: &impl Abort, listener: &TcpListener) -> SocketAddr {
+    listener
+        .local_addr()
+        .expect(rt, "the listener has an address")
+}
+
 /// A listener at a free port, whose accepts are bounded, and its address.
 pub(crate) fn listen<R: World>(rt: R) -> (TcpListener, SocketAddr) {
     let listener = TcpListener::bind(&rt, "127.0.0.1:0").expect(&rt, "a port is free");
     set_accept_timeout(&listener).expect(&rt, "accepts are bounded");
-    let to = listener
-        .local_addr()
-        .expect(&rt, "the listener has an address");
+    let to = address_of(&rt, &listener);
     (listener, to)
 }
 
-/// Serves clients from the store of a device at a free port. Once they have ended, the listener is
-/// shut down, so that a server which waits for more sessions ends, by `Net`.
-pub(crate) fn serve_clients<R: World, D: Device + Drop + Send, C: Clients + Sync>(
-    rt: R,
-    alloc: Global,
-    device: D,
-    options: &Options,
-    clients: &C,
-    counts: &Counts,
-) -> Met<D, C::Seen> {
-    serve_watched(rt, alloc, device, None, options, clients, counts)
-}
-
-/// The same, beside a listener for requests of the server's numbers, where there is one.
-pub(crate) fn serve_watched<R: World, D: Device + Drop + Send, C: Clients + Sync>(
-    rt: R,
-    alloc: Global,
-    device: D,
-    status: Option<TcpListener>,
-    options: &Options,
-    clients: &C,
-    counts: &Counts,
-) -> Met<D, C::Seen> {
-    let others = Others {
-        lookups: None,
-        status,
-    };
-    serve_beside(rt, alloc, device, others, options, clients, counts)
+/// A second handle of a listening socket, with a stream's methods: it shuts the socket down.
+pub(crate) fn second_handle(rt: &impl Abort, listener: &TcpListener) -> TcpStream {
+    let other = listener
+        .try_clone()
+        .expect(rt, "the listener has a second handle");
+    TcpStream::from(OwnedFd::from(other))
 }
 
 /// Listeners beside that of sessions.
@@ -220,7 +214,74 @@ pub(crate) struct Others {
     pub(crate) status: Option<TcpListener>,
 }
 
-/// The same, beside other listeners.
+impl Others {
+    /// None.
+    pub(crate) fn none() -> Others {
+        Others::of_status(None)
+    }
+
+    /// A listener for requests of the server's numbers, where there is one.
+    pub(crate) fn of_status(status: Option<TcpListener>) -> Others {
+        Others {
+            lookups: None,
+            status,
+        }
+    }
+}
+
+/// Serves sessions from the store of a device: the device, and the server's answer. Tests need
+/// nothing of the contract of `serve_store`, which each caller of it would take in.
+pub(crate) fn serve<R: World, L: Listener + Drop + Send, D: Device + Drop + Send>(
+    rt: R,
+    alloc: Global,
+    listeners: Listeners<L>,
+    device: D,
+    options: &Options,
+    counts: &Counts,
+) -> (D, Result<u64, RunError>) {
+    let store = opened(&rt, alloc, device);
+    let (device, _left, served) = serve_store(rt, alloc, listeners, store, options, counts);
+    (device, served)
+}
+
+/// Serves clients from the store of a device at listeners, of which they know that of sessions.
+pub(crate) fn serve_at<R: World, D: Device + Drop + Send, C: Clients + Sync>(
+    rt: R,
+    alloc: Global,
+    device: D,
+    listeners: Listeners<TcpListener>,
+    options: &Options,
+    clients: &C,
+    counts: &Counts,
+) -> Met<D, C::Seen> {
+    let to = address_of(&rt, &listeners.sessions);
+    let ((device, served), seen) = thread::join(
+        &rt,
+        || serve(rt, alloc, listeners, device, options, counts),
+        || clients.meet(rt, alloc, to),
+    );
+    (device, served, seen)
+}
+
+/// Clients after which the listener of sessions is shut down.
+#[derive(Drop)]
+struct LastClients<'a, C> {
+    clients: &'a C,
+    stop: TcpStream,
+}
+
+impl<C: Clients> Clients for LastClients<'_, C> {
+    type Seen = C::Seen;
+
+    fn meet<R: Outside>(&self, rt: R, alloc: Global, to: SocketAddr) -> io::Result<C::Seen> {
+        let seen = self.clients.meet(rt, alloc, to);
+        let _stopped = self.stop.shutdown(Shutdown::Both);
+        seen
+    }
+}
+
+/// Serves clients from the store of a device at a free port, beside other listeners. Once they have
+/// ended, the listener is shut down, so that a server which waits for more sessions ends, by `Net`.
 pub(crate) fn serve_beside<R: World, D: Device + Drop + Send, C: Clients + Sync>(
     rt: R,
     alloc: Global,
@@ -231,34 +292,61 @@ pub(crate) fn serve_beside<R: World, D: Device + Drop + Send, C: Clients + Sync>
     counts: &Counts,
 ) -> Met<D, C::Seen> {
     let Others { lookups, status } = others;
-    let (sessions, to) = listen(rt);
-    let other = sessions
-        .try_clone()
-        .expect(&rt, "the listener has a second handle");
-    // A second handle of the listening socket, with a stream's methods.
-    let stop = TcpStream::from(OwnedFd::from(other));
-    let ((device, served), seen) = thread::join(
-        &rt,
-        || {
-            let (device, _left, served) = serve_store(
-                rt,
-                alloc,
-                Listeners {
-                    sessions,
-                    lookups,
-                    status,
-                },
-                opened(&rt, alloc, device),
-                options,
-                counts,
-            );
-            (device, served)
-        },
-        || {
-            let seen = clients.meet(rt, alloc, to);
-            let _stopped = stop.shutdown(Shutdown::Both);
-            seen
-        },
-    );
-    (device, served, seen)
+    let (sessions, _to) = listen(rt);
+    let clients = LastClients {
+        clients,
+        stop: second_handle(&rt, &sessions),
+    };
+    let listeners = Listeners {
+        sessions,
+        lookups,
+        status,
+    };
+    serve_at(rt, alloc, device, listeners, options, &clients, counts)
+}
+
+/// Has clients meet a server of a new store beside other listeners, and sees how it ends: what the
+/// clients saw.
+pub(crate) fn assert_beside<R: World, C: Clients + Sync>(
+    rt: R,
+    alloc: Global,
+    others: Others,
+    options: &Options,
+    clients: &C,
+    counts: &Counts,
+    end: End,
+) -> C::Seen {
+    let device = formatted(&rt, alloc, LEAST);
+    let (device, served, seen) = serve_beside(rt, alloc, device, others, options, clients, counts);
+    let seen = assert_served(&rt, served, seen, end.sessions);
+    let _device = assert_opens_to(&rt, alloc, device, end.rows, end.place);
+    seen
+}
+
+/// The same, without other listeners.
+pub(crate) fn assert_met<R: World, C: Clients + Sync>(
+    rt: R,
+    alloc: Global,
+    options: &Options,
+    clients: &C,
+    counts: &Counts,
+    end: End,
+) -> C::Seen {
+    assert_beside(rt, alloc, Others::none(), options, clients, counts, end)
+}
+
+/// Has clients meet a server of a device that fails, as `failing` has it, and sees that it ends
+/// after this number of sessions: what the clients saw.
+pub(crate) fn assert_met_failing<R: World, C: Clients + Sync>(
+    rt: R,
+    alloc: Global,
+    others: Others,
+    options: &Options,
+    clients: &C,
+    counts: &Counts,
+    sessions: u64,
+) -> C::Seen {
+    let device = failing(&rt, alloc);
+    let (_device, served, seen) = serve_beside(rt, alloc, device, others, options, clients, counts);
+    assert_served(&rt, served, seen, sessions)
 }

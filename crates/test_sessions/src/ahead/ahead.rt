@@ -3,7 +3,8 @@
 
 use crate::ahead::crowds::{Sessions, crowded, served};
 use crate::ahead::frames::{ACK, head_of, number_of, push_frame};
-use crate::ahead::host::Host;
+use crate::checks::assert_same;
+use crate::host::Host;
 use path_hub::{Hub, HubName, Senders};
 use sector_dev::Device;
 use std::alloc::Global;
@@ -36,7 +37,7 @@ fn frames_of(rt: &impl Abort, alloc: Global, session: u64, count: usize) -> Vec<
 
 /// Enters what a command was acknowledged with: its place.
 fn enter<R: Wait + Abort>(rt: &R, ledger: &Ledger, by: (u64, Act), ack: &[u8]) -> u64 {
-    assert!(rt; ack.starts_with(&head_of(by.1)), "{ack:?}");
+    assert_same(rt, &ack.starts_with(&head_of(by.1)), &true, &ack);
     let (_head, ack) = ack.split_at(ack.len().min(5));
     let (place, counts) = ack.split_at(ack.len().min(8));
     let place = number_of(place);
@@ -59,12 +60,13 @@ struct Sends {
 impl Sends {
     /// Enters the replies of a session, whose places rise.
     fn enter_all<R: Wait + Abort>(&self, rt: &R, session: u64, replies: &[u8]) {
-        assert_eq!(rt; replies.len(), self.count.saturating_mul(ACK));
+        let len = self.count.saturating_mul(ACK);
+        assert_same(rt, &replies.len(), &len, &("replies", session));
         let mut next = 0;
         for (index, ack) in replies.chunks(ACK).enumerate() {
             let by = (session, act_of(session, index));
             let place = enter(rt, &self.ledger, by, ack);
-            assert!(rt; next <= place, "session {session}: {place}");
+            assert_same(rt, &(next <= place), &true, &(session, place));
             next = place.saturating_add(1);
         }
     }
@@ -81,7 +83,7 @@ impl Sessions for Sends {
         let frames = frames_of(rt, self.alloc, session, self.count);
         let mut replies = Vec::new(self.alloc);
         let ended = served(hub, senders, self.alloc, 0, &frames, &mut replies);
-        assert_eq!(rt; ended, Ok(self.count as u64));
+        assert_same(rt, &ended, &Ok(self.count as u64), &session);
         self.enter_all(rt, session, &replies);
     }
 }

@@ -2,8 +2,10 @@
 //! not at all, and a later session sees a state that is a front.
 
 use crate::ahead::crowds::{Sessions, crowded, served};
-use crate::ahead::frames::{PURGE, joined, push};
-use crate::ahead::host::Host;
+use crate::bytes::push;
+use crate::checks::assert_same;
+use crate::host::Host;
+use crate::service::frames::{PURGE, joined};
 use path_hub::{Hub, HubName, Senders};
 use path_session::FrameError;
 use sector_dev::Device;
@@ -102,17 +104,22 @@ impl Write for Narrow {
     }
 }
 
+/// Adds the two segments of the registration of this number.
+fn push_segments(rt: &impl Abort, frames: &mut Vec<u8>, number: u8) {
+    for egress in [1, 2] {
+        push(rt, frames, &TAG);
+        let egress = number.wrapping_mul(2).wrapping_add(egress);
+        push(rt, frames, &leaving_by(egress));
+    }
+}
+
 /// The registrations, and what follows them.
 fn frames_of(rt: &impl Abort, alloc: Global, rest: &str) -> Vec<u8> {
     let mut frames = Vec::new(alloc);
     let head = joined(rt, alloc, &[HEAD]);
     for number in 0..REGISTRATIONS {
         push(rt, &mut frames, &head);
-        for egress in [1, 2] {
-            push(rt, &mut frames, &TAG);
-            let egress = number.wrapping_mul(2).wrapping_add(egress);
-            push(rt, &mut frames, &leaving_by(egress));
-        }
+        push_segments(rt, &mut frames, number);
     }
     push(rt, &mut frames, &joined(rt, alloc, &[rest]));
     frames
@@ -145,10 +152,25 @@ impl Breaks {
             room,
         };
         let ended = served(hub, senders, self.alloc, 0, &frames, &mut writer);
-        assert_eq!(rt; ended, wanted, "{name}");
+        assert_same(rt, &ended, &wanted, &name);
         let replies = joined(rt, self.alloc, &REPLIES);
         let (front, _rest) = replies.split_at(room.min(replies.len()));
-        assert_eq!(rt; writer.taken.as_slice(), front, "{name}");
+        assert_same(rt, &writer.taken.as_slice(), &front, &name);
+    }
+
+    /// Serves the later session, of a purge.
+    fn purge<D: Device, N: HubName, R: Wait + Clock + Abort>(
+        &self,
+        hub: &Hub<D, N, R>,
+        senders: &Senders<N>,
+    ) {
+        let rt = hub.handle();
+        let name = self.row.name;
+        let purge = joined(rt, self.alloc, &[PURGE]);
+        let mut replies = Vec::new(self.alloc);
+        let ended = served(hub, senders, self.alloc, 0, &purge, &mut replies);
+        assert_same(rt, &ended, &Ok(1), &name);
+        assert_same(rt, &replies, &joined(rt, self.alloc, &[LATER]), &name);
     }
 }
 
@@ -175,14 +197,11 @@ impl Sessions for Breaks {
     ) {
         let rt = hub.handle();
         self.break_off(hub, senders);
+        let name = self.row.name;
         let early = shown_now(hub);
-        assert!(rt; FRONTS.contains(&early), "{}: {early:x}", self.row.name);
-        let purge = joined(rt, self.alloc, &[PURGE]);
-        let mut replies = Vec::new(self.alloc);
-        let ended = served(hub, senders, self.alloc, 0, &purge, &mut replies);
-        assert_eq!(rt; ended, Ok(1));
-        assert_eq!(rt; replies, joined(rt, self.alloc, &[LATER]));
-        assert_eq!(rt; shown_now(hub), FRONTS[5], "{}", self.row.name);
+        assert_same(rt, &FRONTS.contains(&early), &true, &(name, early));
+        self.purge(hub, senders);
+        assert_same(rt, &shown_now(hub), &FRONTS[5], &name);
     }
 }
 

@@ -1,13 +1,14 @@
 //! Sessions beside each other over one hub, each in a thread of its own.
 
-use crate::ahead::clocks::Counts;
-use crate::ahead::host::Host;
-use isd_as::IsdAs;
-use path_hub::{Hub, HubName, Patient, Senders, Workload, with_workload};
-use path_session::{FrameError, HubService, serve};
+use crate::checks::assert_same;
+use crate::host::Host;
+use crate::service::clocks::Counts;
+use crate::service::stores::cores;
+use crate::service::tasks;
+use path_hub::{Hub, HubError, HubName, Patient, Senders, Workload, with_workload};
+use path_session::{FrameError, HubService};
 use sector_dev::Device;
 use seg_check::TrustAll;
-use seg_lookup::Roster;
 use std::alloc::Global;
 use std::io::Write;
 use std::process::Abort;
@@ -23,9 +24,6 @@ const MOST_NAPS: u64 = 8000;
 
 /// The length of a nap, in milliseconds.
 const NAP: u64 = 5;
-
-/// How many reads a session may make.
-const TURNS: u64 = 1000;
 
 /// What sessions do, each by its number, counted from 0.
 pub(crate) trait Sessions {
@@ -81,6 +79,16 @@ impl<S> Crowd<'_, S> {
     }
 }
 
+/// Runs the workload over a store: the device, and how many sessions there were.
+fn attended<
+    D: Device + Send,
+    S: Sessions + Sync,
+    R: Wait + Clock + Threads + Abort + Copy + Drop + Send + Sync,
+>(rt: R, alloc: Global, store: Store<D>, crowd: &Crowd<'_, S>) -> (D, Result<u64, HubError>) {
+    let (device, _left, attended) = with_workload(rt, alloc, store, 1, crowd);
+    (device, attended)
+}
+
 /// Runs this number of sessions over a store: the device. Where memory is refused for the hub or
 /// for the thread of the only session, it is asked for once more.
 pub(crate) fn crowded<
@@ -94,26 +102,15 @@ pub(crate) fn crowded<
         invited: AtomicU64::new(0),
         gone: AtomicU64::new(0),
     };
-    let (device, left, first) = with_workload(rt, alloc, store, 1, &crowd);
-    let (device, _left, attended) = match first {
-        Ok(attended) if attended > 0 => (device, left, Ok(attended)),
-        _ => {
-            crowd.invite_again();
-            with_workload(rt, alloc, opened(&Host(rt), alloc, device), 1, &crowd)
-        }
+    let (device, first) = attended(rt, alloc, store, &crowd);
+    let (device, attended) = if matches!(first, Ok(some) if some > 0) {
+        (device, first)
+    } else {
+        crowd.invite_again();
+        attended(rt, alloc, opened(&Host(rt), alloc, device), &crowd)
     };
-    assert_eq!(&rt; attended, Ok(count));
+    assert_same(&rt, &attended, &Ok(count), &"attended");
     device
-}
-
-/// The one core AS, 1-ff00:0:110. Where memory is refused, it is asked for once more.
-fn cores(rt: &impl Abort, alloc: Global) -> Roster {
-    let core = IsdAs::from_u64(0x0001_ff00_0000_0110);
-    let mut cores = Vec::new(alloc);
-    if cores.push(core).is_err() {
-        cores.push(core).expect(rt, "no memory");
-    }
-    Roster::new(cores)
 }
 
 /// Serves the frames of an input over a writer, by a clock whose first moment is the one after
@@ -141,7 +138,7 @@ pub(crate) fn served<D: Device, N: HubName, R: Wait + Clock + Abort, W: Write>(
         senders.begin(),
     );
     let mut input = frames;
-    let ended = serve(alloc, &mut input, writer, &mut service, TURNS);
+    let ended = tasks::served(alloc, &mut service, &mut input, writer);
     hub.give_back(service.into_reader());
     ended
 }

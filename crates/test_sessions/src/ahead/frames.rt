@@ -1,22 +1,12 @@
 //! Frames of commands, and their acknowledgements.
 
-use std::alloc::Global;
+use crate::bytes::push;
+use crate::service::frames::register_by;
 use std::process::Abort;
 use test_hub_scripts::folds::{Act, IDS, LAST_MOMENT};
-use test_support::EGRESS;
-pub(crate) use test_support::digits::{REGISTER, REMOVE};
-
-/// The acknowledgement of that registration, at place 0.
-pub(crate) const INSERTED: &str = "0000001981000000000000000000000001000000000000000000000000";
-
-/// Drops what expires at moment 0: nothing.
-pub(crate) const PURGE: &str = "00000009030000000000000000";
 
 /// How many bytes an acknowledgement has: its length, its kind, its place and four counts.
 pub(crate) const ACK: usize = 29;
-
-/// How many bytes of the registration come before the segment.
-const BEFORE: usize = 13;
 
 /// The kinds of the messages.
 const REGISTER_KIND: u8 = 1;
@@ -27,33 +17,6 @@ const REMOVE_KIND: u8 = 4;
 
 /// What is added to the kind of a message in its acknowledgement.
 const ACKNOWLEDGED: u8 = 0x80;
-
-/// Adds these bytes to others. Where memory is refused, it is asked for once more.
-pub(crate) fn push(rt: &impl Abort, bytes: &mut Vec<u8>, more: &[u8]) {
-    if bytes.extend_from_slice(more).is_err() {
-        assert!(rt; bytes.extend_from_slice(more).is_ok(), "no memory");
-    }
-}
-
-/// The bytes of these hexadecimal texts. Where memory is refused, it is asked for once more.
-pub(crate) fn joined(rt: &impl Abort, alloc: Global, texts: &[&str]) -> Vec<u8> {
-    let mut bytes = Vec::new(alloc);
-    for text in texts {
-        let more = match hex::decode(alloc, *text) {
-            Err(_) => hex::decode(alloc, *text).expect(rt, "no digits"),
-            Ok(more) => more,
-        };
-        push(rt, &mut bytes, &more);
-    }
-    bytes
-}
-
-/// The frame that registers the segment which is left by this interface, below 128.
-pub(crate) fn register_by(egress: u8) -> [u8; 101] {
-    let mut frame = test_support::REGISTER;
-    frame[BEFORE + EGRESS] = egress;
-    frame
-}
 
 /// The frame of a purge up to a moment.
 fn purge(moment: u64) -> [u8; 13] {

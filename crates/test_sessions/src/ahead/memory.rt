@@ -2,8 +2,11 @@
 //! refused in turn: a command that is refused for it is replied so in its turn, and takes no place.
 
 use crate::ahead::crowds::{Sessions, crowded, served};
-use crate::ahead::frames::{PURGE, joined, purged, push};
-use crate::ahead::host::Host;
+use crate::ahead::frames::purged;
+use crate::bytes::push;
+use crate::checks::{assert_same, assert_true};
+use crate::host::Host;
+use crate::service::frames::{PURGE, joined};
 use path_hub::{Hub, HubName, Senders};
 use path_session::FrameError;
 use sector_dev::Device;
@@ -46,10 +49,10 @@ fn placed(
     written: &[u8],
 ) -> u8 {
     if ended == Err(FrameError::NoMemory) {
-        assert!(rt; written.is_empty());
+        assert_true(rt, written.is_empty(), "nothing is written");
         return 0;
     }
-    assert_eq!(rt; ended, Ok(u64::from(PURGES)));
+    assert_same(rt, &ended, &Ok(u64::from(PURGES)), &"replies");
     for refused in 0..=PURGES {
         if replies_but(rt, alloc, first, refused).as_slice() == written {
             return if refused == PURGES {
@@ -96,7 +99,8 @@ impl Sessions for Purges {
     ) {
         let first = self.serve(hub, senders, 0);
         let second = self.serve(hub, senders, first);
-        assert!(hub.handle(); first == PURGES || second == PURGES);
+        let is_whole = first == PURGES || second == PURGES;
+        assert_true(hub.handle(), is_whole, "one of two sessions is whole");
         let both = u64::from(first).saturating_add(u64::from(second));
         self.placed.store(both, Ordering::SeqCst);
     }

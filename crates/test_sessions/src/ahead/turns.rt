@@ -2,8 +2,10 @@
 //! them are acknowledged in their places.
 
 use crate::ahead::crowds::{Sessions, crowded, served};
-use crate::ahead::frames::{INSERTED, PURGE, REGISTER, REMOVE, joined, push, register_by};
-use crate::ahead::host::Host;
+use crate::bytes::push;
+use crate::checks::assert_same;
+use crate::host::Host;
+use crate::service::frames::{INSERTED, PURGE, REGISTER, REMOVE, joined, register_by};
 use path_hub::{Hub, HubName, Senders};
 use sector_dev::{Device, MemDevice};
 use std::alloc::Global;
@@ -43,8 +45,8 @@ impl Sessions for Turns {
             &self.frames,
             &mut replies,
         );
-        assert!(hub.handle(); ended.is_ok(), "{ended:?}");
-        assert_eq!(hub.handle(); replies.as_slice(), self.replies.as_slice());
+        assert_same(hub.handle(), &ended.is_ok(), &true, &ended);
+        assert_same(hub.handle(), &replies, &self.replies, &"replies");
     }
 }
 
@@ -72,7 +74,7 @@ fn turns_of(
     frames: &[&str],
     replies: &[&str],
 ) -> Turns {
-    assert_eq!(rt; frames.len(), replies.len());
+    assert_same(rt, &frames.len(), &replies.len(), &"replies");
     Turns {
         alloc,
         moment,

@@ -1,5 +1,6 @@
 //! Sessions over a connection in memory.
 
+use crate::checks::assert_same;
 use crate::connections::memory::{MemStream, connection};
 use cli_once::{OnceService, cores_of};
 use paced_stream::{Ended, serve_connection};
@@ -7,6 +8,7 @@ use seg_check::TrustAll;
 use seg_lookup::Roster;
 use session_core::FrameError;
 use std::alloc::Global;
+use std::fmt::Debug;
 use std::process::Abort;
 use std::time::{Clock, Duration};
 use test_support::digits::{FOUND, LOOKUP, REGISTER};
@@ -47,6 +49,37 @@ fn served<'a, R: Abort + Clock>(
     ended
 }
 
+/// Sees what a session ended with in a case, whether it was late, and what was written.
+fn assert_ended<C: Debug>(
+    rt: &impl Abort,
+    ended: &Ended<MemStream<'_>>,
+    (replies, is_late): (Result<u64, FrameError>, bool),
+    written: &[u8],
+    case: &C,
+) {
+    assert_same(rt, &ended.replies, &replies, &("replies", case));
+    assert_same(rt, &ended.is_late, &is_late, &("late", case));
+    let taken = ended.output.taken.as_slice();
+    assert_same(rt, &taken, &written, &("written", case));
+}
+
+/// Sees that a session is replied whose reads and writes move this many bytes, and of which each
+/// second read and each third write is interrupted.
+fn assert_interrupted<R: Abort + Clock>(
+    rt: &R,
+    alloc: Global,
+    (asked, replies): (&[u8], &[u8]),
+    piece: usize,
+) {
+    let mut input = connection(alloc, asked, piece);
+    input.interrupts = 2;
+    let mut output = connection(alloc, &[], piece);
+    output.interrupts = 3;
+    let ended = served(rt, alloc, input, output, None);
+    assert_ended(rt, &ended, (Ok(2), false), replies, &piece);
+    assert_same(rt, &ended.input.given.as_slice(), &asked, &("given", piece));
+}
+
 // Reads and writes that move a few bytes, and of which each second one is interrupted.
 #[test]
 fn in_interrupted_pieces(rt: HostRuntime) {
@@ -54,19 +87,7 @@ fn in_interrupted_pieces(rt: HostRuntime) {
     let asked = joined(&rt, alloc, REGISTER, LOOKUP);
     let replies = joined(&rt, alloc, INSERTED, FOUND);
     for piece in [1, 3, 7, 1_000] {
-        let mut input = connection(alloc, asked.as_slice(), piece);
-        input.interrupts = 2;
-        let mut output = connection(alloc, &[], piece);
-        output.interrupts = 3;
-        let ended = served(&rt, alloc, input, output, None);
-        assert_eq!(rt; ended.replies, Ok(2), "{piece}");
-        assert!(rt; !ended.is_late, "{piece}");
-        assert_eq!(rt; ended.input.given.as_slice(), asked.as_slice(), "{piece}");
-        assert_eq!(rt;
-            ended.output.taken.as_slice(),
-            replies.as_slice(),
-            "{piece}"
-        );
+        assert_interrupted(&rt, alloc, (&asked, &replies), piece);
     }
 }
 
@@ -79,9 +100,18 @@ fn late_read(rt: HostRuntime) {
     let mut input = connection(alloc, asked.as_slice(), 5);
     input.stays_open = true;
     let ended = served(&rt, alloc, input, connection(alloc, &[], 5), idle());
-    assert_eq!(rt; ended.replies, Err(FrameError::Read));
-    assert!(rt; ended.is_late);
-    assert_eq!(rt; ended.output.taken.as_slice(), replies.as_slice());
+    let wanted = (Err(FrameError::Read), true);
+    assert_ended(&rt, &ended, wanted, &replies, &"a late read");
+}
+
+/// Sees that a session is late whose peer takes this front of its replies.
+fn assert_late_write<R: Abort + Clock>(rt: &R, alloc: Global, asked: &[u8], front: &[u8]) {
+    let mut output = connection(alloc, &[], 16);
+    output.room = front.len();
+    let input = connection(alloc, asked, 1_000);
+    let ended = served(rt, alloc, input, output, idle());
+    let wanted = (Err(FrameError::Write), true);
+    assert_ended(rt, &ended, wanted, front, &front.len());
 }
 
 // A peer that takes a front of a reply.
@@ -91,14 +121,8 @@ fn late_write(rt: HostRuntime) {
     let asked = joined(&rt, alloc, REGISTER, LOOKUP);
     let replies = joined(&rt, alloc, INSERTED, FOUND);
     for room in [0, 1, 28, 29, 30, 40] {
-        let mut output = connection(alloc, &[], 16);
-        output.room = room;
-        let input = connection(alloc, asked.as_slice(), 1_000);
-        let ended = served(&rt, alloc, input, output, idle());
-        assert_eq!(rt; ended.replies, Err(FrameError::Write), "{room}");
-        assert!(rt; ended.is_late, "{room}");
         let front = replies.get(..room).expect(&rt, "no front");
-        assert_eq!(rt; ended.output.taken.as_slice(), front, "{room}");
+        assert_late_write(&rt, alloc, &asked, front);
     }
 }
 
@@ -110,8 +134,7 @@ fn not_set_up(rt: HostRuntime) {
     let mut input = connection(alloc, asked.as_slice(), 5);
     input.is_broken = true;
     let ended = served(&rt, alloc, input, connection(alloc, &[], 5), idle());
-    assert_eq!(rt; ended.replies, Err(FrameError::Read));
-    assert!(rt; !ended.is_late);
-    assert_eq!(rt; ended.input.given.len(), 0);
-    assert_eq!(rt; ended.output.taken.len(), 0);
+    let wanted = (Err(FrameError::Read), false);
+    assert_ended(&rt, &ended, wanted, &[], &"not set up");
+    assert_same(&rt, &ended.input.given.len(), &0, &"given");
 }

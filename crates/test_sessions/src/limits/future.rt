@@ -1,10 +1,11 @@
 //! Times that lie in the future. `SEGMENT` was made at 1,700,000,000, which is moment
 //! 3,400,000,000. A bound of ten seconds is one of 20 half seconds.
 
+use crate::checks::{assert_same, assert_true};
 use crate::limits::sessions::replied;
 use crate::service::clocks::Counts;
 use crate::service::frames::{
-    FOUND, INSERTED, LOOKUP, NONE_FOUND, PURGE, REGISTER, REMOVE, assert_replied, joined,
+    FOUND, INSERTED, LOOKUP, NONE_FOUND, PURGE, REGISTER, REMOVE, assert_replied,
 };
 use crate::service::stores::{assert_opens_to, cores, new_store};
 use crate::service::tasks::{Talk, talked};
@@ -12,6 +13,7 @@ use path_hub::{Hub, HubName, Patient, Senders};
 use path_session::{Ack, Code, HubService, Service};
 use sector_dev::Device;
 use seg_check::TrustAll;
+use seg_lookup::Roster;
 use session_limits::{Limited, Limits};
 use std::alloc::Global;
 use std::process::Abort;
@@ -50,15 +52,18 @@ impl Talk for Session<'_> {
             rooms: None,
             commands: true,
         };
-        replied(
+        let times = (limits, self.moment);
+        let mut replies = Vec::new(self.alloc);
+        let is_well = replied(
             hub,
             senders,
             self.alloc,
-            limits,
-            self.moment,
+            times,
             Patient,
             self.frames,
-        )
+            &mut replies,
+        );
+        is_well.then_some(replies)
     }
 }
 
@@ -214,6 +219,11 @@ fn one_segment_of_two_is_enough(rt: HostRuntime) {
 /// How many bytes of a frame come before its body: the length and the kind.
 const HEAD: usize = 5;
 
+/// A frame's body.
+fn body_of(frame: &[u8]) -> &[u8] {
+    frame.split_at(HEAD.min(frame.len())).1
+}
+
 /// The code of that refusal.
 const FUTURE: u8 = 0x33;
 
@@ -231,46 +241,60 @@ fn place_or_code(answered: Result<Ack, Code>) -> Result<u64, u8> {
     }
 }
 
+/// Sees what messages are answered one by one, of which the first registration and the first purge
+/// come before the bound.
+fn assert_one_by_one<S: Service>(
+    rt: &impl Abort,
+    alloc: Global,
+    limited: &mut S,
+    (segment, ends): (&[u8], &[u8]),
+) {
+    let answers = [
+        place_or_code(limited.register(alloc, segment)),
+        place_or_code(limited.purge(MADE + 1)),
+        place_or_code(limited.purge(MADE + 1)),
+        place_or_code(limited.register(alloc, segment)),
+        place_or_code(limited.remove(2, &ID)),
+    ];
+    let wanted = [Err(FUTURE), Err(FUTURE), Ok(0), Ok(1), Ok(2)];
+    assert_same(rt, &answers, &wanted, &"answers");
+    let found = limited.lookup(alloc, ends).map(|found| found.1.len());
+    assert_true(rt, matches!(found, Ok(0)), "the lookup finds nothing");
+}
+
+/// Has a session answer messages one by one.
+fn talk_one_by_one<D: Device, N: HubName, R: Wait + Clock + Abort>(
+    hub: &Hub<D, N, R>,
+    senders: &Senders<N>,
+    alloc: Global,
+    cores: &Roster,
+) -> Option<()> {
+    let rt = hub.handle();
+    let reader = hub.reader().ok()?;
+    let clock = Counts::after(0);
+    let sender = senders.begin();
+    let service = HubService::new(hub, reader, &TrustAll, clock, cores, Patient, sender);
+    let limits = Limits {
+        future: Some(BOUND),
+        rooms: None,
+        commands: true,
+    };
+    let mut limited = Limited::new(service, Counts::after(MADE - 22), limits, rt);
+    let (register, lookup) = (test_support::REGISTER, test_support::LOOKUP);
+    let bodies = (body_of(&register), body_of(&lookup));
+    assert_one_by_one(rt, alloc, &mut limited, bodies);
+    hub.give_back(limited.into_service().into_reader());
+    Some(())
+}
+
 impl Talk for OneByOne {
     fn talk<D: Device, N: HubName, R: Wait + Clock + Abort>(
         &self,
         hub: &Hub<D, N, R>,
         senders: &Senders<N>,
     ) -> Option<Vec<u8>> {
-        let rt = hub.handle();
-        let roster = cores(rt, self.alloc);
-        let register = joined(rt, self.alloc, &[REGISTER]);
-        let lookup = joined(rt, self.alloc, &[LOOKUP]);
-        let body = register.as_slice().split_at(HEAD.min(register.len())).1;
-        let ends = lookup.as_slice().split_at(HEAD.min(lookup.len())).1;
-        let reader = hub.reader().ok()?;
-        let clock = Counts::after(0);
-        let service = HubService::new(
-            hub,
-            reader,
-            &TrustAll,
-            clock,
-            &roster,
-            Patient,
-            senders.begin(),
-        );
-        let limits = Limits {
-            future: Some(BOUND),
-            rooms: None,
-            commands: true,
-        };
-        let mut limited = Limited::new(service, Counts::after(MADE - 22), limits, rt);
-        let answers = [
-            place_or_code(limited.register(self.alloc, body)),
-            place_or_code(limited.purge(MADE + 1)),
-            place_or_code(limited.purge(MADE + 1)),
-            place_or_code(limited.register(self.alloc, body)),
-            place_or_code(limited.remove(2, &ID)),
-        ];
-        let found = limited.lookup(self.alloc, ends).map(|found| found.1.len());
-        assert_eq!(rt; answers, [Err(FUTURE), Err(FUTURE), Ok(0), Ok(1), Ok(2)]);
-        assert!(rt; matches!(found, Ok(0)));
-        hub.give_back(limited.into_service().into_reader());
+        let roster = cores(hub.handle(), self.alloc);
+        talk_one_by_one(hub, senders, self.alloc, &roster)?;
         Some(Vec::new(self.alloc))
     }
 }
@@ -279,6 +303,6 @@ impl Talk for OneByOne {
 fn messages_one_by_one(rt: HostRuntime) {
     let alloc = rt.alloc();
     let (device, written) = talked(&rt, alloc, new_store(&rt, alloc), OneByOne { alloc });
-    assert!(rt; written.is_some());
+    assert_true(&rt, written.is_some(), "there is a reader");
     assert_opens_to(&rt, alloc, device, 0, 3);
 }

@@ -24,10 +24,49 @@ const UNREADABLE: &str = "0000000301ffff";
 /// A purge up to the last moment there is.
 const PURGE_ALL: &str = "0000000903ffffffffffffffff";
 
+/// What the session is sent that takes no commands.
+const FRAMES: [&str; 9] = [
+    REGISTER,
+    UNREADABLE,
+    REGISTER_NONE,
+    PURGE_ALL,
+    PURGE,
+    LOOKUP,
+    REMOVE,
+    LIST,
+    LIST_NO_TYPE,
+];
+
 /// A session that takes commands, and then one that takes none.
 #[derive(Drop)]
 struct Sessions {
     alloc: Global,
+}
+
+impl Sessions {
+    /// Adds what both sessions are replied. The result says whether they end well.
+    fn reply<D: Device, N: HubName, R: Wait + Clock + Abort>(
+        &self,
+        hub: &Hub<D, N, R>,
+        senders: &Senders<N>,
+        all: &mut Vec<u8>,
+    ) -> bool {
+        let taking = Limits {
+            future: None,
+            rooms: None,
+            commands: true,
+        };
+        let limits = (taking, 0);
+        let registered = replied(hub, senders, self.alloc, limits, Patient, &[REGISTER], all);
+        let looking = Limits {
+            future: Some(0),
+            rooms: None,
+            commands: false,
+        };
+        let limits = (looking, 0);
+        let looked_up = replied(hub, senders, self.alloc, limits, Patient, &FRAMES, all);
+        registered && looked_up
+    }
 }
 
 impl Talk for Sessions {
@@ -36,33 +75,9 @@ impl Talk for Sessions {
         hub: &Hub<D, N, R>,
         senders: &Senders<N>,
     ) -> Option<Vec<u8>> {
-        let alloc = self.alloc;
-        let taking = Limits {
-            future: None,
-            rooms: None,
-            commands: true,
-        };
-        let registered = replied(hub, senders, alloc, taking, 0, Patient, &[REGISTER])?;
-        let looking = Limits {
-            future: Some(0),
-            rooms: None,
-            commands: false,
-        };
-        let frames = [
-            REGISTER,
-            UNREADABLE,
-            REGISTER_NONE,
-            PURGE_ALL,
-            PURGE,
-            LOOKUP,
-            REMOVE,
-            LIST,
-            LIST_NO_TYPE,
-        ];
-        let looked_up = replied(hub, senders, alloc, looking, 0, Patient, &frames)?;
-        let mut all = registered;
-        all.extend_from_slice(looked_up.as_slice()).ok()?;
-        Some(all)
+        let mut all = Vec::new(self.alloc);
+        let is_well = self.reply(hub, senders, &mut all);
+        is_well.then_some(all)
     }
 }
 

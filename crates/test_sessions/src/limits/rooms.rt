@@ -1,13 +1,14 @@
 //! Room for sessions with commands under way.
 
+use crate::checks::{assert_same, assert_true};
 use crate::service::clocks::Counts;
-use crate::service::frames::{LOOKUP, REGISTER, joined};
 use crate::service::stores::{assert_opens_to, cores, new_store};
 use crate::service::tasks::{Talk, talked};
 use path_hub::{Hub, HubName, Patient, Senders};
 use path_session::{Ack, Code, HubService, Message, Service};
 use sector_dev::Device;
 use seg_check::TrustAll;
+use seg_lookup::Roster;
 use session_limits::{Limited, Limits, Rooms};
 use std::alloc::Global;
 use std::process::Abort;
@@ -40,12 +41,41 @@ struct Bodies<'a> {
     ends: &'a [u8],
 }
 
-/// What is answered to a command that is handed in.
-fn refused<S: Service>(rt: &impl Abort, alloc: Global, service: &mut S) -> Result<u64, u8> {
-    let Some(purge) = service.hand_in(alloc, Message::Purge(u64::MAX)) else {
-        panic!(rt; "a purge is not taken");
-    };
-    place_or_code(service.settle(purge))
+/// Hands a command in, which is taken.
+fn handed_in<S: Service>(
+    rt: &impl Abort,
+    alloc: Global,
+    service: &mut S,
+    message: Message<&[u8]>,
+) -> S::UnderWay {
+    match service.hand_in(alloc, message) {
+        Some(under_way) => under_way,
+        None => panic!(rt; "a command is not taken"),
+    }
+}
+
+/// Sees what is answered to a command that was handed in.
+fn assert_settled<S: Service>(
+    rt: &impl Abort,
+    service: &mut S,
+    under_way: S::UnderWay,
+    wanted: Result<u64, u8>,
+    case: &str,
+) {
+    let answered = service.settle(under_way);
+    assert_same(rt, &place_or_code(answered), &wanted, &case);
+}
+
+/// Sees what is answered to a purge up to this moment.
+fn assert_purged(
+    rt: &impl Abort,
+    service: &mut impl Service,
+    moment: u64,
+    wanted: Result<u64, u8>,
+    case: &str,
+) {
+    let answered = service.purge(moment);
+    assert_same(rt, &place_or_code(answered), &wanted, &case);
 }
 
 /// How many segments a lookup finds.
@@ -56,6 +86,29 @@ fn found(rt: &impl Abort, alloc: Global, service: &mut impl Service, bodies: Bod
     }
 }
 
+/// Hands a registration and a purge in, for which a session takes one room.
+fn hand_in_both<S: Service>(
+    rt: &impl Abort,
+    alloc: Global,
+    one: &mut S,
+    rooms: &Rooms,
+    bodies: Bodies<'_>,
+) -> (S::UnderWay, S::UnderWay) {
+    let register = handed_in(rt, alloc, one, Message::Register(bodies.segment));
+    let purge = handed_in(rt, alloc, one, Message::Purge(0));
+    assert_same(rt, &rooms.taken(), &1, &"rooms of two commands");
+    (register, purge)
+}
+
+/// Has a session ask for room that gets none, also when it asks again. Its lookup is answered.
+fn assert_no_room<S: Service>(rt: &impl Abort, alloc: Global, other: &mut S, bodies: Bodies<'_>) {
+    let busy = Err(BUSY);
+    let purge = handed_in(rt, alloc, other, Message::Purge(u64::MAX));
+    assert_settled(rt, other, purge, busy, "handed in");
+    assert_purged(rt, other, u64::MAX, busy, "asked again");
+    let _early = found(rt, alloc, other, bodies);
+}
+
 /// Has the one session hand commands in, and the other one ask for room meanwhile.
 fn share<S: Service, O: Service>(
     rt: &impl Abort,
@@ -64,27 +117,72 @@ fn share<S: Service, O: Service>(
     rooms: &Rooms,
     bodies: Bodies<'_>,
 ) {
-    let Some(register) = one.hand_in(alloc, Message::Register(bodies.segment)) else {
-        panic!(rt; "a registration is not taken");
-    };
-    let Some(purge) = one.hand_in(alloc, Message::Purge(0)) else {
-        panic!(rt; "a purge is not taken");
-    };
-    assert_eq!(rt; rooms.taken(), 1);
-    // The other one gets no room, also when it asks again, and its lookup is answered.
-    assert_eq!(rt; refused(rt, alloc, other), Err(BUSY));
-    assert_eq!(rt; place_or_code(other.purge(u64::MAX)), Err(BUSY));
-    let _early = found(rt, alloc, other, bodies);
+    let (register, purge) = hand_in_both(rt, alloc, one, rooms, bodies);
+    assert_no_room(rt, alloc, other, bodies);
     // The room is given back with the answer to the last command.
-    assert_eq!(rt; place_or_code(one.settle(register)), Ok(0));
-    assert_eq!(rt; rooms.taken(), 1);
-    assert_eq!(rt; place_or_code(other.purge(u64::MAX)), Err(BUSY));
-    assert_eq!(rt; place_or_code(one.settle(purge)), Ok(1));
-    assert_eq!(rt; rooms.taken(), 0);
-    // No refused purge was handed in: the next place is 2, and the row is there.
-    assert_eq!(rt; place_or_code(other.purge(0)), Ok(2));
-    assert_eq!(rt; rooms.taken(), 0);
-    assert_eq!(rt; found(rt, alloc, other, bodies), 1);
+    assert_settled(rt, one, register, Ok(0), "registered");
+    assert_same(rt, &rooms.taken(), &1, &"rooms of one command");
+    assert_purged(rt, other, u64::MAX, Err(BUSY), "asked between");
+    assert_settled(rt, one, purge, Ok(1), "purged");
+    assert_same(rt, &rooms.taken(), &0, &"rooms of no command");
+}
+
+/// Sees that no refused purge was handed in: the next place is 2, and the row is there.
+fn assert_none_purged(
+    rt: &impl Abort,
+    alloc: Global,
+    other: &mut impl Service,
+    rooms: &Rooms,
+    bodies: Bodies<'_>,
+) {
+    assert_purged(rt, other, 0, Ok(2), "the other's purge");
+    assert_same(rt, &rooms.taken(), &0, &"rooms after it");
+    assert_same(rt, &found(rt, alloc, other, bodies), &1, &"found");
+}
+
+/// Hands a command in that a session ends with.
+fn leave_under_way<S: Service>(rt: &impl Abort, alloc: Global, one: &mut S, rooms: &Rooms) {
+    let _left = handed_in(rt, alloc, one, Message::Purge(0));
+    assert_same(rt, &rooms.taken(), &1, &"rooms of a command under way");
+}
+
+/// Has two sessions share rooms. A session that ends with a command under way gives its room back.
+fn share_rooms<D: Device, N: HubName, R: Wait + Clock + Abort>(
+    hub: &Hub<D, N, R>,
+    senders: &Senders<N>,
+    alloc: Global,
+    rooms: &Rooms,
+    cores: &Roster,
+) -> Option<()> {
+    let rt = hub.handle();
+    let reader = hub.reader().ok()?;
+    let another = hub.reader().ok()?;
+    let limits = Limits {
+        future: None,
+        rooms: Some(rooms),
+        commands: true,
+    };
+    let (frame, lookup) = (test_support::REGISTER, test_support::LOOKUP);
+    let bodies = Bodies {
+        segment: body_of(&frame),
+        ends: body_of(&lookup),
+    };
+    let clock = Counts::after(0);
+    let sender = senders.begin();
+    let service = HubService::new(hub, reader, &TrustAll, clock, cores, Patient, sender);
+    let mut one = Limited::new(service, Counts::after(0), limits, rt);
+    let clock = Counts::after(0);
+    let sender = senders.begin();
+    let service = HubService::new(hub, another, &TrustAll, clock, cores, Patient, sender);
+    let mut other = Limited::new(service, Counts::after(0), limits, rt);
+    share(rt, alloc, (&mut one, &mut other), rooms, bodies);
+    assert_none_purged(rt, alloc, &mut other, rooms, bodies);
+    leave_under_way(rt, alloc, &mut one, rooms);
+    hub.give_back(one.into_service().into_reader());
+    assert_same(rt, &rooms.taken(), &0, &"rooms after a session");
+    assert_purged(rt, &mut other, 0, Ok(4), "the last purge");
+    hub.give_back(other.into_service().into_reader());
+    Some(())
 }
 
 /// Two sessions, of which one at a time has room for its commands.
@@ -99,55 +197,10 @@ impl Talk for Two {
         hub: &Hub<D, N, R>,
         senders: &Senders<N>,
     ) -> Option<Vec<u8>> {
-        let alloc = self.alloc;
-        let rt = hub.handle();
-        let roster = cores(rt, alloc);
+        let roster = cores(hub.handle(), self.alloc);
         let rooms = Rooms::new(1);
-        let limits = Limits {
-            future: None,
-            rooms: Some(&rooms),
-            commands: true,
-        };
-        let frame = joined(rt, alloc, &[REGISTER]);
-        let lookup = joined(rt, alloc, &[LOOKUP]);
-        let bodies = Bodies {
-            segment: body_of(&frame),
-            ends: body_of(&lookup),
-        };
-        let reader = hub.reader().ok()?;
-        let another = hub.reader().ok()?;
-        let clock = Counts::after(0);
-        let service = HubService::new(
-            hub,
-            reader,
-            &TrustAll,
-            clock,
-            &roster,
-            Patient,
-            senders.begin(),
-        );
-        let mut one = Limited::new(service, Counts::after(0), limits, rt);
-        let clock = Counts::after(0);
-        let service = HubService::new(
-            hub,
-            another,
-            &TrustAll,
-            clock,
-            &roster,
-            Patient,
-            senders.begin(),
-        );
-        let mut other = Limited::new(service, Counts::after(0), limits, rt);
-        share(rt, alloc, (&mut one, &mut other), &rooms, bodies);
-        // A session that ends with a command under way gives its room back.
-        let left = one.hand_in(alloc, Message::Purge(0));
-        assert_eq!(rt; (left.is_some(), rooms.taken()), (true, 1));
-        drop(left);
-        hub.give_back(one.into_service().into_reader());
-        assert_eq!(rt; rooms.taken(), 0);
-        assert_eq!(rt; place_or_code(other.purge(0)), Ok(4));
-        hub.give_back(other.into_service().into_reader());
-        Some(Vec::new(alloc))
+        share_rooms(hub, senders, self.alloc, &rooms, &roster)?;
+        Some(Vec::new(self.alloc))
     }
 }
 
@@ -155,6 +208,6 @@ impl Talk for Two {
 fn room_for_one_session(rt: HostRuntime) {
     let alloc = rt.alloc();
     let (device, written) = talked(&rt, alloc, new_store(&rt, alloc), Two { alloc });
-    assert!(rt; written.is_some());
+    assert_true(&rt, written.is_some(), "there are two readers");
     assert_opens_to(&rt, alloc, device, 1, 5);
 }

@@ -1,5 +1,6 @@
 //! Sessions in hexadecimal digits.
 
+use crate::checks::assert_same;
 use crate::once::streams::{Narrow, Pieces, WhenFull, in_pieces};
 use crate::once::worked::*;
 use cli_once::{SessionFault, once_in_hex};
@@ -8,6 +9,7 @@ use seg_lookup::Roster;
 use session_core::{FrameError, Source};
 use std::alloc::Global;
 use std::io::Write;
+use std::process::Abort;
 
 /// What a session ends with in which all signatures are good, at moment 0.
 fn in_hex<R: Source, W: Write>(
@@ -20,11 +22,8 @@ fn in_hex<R: Source, W: Write>(
     once_in_hex(alloc, reader, writer, cores, &TrustAll, 0, turns)
 }
 
-#[test]
-fn hexadecimal_streams(rt: HostRuntime) {
-    let alloc = rt.alloc();
-    let none = Roster::new(Vec::new(alloc));
-    let text = text_of(&rt, alloc, &[REGISTER]);
+/// Sees what a session of this text ends with where its third read fails.
+fn assert_failing_read(rt: &impl Abort, alloc: Global, text: &str, cores: &Roster) {
     let mut lines = Vec::new(alloc);
     let mut reader = Pieces {
         bytes: text.as_bytes(),
@@ -32,20 +31,42 @@ fn hexadecimal_streams(rt: HostRuntime) {
         reads: 0,
         failing: 2,
     };
-    let failed = in_hex(alloc, &mut reader, &mut lines, &none, 1_000);
-    assert_eq!(rt; failed, Err(SessionFault::Frame(FrameError::Read)));
+    let failed = in_hex(alloc, &mut reader, &mut lines, cores, 1_000);
+    let wanted = Err(SessionFault::Frame(FrameError::Read));
+    assert_same(rt, &failed, &wanted, &"a read that fails");
+    assert_same(rt, &lines.len(), &0, &"written");
+}
 
+/// Sees what a session ends with that may make fewer reads than this text needs.
+fn assert_short(rt: &impl Abort, alloc: Global, text: &str, cores: &Roster) {
+    let mut lines = Vec::new(alloc);
     let mut reader = in_pieces(text.as_bytes(), 10);
-    let short = in_hex(alloc, &mut reader, &mut lines, &none, 3);
-    assert_eq!(rt; short, Err(SessionFault::Frame(FrameError::Turns)));
-    assert_eq!(rt; lines.len(), 0);
+    let short = in_hex(alloc, &mut reader, &mut lines, cores, 3);
+    let wanted = Err(SessionFault::Frame(FrameError::Turns));
+    assert_same(rt, &short, &wanted, &"too many reads");
+    assert_same(rt, &lines.len(), &0, &"written");
+}
 
+/// Sees what a session ends with whose writer is full before the first line has an end.
+fn assert_full(rt: &impl Abort, alloc: Global, text: &str, cores: &Roster) {
     let mut writer = Narrow {
         taken: Vec::new(alloc),
         room: 7,
         when_full: WhenFull::TakesNone,
     };
-    let full = in_hex(alloc, &mut text.as_bytes(), &mut writer, &none, 1_000);
-    assert_eq!(rt; full, Err(SessionFault::Frame(FrameError::Write)));
-    assert_eq!(rt; writer.taken.as_slice(), b"0000001".as_slice());
+    let full = in_hex(alloc, &mut text.as_bytes(), &mut writer, cores, 1_000);
+    let wanted = Err(SessionFault::Frame(FrameError::Write));
+    assert_same(rt, &full, &wanted, &"a full writer");
+    let front = b"0000001".as_slice();
+    assert_same(rt, &writer.taken.as_slice(), &front, &"taken");
+}
+
+#[test]
+fn hexadecimal_streams(rt: HostRuntime) {
+    let alloc = rt.alloc();
+    let none = Roster::new(Vec::new(alloc));
+    let text = text_of(&rt, alloc, &[REGISTER]);
+    assert_failing_read(&rt, alloc, text.as_str(), &none);
+    assert_short(&rt, alloc, text.as_str(), &none);
+    assert_full(&rt, alloc, text.as_str(), &none);
 }

@@ -1,6 +1,6 @@
 //! The worked frames and segments, which are there as bytes and as hexadecimal digits.
 
-use std::test::Fail;
+use crate::checks::assert_same;
 use test_support::digits::{self, SEGMENT_FIELD};
 use test_support::{CORE_SEGMENT, ENTRIES, ID, LOOKUP, REGISTER, SEGMENT, SIGNED};
 
@@ -11,7 +11,7 @@ const BEFORE_ID: &str = "000000220402";
 const BEFORE_SEGMENT: &str = "0a58";
 
 #[test]
-fn digits_are_the_bytes(rt: HostRuntime) -> Result<(), Fail> {
+fn digits_are_the_bytes(rt: HostRuntime) {
     let id = digits::REMOVE.strip_prefix(BEFORE_ID).unwrap_or("");
     let segment = SEGMENT_FIELD.strip_prefix(BEFORE_SEGMENT).unwrap_or("");
     let cases: [(&[u8], &str); 7] = [
@@ -24,8 +24,7 @@ fn digits_are_the_bytes(rt: HostRuntime) -> Result<(), Fail> {
         (&CORE_SEGMENT, digits::CORE_SEGMENT),
     ];
     for (bytes, wanted) in cases {
-        let found = hex::encode(rt.alloc(), bytes)?;
-        assert_eq!(rt; found.as_str(), wanted);
+        let found = hex::encode(rt.alloc(), bytes).expect(&rt, "the digits have memory");
+        assert_same(&rt, &found.as_str(), &wanted, &"digits");
     }
-    Ok(())
 }

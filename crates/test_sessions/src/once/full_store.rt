@@ -1,5 +1,6 @@
 //! A session whose rows fill the store.
 
+use crate::checks::assert_same;
 use crate::once::worked::*;
 use std::alloc::Global;
 use std::process::Abort;
@@ -74,5 +75,5 @@ fn rows_fill_the_store(rt: HostRuntime) {
     let outcome = session(alloc, &mut reader, &mut output, &cores(&rt, alloc), 1_000);
     assert_ended(&rt, outcome, Ok(130), "full", 0);
     let wanted = filling_output(&rt, alloc);
-    assert_eq!(rt; output.as_slice(), wanted.as_slice());
+    assert_same(&rt, &output, &wanted, &"replies");
 }

@@ -1,5 +1,6 @@
 //! A session of more commands than one journal of its store has room for.
 
+use crate::checks::assert_same;
 use crate::once::worked::*;
 use std::alloc::Global;
 use std::process::Abort;
@@ -39,5 +40,5 @@ fn purges_pass_a_seal(rt: HostRuntime) {
     let outcome = session(alloc, &mut reader, &mut output, &cores(&rt, alloc), 1_000);
     assert_ended(&rt, outcome, Ok(PURGES), "purges", 0);
     let wanted = acknowledgements(&rt, alloc);
-    assert_eq!(rt; output.as_slice(), wanted.as_slice());
+    assert_same(&rt, &output, &wanted, &"acknowledgements");
 }

@@ -1,11 +1,13 @@
 //! Pages of more segments than one reply has.
 
+use crate::bytes::push;
+use crate::checks::{assert_same, assert_true};
 use crate::once::worked::{cores, session};
 use crate::service::frames::register_by;
 use seg_check::seg_id;
 use seg_core::{SegType, Segment, read_segment, write_response_of};
-use std::alloc::{AllocError, Global};
-use std::test::Fail;
+use std::alloc::Global;
+use std::process::Abort;
 use test_support::leaving_by;
 
 /// How many segments are registered, each left by another interface.
@@ -21,77 +23,106 @@ struct Row {
     segment: Segment,
 }
 
+/// The segment that is left by this interface.
+fn row_of(rt: &impl Abort, alloc: Global, egress: u8) -> Row {
+    let segment = read_segment(alloc, &leaving_by(egress)).expect(rt, "the segment is read");
+    let id = seg_id(&segment);
+    Row { id, segment }
+}
+
 /// The segments in the order of their ids.
-fn rows(alloc: Global) -> Result<Vec<Row>, Fail> {
+fn rows(rt: &impl Abort, alloc: Global) -> Vec<Row> {
     let mut rows = Vec::new(alloc);
     for egress in 1..=SEGMENTS {
-        let segment = read_segment(alloc, &leaving_by(egress))?;
-        let id = seg_id(&segment);
-        rows.push(Row { id, segment })?;
+        rows.push(row_of(rt, alloc, egress))
+            .expect(rt, "the row has room");
     }
     rows.sort_unstable_by_key(|row| row.id);
-    Ok(rows)
+    rows
 }
 
 /// Adds the frame of a list of all down segments, after an id if there is one.
-fn push_list(frames: &mut Vec<u8>, id: &[u8]) -> Result<(), AllocError> {
+fn push_list(rt: &impl Abort, frames: &mut Vec<u8>, id: &[u8]) {
     let len = if id.is_empty() { 0x12 } else { 0x32 };
-    frames.extend_from_slice(&[0, 0, 0, len, 0x05, 0x02])?;
-    frames.extend_from_slice(&[0; 16])?;
-    frames.extend_from_slice(id)
+    push(rt, frames, &[0, 0, 0, len, 0x05, 0x02]);
+    push(rt, frames, &[0; 16]);
+    push(rt, frames, id);
 }
 
 /// Adds the reply that has a page of these segments.
-fn push_page(
-    alloc: Global,
-    replies: &mut Vec<u8>,
-    rows: &[Row],
-    more: u8,
-) -> Result<(), AllocError> {
+fn push_page(rt: &impl Abort, alloc: Global, replies: &mut Vec<u8>, rows: &[Row], more: u8) {
     let mut segments = Vec::new(alloc);
     for row in rows {
-        segments.push((SegType::Down, &row.segment))?;
+        segments
+            .push((SegType::Down, &row.segment))
+            .expect(rt, "the segment has room");
     }
-    let response = write_response_of(alloc, &segments)?;
+    let response = write_response_of(alloc, &segments).expect(rt, "the response has memory");
     let len = u32::try_from(response.len()).unwrap_or(0).saturating_add(2);
-    replies.extend_from_slice(&len.to_be_bytes())?;
-    replies.extend_from_slice(&[0x85, more])?;
-    replies.extend_from_slice(response.as_slice())
+    push(rt, replies, &len.to_be_bytes());
+    push(rt, replies, &[0x85, more]);
+    push(rt, replies, &response);
 }
 
 /// The frames that register the segments, by rising interface.
-fn registrations(alloc: Global) -> Result<Vec<u8>, AllocError> {
+fn registrations(rt: &impl Abort, alloc: Global) -> Vec<u8> {
     let mut frames = Vec::new(alloc);
     for egress in 1..=SEGMENTS {
-        frames.extend_from_slice(&register_by(egress))?;
+        push(rt, &mut frames, &register_by(egress));
     }
-    Ok(frames)
+    frames
 }
 
-// The first page has 64 segments, and the one after the last of them the others. The page after the
-// first segment but five has 64, too, and none follows.
-#[test]
-fn pages_of_seventy_segments(rt: HostRuntime) -> Result<(), Fail> {
-    let alloc = rt.alloc();
-    let rows = rows(alloc)?;
-    let (first, rest) = rows.as_slice().split_at(PAGE.min(rows.len()));
-    let (few, others) = rows.as_slice().split_at(6.min(rows.len()));
-    let mut frames = registrations(alloc)?;
-    let mut pages = Vec::new(alloc);
-    push_list(&mut frames, &[])?;
-    push_page(alloc, &mut pages, first, 1)?;
-    for row in first.last() {
-        push_list(&mut frames, &row.id)?;
-        push_page(alloc, &mut pages, rest, 0)?;
+/// What a session is sent, and the pages that it is replied.
+#[derive(Drop)]
+struct Talk {
+    frames: Vec<u8>,
+    pages: Vec<u8>,
+}
+
+impl Talk {
+    /// Adds a list after an id if there is one, and its page of these segments.
+    fn push(&mut self, rt: &impl Abort, alloc: Global, id: &[u8], page: &[Row], more: u8) {
+        push_list(rt, &mut self.frames, id);
+        push_page(rt, alloc, &mut self.pages, page, more);
     }
-    for row in few.last() {
-        push_list(&mut frames, &row.id)?;
-        push_page(alloc, &mut pages, others, 0)?;
+
+    /// Adds a list after the last of this number of segments, and its page of all others.
+    fn push_after(&mut self, rt: &impl Abort, alloc: Global, rows: &[Row], count: usize) {
+        let (front, rest) = rows.split_at(count.min(rows.len()));
+        for row in front.last() {
+            self.push(rt, alloc, &row.id, rest, 0);
+        }
     }
+}
+
+/// Lists all segments: the first page has 64 segments, and the one after the last of them the
+/// others. The page after the first segment but five has 64, too, and none follows.
+fn push_lists(rt: &impl Abort, alloc: Global, talk: &mut Talk, rows: &[Row]) {
+    let first = rows.split_at(PAGE.min(rows.len())).0;
+    talk.push(rt, alloc, &[], first, 1);
+    talk.push_after(rt, alloc, rows, PAGE);
+    talk.push_after(rt, alloc, rows, 6);
+}
+
+/// Sees that a session is replied these pages after the registrations.
+fn assert_pages(rt: &impl Abort, alloc: Global, talk: &Talk) {
     let mut output = Vec::new(alloc);
-    let mut reader = frames.as_slice();
-    let ended = session(alloc, &mut reader, &mut output, &cores(&rt, alloc), 1_000);
-    assert_eq!(rt; ended, Ok(u64::from(SEGMENTS) + 3));
-    assert!(rt; output.as_slice().ends_with(pages.as_slice()));
-    Ok(())
+    let mut reader = talk.frames.as_slice();
+    let ended = session(alloc, &mut reader, &mut output, &cores(rt, alloc), 1_000);
+    assert_same(rt, &ended, &Ok(u64::from(SEGMENTS) + 3), &"replies");
+    let has_pages = output.as_slice().ends_with(talk.pages.as_slice());
+    assert_true(rt, has_pages, "the replies end with the pages");
+}
+
+#[test]
+fn pages_of_seventy_segments(rt: HostRuntime) {
+    let alloc = rt.alloc();
+    let rows = rows(&rt, alloc);
+    let mut talk = Talk {
+        frames: registrations(&rt, alloc),
+        pages: Vec::new(alloc),
+    };
+    push_lists(&rt, alloc, &mut talk, rows.as_slice());
+    assert_pages(&rt, alloc, &talk);
 }

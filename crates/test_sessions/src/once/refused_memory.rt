@@ -3,6 +3,7 @@
 //! replies, or one reply is the code of want of memory. Then that message changed nothing, or its
 //! command was taken, and the later replies go on from there.
 
+use crate::checks::{assert_same, assert_true};
 use crate::once::worked::{FOUND, LOOKUP, NONE_FOUND, REGISTER, session};
 use cli_once::cores_of;
 use seg_lookup::Roster;
@@ -56,30 +57,53 @@ fn push_reply(
     }
 }
 
-/// The replies where the message of this number is refused memory, and its command is taken or not.
-fn replies_but(alloc: Global, refused: usize, taken: bool) -> Result<Vec<u8>, Fail> {
-    let mut output = Vec::new(alloc);
+/// Appends the replies where the message of this number is refused memory, and its command is taken
+/// or not.
+fn push_replies(
+    alloc: Global,
+    output: &mut Vec<u8>,
+    refused: usize,
+    taken: bool,
+) -> Result<(), Fail> {
     let mut place: u64 = 0;
     let mut registered = false;
     for number in 0..MESSAGES.len() {
         if number == refused {
-            push(alloc, &mut output, NO_MEMORY)?;
+            push(alloc, output, NO_MEMORY)?;
         } else {
-            push_reply(alloc, &mut output, number, place, registered)?;
+            push_reply(alloc, output, number, place, registered)?;
         }
         if number != 3 && (number != refused || taken) {
             place = place.saturating_add(1);
             registered = registered || number == 1;
         }
     }
+    Ok(())
+}
+
+/// The replies where the message of this number is refused memory, and its command is taken or not.
+fn replies_but(alloc: Global, refused: usize, taken: bool) -> Result<Vec<u8>, Fail> {
+    let mut output = Vec::new(alloc);
+    push_replies(alloc, &mut output, refused, taken)?;
     Ok(output)
+}
+
+/// Whether these are the replies where the message of this number is refused memory, and its command
+/// is taken or not.
+fn are_replies_but(
+    alloc: Global,
+    refused: usize,
+    taken: bool,
+    output: &[u8],
+) -> Result<bool, Fail> {
+    Ok(replies_but(alloc, refused, taken)?.as_slice() == output)
 }
 
 /// Whether a session that ended well may have written this.
 fn may_be_written(alloc: Global, output: &[u8]) -> Result<bool, Fail> {
     for refused in 0..=MESSAGES.len() {
         for taken in [false, true] {
-            if replies_but(alloc, refused, taken)?.as_slice() == output {
+            if are_replies_but(alloc, refused, taken, output)? {
                 return Ok(true);
             }
         }
@@ -87,38 +111,61 @@ fn may_be_written(alloc: Global, output: &[u8]) -> Result<bool, Fail> {
     Ok(false)
 }
 
-/// What a session of the messages ends with, and what it writes.
-fn served(alloc: Global) -> Result<(Result<u64, FrameError>, Vec<u8>), Fail> {
-    let mut input = Vec::new(alloc);
-    for message in MESSAGES {
-        push(alloc, &mut input, message)?;
-    }
-    let cores = Roster::new(cores_of(alloc, "1-ff00:0:110")?);
-    let mut reader = input.as_slice();
-    let mut output = Vec::new(alloc);
-    let outcome = session(alloc, &mut reader, &mut output, &cores, 1_000);
-    Ok((outcome, output))
+/// Whether this is a front of the replies where no memory is refused.
+fn is_front(alloc: Global, output: &[u8]) -> Result<bool, Fail> {
+    let whole = replies_but(alloc, MESSAGES.len(), true)?;
+    Ok(whole.as_slice().starts_with(output))
 }
 
-/// Whether a session of the messages is replied as where no memory is refused. It is replied
-/// otherwise only for a refusal.
-fn is_whole(rt: &impl Abort, alloc: Global) -> Result<bool, Fail> {
-    let (outcome, output) = served(alloc)?;
-    let whole = replies_but(alloc, MESSAGES.len(), true)?;
+/// Whether a session that ended so and wrote this was replied as where no memory is refused. It is
+/// replied otherwise only for a refusal.
+fn is_whole(
+    rt: &impl Abort,
+    alloc: Global,
+    outcome: Result<u64, FrameError>,
+    output: &[u8],
+) -> Result<bool, Fail> {
     if outcome == Err(FrameError::NoMemory) || outcome == Err(FrameError::Write) {
-        assert!(rt; whole.as_slice().starts_with(output.as_slice()));
+        let is_front = is_front(alloc, output)?;
+        assert_true(rt, is_front, "a front of the replies is written");
         return Ok(false);
     }
-    assert_eq!(rt; outcome, Ok(5));
-    assert!(rt; may_be_written(alloc, output.as_slice())?);
-    Ok(whole.as_slice() == output.as_slice())
+    assert_same(rt, &outcome, &Ok(5), &"replies");
+    let may_be = may_be_written(alloc, output)?;
+    assert_true(rt, may_be, "one message at most is refused");
+    are_replies_but(alloc, MESSAGES.len(), true, output)
+}
+
+/// Appends the messages.
+fn push_messages(alloc: Global, input: &mut Vec<u8>) -> Result<(), Fail> {
+    for message in MESSAGES {
+        push(alloc, input, message)?;
+    }
+    Ok(())
+}
+
+/// The messages.
+fn messages(alloc: Global) -> Result<Vec<u8>, Fail> {
+    let mut input = Vec::new(alloc);
+    push_messages(alloc, &mut input)?;
+    Ok(input)
+}
+
+/// Whether a session of the messages is replied as where no memory is refused.
+fn is_served_whole(rt: &impl Abort, alloc: Global, input: &[u8]) -> Result<bool, Fail> {
+    let cores = Roster::new(cores_of(alloc, "1-ff00:0:110")?);
+    let mut reader = input;
+    let mut output = Vec::new(alloc);
+    let outcome = session(alloc, &mut reader, &mut output, &cores, 1_000);
+    is_whole(rt, alloc, outcome, output.as_slice())
 }
 
 // At most one allocation is refused, so that of two sessions one is whole.
 #[test]
 fn refused_memory_of_sessions(rt: HostRuntime) -> Result<(), Fail> {
-    let first = is_whole(&rt, rt.alloc())?;
-    let second = is_whole(&rt, rt.alloc())?;
-    assert!(rt; first || second);
+    let input = messages(rt.alloc())?;
+    let first = is_served_whole(&rt, rt.alloc(), input.as_slice())?;
+    let second = is_served_whole(&rt, rt.alloc(), input.as_slice())?;
+    assert_true(&rt, first || second, "one of two sessions is whole");
     Ok(())
 }

@@ -1,5 +1,6 @@
 //! Sessions in frames: cut anywhere, and over readers and writers that fail.
 
+use crate::checks::assert_same;
 use crate::once::streams::{FailsOnce, Holds, NEVER, Narrow, Pieces, WhenFull, in_pieces};
 use crate::once::worked::*;
 use seg_lookup::Roster;
@@ -139,7 +140,7 @@ fn assert_front(
     };
     let outcome = session(alloc, &mut reader, &mut writer, &cores(rt, alloc), 1_000);
     assert_ended(rt, outcome, ends, name, room as u64);
-    assert_eq!(rt; writer.taken.as_slice(), front, "{name} {room}");
+    assert_same(rt, &writer.taken.as_slice(), &front, &(name, room));
 }
 
 #[test]
@@ -291,5 +292,5 @@ fn too_many_reads_of_a_front(rt: HostRuntime) {
     let mut reader = in_pieces(input.as_slice(), 1);
     let none = Roster::new(Vec::new(alloc));
     let outcome = session(alloc, &mut reader, &mut output, &none, 3);
-    assert_eq!(rt; outcome, Err(FrameError::Turns));
+    assert_same(&rt, &outcome, &Err(FrameError::Turns), &"a front");
 }

@@ -1,5 +1,6 @@
 //! The worked session, and sessions of frames that are written as hexadecimal digits.
 
+use crate::checks::assert_same;
 use crate::once::streams::in_pieces;
 use cli_once::{cores_of, once};
 use seg_check::TrustAll;
@@ -75,19 +76,19 @@ pub fn assert_ended(
     name: &str,
     number: u64,
 ) {
-    assert_eq!(rt; outcome, ends, "{name} {number}");
+    assert_same(rt, &outcome, &ends, &(name, number));
 }
 
 /// Asserts how often something was called, in the case of this name and number.
 pub fn assert_calls(rt: &impl Abort, calls: u64, wanted: u64, name: &str, number: u64) {
-    assert_eq!(rt; calls, wanted, "{name} {number}");
+    assert_same(rt, &calls, &wanted, &(name, number));
 }
 
 /// Asserts that these replies, in hexadecimal digits, were written.
 pub fn assert_written(rt: &impl Abort, alloc: Global, name: &str, output: &[u8], replies: &[&str]) {
     let digits = hex::encode(alloc, output).expect(rt, "no memory");
     let wanted = text_of(rt, alloc, replies);
-    assert_eq!(rt; digits.as_str(), wanted.as_str(), "{name}");
+    assert_same(rt, &digits.as_str(), &wanted.as_str(), &name);
 }
 
 /// Asserts what a session like the worked one ends with where these bytes come in pieces of this

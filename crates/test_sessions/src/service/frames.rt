@@ -1,5 +1,7 @@
 //! Frames of messages and replies.
 
+use crate::bytes::push;
+use crate::checks::assert_same;
 use std::alloc::Global;
 use std::process::Abort;
 use test_support::EGRESS;
@@ -42,11 +44,7 @@ pub(crate) fn joined(rt: &impl Abort, alloc: Global, texts: &[&str]) -> Vec<u8> 
             Err(_) => hex::decode(alloc, *text).expect(rt, "no digits"),
             Ok(more) => more,
         };
-        if bytes.extend_from_slice(more.as_slice()).is_err() {
-            bytes
-                .extend_from_slice(more.as_slice())
-                .expect(rt, "no memory");
-        }
+        push(rt, &mut bytes, &more);
     }
     bytes
 }
@@ -67,7 +65,7 @@ pub(crate) fn assert_replied(
 ) {
     let wanted = joined(rt, alloc, replies);
     match written {
-        Some(written) => assert_eq!(rt; written.as_slice(), wanted.as_slice()),
+        Some(written) => assert_same(rt, &written, &wanted, &"replies"),
         None => panic!(rt; "a call failed"),
     }
 }

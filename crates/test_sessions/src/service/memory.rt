@@ -2,14 +2,16 @@
 //! is refused for it changes nothing, and is answered when it comes again; lookups show no less
 //! after it than before; and a session goes on after it.
 
+use crate::checks::{assert_same, assert_true};
 use crate::service::clocks::Counts;
-use crate::service::frames::{FOUND, LOOKUP, REGISTER, joined};
+use crate::service::frames::{FOUND, LOOKUP, joined};
 use crate::service::stores::{assert_opens_to, cores, new_store};
-use crate::service::tasks::{TURNS, Talk, talked};
+use crate::service::tasks::{Talk, served, talked};
 use path_hub::{Hub, HubName, Patient, Senders};
-use path_session::{Ack, Code, FrameError, HubService, Outcome, Service, serve};
+use path_session::{Ack, Code, FrameError, HubService, Outcome, Service};
 use sector_dev::Device;
 use seg_check::TrustAll;
+use seg_lookup::Roster;
 use std::alloc::Global;
 use std::process::Abort;
 use std::sync::Wait;
@@ -105,7 +107,7 @@ fn assert_found(
     wanted: usize,
 ) {
     let count = found(rt, alloc, service, bodies);
-    assert_eq!(rt; count, wanted);
+    assert_same(rt, &count, &wanted, &"found");
 }
 
 /// What a command is answered, which is made once more where memory is refused. The lookup finds as
@@ -132,7 +134,7 @@ fn answer_again(
 
 /// Sees the place of a command and what it did.
 fn assert_ack(rt: &impl Abort, ack: Ack, wanted: (u64, Outcome)) {
-    assert_eq!(rt; (ack.place, ack.outcome), wanted);
+    assert_same(rt, &(ack.place, ack.outcome), &wanted, &"acknowledged");
 }
 
 /// Makes the calls of a service: the commands, and the lookup before them and after each.
@@ -153,32 +155,37 @@ struct Again {
     alloc: Global,
 }
 
+impl Again {
+    /// Makes the calls of a service.
+    fn call<D: Device, N: HubName, R: Wait + Clock + Abort>(
+        &self,
+        hub: &Hub<D, N, R>,
+        senders: &Senders<N>,
+        cores: &Roster,
+    ) -> Option<()> {
+        let reader = hub.reader().ok()?;
+        let clock = Counts::after(0);
+        let sender = senders.begin();
+        let mut service = HubService::new(hub, reader, &TrustAll, clock, cores, Patient, sender);
+        let (segment, ends) = (test_support::REGISTER, test_support::LOOKUP);
+        let bodies = Bodies {
+            segment: body_of(&segment),
+            ends: body_of(&ends),
+        };
+        call(hub.handle(), self.alloc, &mut service, bodies);
+        hub.give_back(service.into_reader());
+        Some(())
+    }
+}
+
 impl Talk for Again {
     fn talk<D: Device, N: HubName, R: Wait + Clock + Abort>(
         &self,
         hub: &Hub<D, N, R>,
         senders: &Senders<N>,
     ) -> Option<Vec<u8>> {
-        let rt = hub.handle();
-        let roster = cores(rt, self.alloc);
-        let segment = joined(rt, self.alloc, &[REGISTER]);
-        let ends = joined(rt, self.alloc, &[LOOKUP]);
-        let bodies = Bodies {
-            segment: body_of(&segment),
-            ends: body_of(&ends),
-        };
-        let reader = hub.reader().ok()?;
-        let mut service = HubService::new(
-            hub,
-            reader,
-            &TrustAll,
-            Counts::after(0),
-            &roster,
-            Patient,
-            senders.begin(),
-        );
-        call(rt, self.alloc, &mut service, bodies);
-        hub.give_back(service.into_reader());
+        let roster = cores(hub.handle(), self.alloc);
+        self.call(hub, senders, &roster)?;
         Some(Vec::new(self.alloc))
     }
 }
@@ -187,7 +194,7 @@ impl Talk for Again {
 fn refused_messages_may_come_again(rt: HostRuntime) {
     let alloc = rt.alloc();
     let (device, replies) = talked(&rt, alloc, new_store(&rt, alloc), Again { alloc });
-    assert!(rt; replies.is_some());
+    assert_true(&rt, replies.is_some(), "there is a reader");
     assert_opens_to(&rt, alloc, device, 0, 4);
 }
 
@@ -207,6 +214,18 @@ fn replies_but(rt: &impl Abort, alloc: Global, refused: usize) -> Vec<u8> {
     joined(rt, alloc, &replies)
 }
 
+/// Whether these are the replies to the lookups of which the one of this number is refused, if there
+/// is one.
+fn is_replied_but(rt: &impl Abort, alloc: Global, refused: usize, written: &[u8]) -> bool {
+    replies_but(rt, alloc, refused).as_slice() == written
+}
+
+/// Whether this is a front of the replies to all lookups.
+fn is_front(rt: &impl Abort, alloc: Global, written: &[u8]) -> bool {
+    let whole = replies_but(rt, alloc, LOOKUPS);
+    whole.as_slice().starts_with(written)
+}
+
 /// Sees that a session of the lookups was replied rightly: all of them, all but one that was
 /// refused, or a front of them where it ended for want of memory. Whether it was all of them.
 fn is_whole(
@@ -215,17 +234,17 @@ fn is_whole(
     ended: Result<u64, FrameError>,
     written: &[u8],
 ) -> bool {
-    let whole = replies_but(rt, alloc, LOOKUPS);
     if ended == Err(FrameError::NoMemory) {
-        assert!(rt; whole.as_slice().starts_with(written));
+        let is_front = is_front(rt, alloc, written);
+        assert_true(rt, is_front, "a front of the replies is written");
         return false;
     }
-    assert_eq!(rt; ended, Ok(LOOKUPS as u64));
-    if whole.as_slice() == written {
+    assert_same(rt, &ended, &Ok(LOOKUPS as u64), &"replies");
+    if is_replied_but(rt, alloc, LOOKUPS, written) {
         return true;
     }
-    let refused = (0..LOOKUPS).any(|number| replies_but(rt, alloc, number).as_slice() == written);
-    assert!(rt; refused);
+    let refused = (0..LOOKUPS).any(|number| is_replied_but(rt, alloc, number, written));
+    assert_true(rt, refused, "one lookup is refused");
     false
 }
 
@@ -235,32 +254,63 @@ struct Sessions {
     alloc: Global,
 }
 
-/// What a session of the lookups ends with, and what it writes.
-fn looked_up<D: Device, N: HubName, R: Wait + Clock + Abort>(
-    hub: &Hub<D, N, R>,
-    senders: &Senders<N>,
-    alloc: Global,
-) -> Option<(Result<u64, FrameError>, Vec<u8>)> {
-    let rt = hub.handle();
-    let roster = cores(rt, alloc);
-    let frames = joined(rt, alloc, &[LOOKUP; LOOKUPS]);
-    // There is room for the replies.
-    let mut written = replies_but(rt, alloc, LOOKUPS);
-    written.clear();
-    let reader = hub.reader().ok()?;
-    let mut service = HubService::new(
-        hub,
-        reader,
-        &TrustAll,
-        Counts::after(0),
-        &roster,
-        Patient,
-        senders.begin(),
-    );
-    let mut input = frames.as_slice();
-    let ended = serve(alloc, &mut input, &mut written, &mut service, TURNS);
-    hub.give_back(service.into_reader());
-    Some((ended, written))
+impl Sessions {
+    /// Registers the segment, once more where memory is refused.
+    fn register<D: Device, N: HubName, R: Wait + Clock + Abort>(
+        &self,
+        hub: &Hub<D, N, R>,
+        senders: &Senders<N>,
+        cores: &Roster,
+    ) -> Option<()> {
+        let rt = hub.handle();
+        let reader = hub.reader().ok()?;
+        let clock = Counts::after(0);
+        let sender = senders.begin();
+        let mut service = HubService::new(hub, reader, &TrustAll, clock, cores, Patient, sender);
+        let (segment, ends) = (test_support::REGISTER, test_support::LOOKUP);
+        let bodies = Bodies {
+            segment: body_of(&segment),
+            ends: body_of(&ends),
+        };
+        let ack = answer_again(rt, self.alloc, &mut service, bodies, (Act::Register, 0));
+        assert_same(rt, &ack.place, &0, &"place");
+        hub.give_back(service.into_reader());
+        Some(())
+    }
+
+    /// What a session of the lookups ends with. Adds what it writes.
+    fn look_up<D: Device, N: HubName, R: Wait + Clock + Abort>(
+        &self,
+        hub: &Hub<D, N, R>,
+        senders: &Senders<N>,
+        cores: &Roster,
+        written: &mut Vec<u8>,
+    ) -> Option<Result<u64, FrameError>> {
+        let reader = hub.reader().ok()?;
+        let frames = joined(hub.handle(), self.alloc, &[LOOKUP; LOOKUPS]);
+        let clock = Counts::after(0);
+        let sender = senders.begin();
+        let mut service = HubService::new(hub, reader, &TrustAll, clock, cores, Patient, sender);
+        let mut input = frames.as_slice();
+        let ended = served(self.alloc, &mut service, &mut input, written);
+        hub.give_back(service.into_reader());
+        Some(ended)
+    }
+
+    /// Whether a session of the lookups was replied to all of them.
+    fn is_whole<D: Device, N: HubName, R: Wait + Clock + Abort>(
+        &self,
+        hub: &Hub<D, N, R>,
+        senders: &Senders<N>,
+        cores: &Roster,
+    ) -> Option<bool> {
+        let rt = hub.handle();
+        // There is room for the replies.
+        let mut written = replies_but(rt, self.alloc, LOOKUPS);
+        written.clear();
+        let ended = self.look_up(hub, senders, cores, &mut written)?;
+        Some(is_whole(rt, self.alloc, ended, &written))
+    }
 }
 
 impl Talk for Sessions {
@@ -271,30 +321,10 @@ impl Talk for Sessions {
     ) -> Option<Vec<u8>> {
         let rt = hub.handle();
         let roster = cores(rt, self.alloc);
-        let segment = joined(rt, self.alloc, &[REGISTER]);
-        let ends = joined(rt, self.alloc, &[LOOKUP]);
-        let bodies = Bodies {
-            segment: body_of(&segment),
-            ends: body_of(&ends),
-        };
-        let reader = hub.reader().ok()?;
-        let mut service = HubService::new(
-            hub,
-            reader,
-            &TrustAll,
-            Counts::after(0),
-            &roster,
-            Patient,
-            senders.begin(),
-        );
-        let ack = answer_again(rt, self.alloc, &mut service, bodies, (Act::Register, 0));
-        assert_eq!(rt; ack.place, 0);
-        hub.give_back(service.into_reader());
-        let (ended, written) = looked_up(hub, senders, self.alloc)?;
-        let first = is_whole(rt, self.alloc, ended, &written);
-        let (ended, written) = looked_up(hub, senders, self.alloc)?;
-        let second = is_whole(rt, self.alloc, ended, &written);
-        assert!(rt; first || second);
+        self.register(hub, senders, &roster)?;
+        let first = self.is_whole(hub, senders, &roster)?;
+        let second = self.is_whole(hub, senders, &roster)?;
+        assert_true(rt, first || second, "one of two sessions is whole");
         Some(Vec::new(self.alloc))
     }
 }
@@ -303,6 +333,6 @@ impl Talk for Sessions {
 fn sessions_go_on_after_refused_lookups(rt: HostRuntime) {
     let alloc = rt.alloc();
     let (device, replies) = talked(&rt, alloc, new_store(&rt, alloc), Sessions { alloc });
-    assert!(rt; replies.is_some());
+    assert_true(&rt, replies.is_some(), "there is a reader");
     assert_opens_to(&rt, alloc, device, 1, 1);
 }

@@ -50,7 +50,7 @@ impl Talk for Expires {
         let mut replies = Vec::new(self.alloc);
         // The second lookup has the fourth moment.
         let clock = Counts::after(EXPIRY - 4);
-        session(
+        let is_well = session(
             hub,
             senders,
             self.alloc,
@@ -58,8 +58,8 @@ impl Talk for Expires {
             clock,
             &mut frames.as_slice(),
             &mut replies,
-        )?;
-        Some(replies)
+        );
+        is_well.then_some(replies)
     }
 }
 

@@ -1,5 +1,6 @@
 //! The machine's clock, over readings that are given here.
 
+use crate::checks::assert_same;
 use path_session::{Now, SystemNow};
 use std::io;
 use std::io::ErrorKind;
@@ -46,6 +47,6 @@ fn half_seconds_since_1970(rt: HostRuntime) {
     };
     let mut now = SystemNow::new(&clock);
     for (_reading, moment) in READINGS {
-        assert_eq!(rt; now.now(), moment);
+        assert_same(&rt, &now.now(), &moment, &"moment");
     }
 }

@@ -1,9 +1,8 @@
 //! What a hub refuses, as a service replies it.
 
+use crate::checks::assert_true;
 use crate::service::clocks::Counts;
-use crate::service::frames::{
-    FOUND, INSERTED, LOOKUP, PURGE, REGISTER, REMOVE, assert_replied, joined, register_by,
-};
+use crate::service::frames::{FOUND, INSERTED, PURGE, REMOVE, assert_replied, joined, register_by};
 use crate::service::stores::{assert_opens_to, cores, failing_store, new_store, old_store};
 use crate::service::tasks::{Talk, nap, session, talked};
 use group_core::{Redeemed, Ticket};
@@ -29,7 +28,7 @@ const PURGES: u64 = 300;
 /// How often a removal is tried.
 const MOST_TRIES: u64 = 4000;
 
-/// Adds what a session of these frames is replied.
+/// Adds what a session of these frames is replied. The result says whether the session ends well.
 fn reply<D: Device, N: HubName, R: Wait + Clock>(
     hub: &Hub<D, N, R>,
     senders: &Senders<N>,
@@ -37,7 +36,7 @@ fn reply<D: Device, N: HubName, R: Wait + Clock>(
     cores: &Roster,
     frames: &[u8],
     replies: &mut Vec<u8>,
-) -> Option<()> {
+) -> bool {
     let mut input = frames;
     session(
         hub,
@@ -48,6 +47,19 @@ fn reply<D: Device, N: HubName, R: Wait + Clock>(
         &mut input,
         replies,
     )
+}
+
+/// Adds what a session is replied that registers the segment which is left by this interface.
+fn reply_to_registration<D: Device, N: HubName, R: Wait + Clock>(
+    hub: &Hub<D, N, R>,
+    senders: &Senders<N>,
+    alloc: Global,
+    cores: &Roster,
+    egress: u8,
+    replies: &mut Vec<u8>,
+) -> bool {
+    let frame = register_by(egress);
+    reply(hub, senders, alloc, cores, frame.as_slice(), replies)
 }
 
 /// Has as many commands pending as may be, over a hub that commits nothing, and then stops it.
@@ -78,6 +90,16 @@ fn pending<S: Steps>(
     tickets
 }
 
+/// Redeems a ticket at a hub that has stopped.
+fn redeem<S: Steps>(rt: &impl Abort, steps: &S, ticket: Ticket) {
+    match steps.redeem(ticket) {
+        Redeemed::Unknown(_place) => {}
+        Redeemed::Committed(_receipt) => panic!(rt; "committed"),
+        Redeemed::Waiting(_back) => panic!(rt; "a ticket waits"),
+        Redeemed::Stranger(_back) => panic!(rt; "a stranger"),
+    }
+}
+
 /// Redeems all tickets at a hub that has stopped.
 fn redeem_all<S: Steps>(rt: &impl Abort, steps: &S, tickets: Vec<Ticket>) {
     let mut tickets = tickets;
@@ -85,14 +107,9 @@ fn redeem_all<S: Steps>(rt: &impl Abort, steps: &S, tickets: Vec<Ticket>) {
         let Some(ticket) = tickets.pop() else {
             break;
         };
-        match steps.redeem(ticket) {
-            Redeemed::Unknown(_place) => {}
-            Redeemed::Committed(_receipt) => panic!(rt; "committed"),
-            Redeemed::Waiting(_back) => panic!(rt; "a ticket waits"),
-            Redeemed::Stranger(_back) => panic!(rt; "a stranger"),
-        }
+        redeem(rt, steps, ticket);
     }
-    assert!(rt; tickets.is_empty());
+    assert_true(rt, tickets.is_empty(), "all tickets are redeemed");
     tickets.destroy_empty();
 }
 
@@ -123,9 +140,7 @@ impl<D: Device, R: Wait + Clock + Abort> HubJob<D, R> for Fills {
             &mut replies,
         );
         redeem_all(rt, hub, tickets);
-        busy?;
-        stopped?;
-        Some(replies)
+        (busy && stopped).then_some(replies)
     }
 }
 
@@ -147,37 +162,35 @@ struct Overflows {
     alloc: Global,
 }
 
+/// Registers as many segments as there is room for. The result says whether all sessions end well.
+fn fill<D: Device, N: HubName, R: Wait + Clock>(
+    hub: &Hub<D, N, R>,
+    senders: &Senders<N>,
+    alloc: Global,
+    cores: &Roster,
+) -> bool {
+    let mut replies = Vec::new(alloc);
+    let mut is_well = true;
+    for egress in 1..=MOST_ROWS {
+        let ended = reply_to_registration(hub, senders, alloc, cores, egress, &mut replies);
+        is_well = is_well && ended;
+    }
+    is_well
+}
+
 impl Talk for Overflows {
     fn talk<D: Device, N: HubName, R: Wait + Clock + Abort>(
         &self,
         hub: &Hub<D, N, R>,
         senders: &Senders<N>,
     ) -> Option<Vec<u8>> {
-        let rt = hub.handle();
-        let roster = cores(rt, self.alloc);
-        let mut replies = Vec::new(self.alloc);
-        for egress in 1..=MOST_ROWS {
-            let frame = register_by(egress);
-            let mut reply_to_one = Vec::new(self.alloc);
-            reply(
-                hub,
-                senders,
-                self.alloc,
-                &roster,
-                frame.as_slice(),
-                &mut reply_to_one,
-            )?;
-        }
-        let frame = register_by(MOST_ROWS + 1);
-        reply(
-            hub,
-            senders,
-            self.alloc,
-            &roster,
-            frame.as_slice(),
-            &mut replies,
-        )?;
-        Some(replies)
+        let alloc = self.alloc;
+        let roster = cores(hub.handle(), alloc);
+        let mut replies = Vec::new(alloc);
+        let is_filled = fill(hub, senders, alloc, &roster);
+        let next = MOST_ROWS + 1;
+        let is_well = reply_to_registration(hub, senders, alloc, &roster, next, &mut replies);
+        (is_filled && is_well).then_some(replies)
     }
 }
 
@@ -202,24 +215,59 @@ struct Upgrades {
     alloc: Global,
 }
 
-/// What a removal is replied, once it is not refused because the store is old.
+/// Tries a removal, and adds what it is replied, where that is not what there is already: the
+/// refusal because the store is old. The result says whether the session ends well. It is `None`
+/// where the removal is refused so.
+fn try_removal<D: Device, N: HubName, R: Wait + Clock>(
+    hub: &Hub<D, N, R>,
+    senders: &Senders<N>,
+    alloc: Global,
+    cores: &Roster,
+    frame: &[u8],
+    replies: &mut Vec<u8>,
+) -> Option<bool> {
+    let mut more = Vec::new(alloc);
+    let is_well = reply(hub, senders, alloc, cores, frame, &mut more);
+    if is_well && more.as_slice() == replies.as_slice() {
+        return None;
+    }
+    Some(is_well && replies.extend_from_slice(more.as_slice()).is_ok())
+}
+
+/// Adds what a removal is replied, once it is not refused because the store is old. The result says
+/// whether its session ends well.
 fn removed<D: Device, N: HubName, R: Wait + Clock + Abort>(
     hub: &Hub<D, N, R>,
     senders: &Senders<N>,
     alloc: Global,
     cores: &Roster,
     frame: &[u8],
-    refusal: &[u8],
-) -> Option<Vec<u8>> {
+    replies: &mut Vec<u8>,
+) -> bool {
     for _ in 0..MOST_TRIES {
-        let mut replies = Vec::new(alloc);
-        reply(hub, senders, alloc, cores, frame, &mut replies)?;
-        if replies.as_slice() != refusal {
-            return Some(replies);
+        if let Some(is_well) = try_removal(hub, senders, alloc, cores, frame, replies) {
+            return is_well;
         }
         nap(hub.handle());
     }
     panic!(hub.handle(); "the store stays old")
+}
+
+/// Sends the purges that seal the journal, and more. The result says whether all sessions end well.
+fn seal<D: Device, N: HubName, R: Wait + Clock + Abort>(
+    hub: &Hub<D, N, R>,
+    senders: &Senders<N>,
+    alloc: Global,
+    cores: &Roster,
+) -> bool {
+    let purge = joined(hub.handle(), alloc, &[PURGE]);
+    let mut replies = Vec::new(alloc);
+    let mut is_well = true;
+    for _ in 0..PURGES {
+        let ended = reply(hub, senders, alloc, cores, purge.as_slice(), &mut replies);
+        is_well = is_well && ended;
+    }
+    is_well
 }
 
 impl Talk for Upgrades {
@@ -228,40 +276,14 @@ impl Talk for Upgrades {
         hub: &Hub<D, N, R>,
         senders: &Senders<N>,
     ) -> Option<Vec<u8>> {
-        let rt = hub.handle();
-        let roster = cores(rt, self.alloc);
-        let remove = joined(rt, self.alloc, &[REMOVE]);
-        let purge = joined(rt, self.alloc, &[PURGE]);
-        let mut refusal = Vec::new(self.alloc);
-        reply(
-            hub,
-            senders,
-            self.alloc,
-            &roster,
-            remove.as_slice(),
-            &mut refusal,
-        )?;
-        for _ in 0..PURGES {
-            let mut purged = Vec::new(self.alloc);
-            reply(
-                hub,
-                senders,
-                self.alloc,
-                &roster,
-                purge.as_slice(),
-                &mut purged,
-            )?;
-        }
-        let removed = removed(
-            hub,
-            senders,
-            self.alloc,
-            &roster,
-            remove.as_slice(),
-            refusal.as_slice(),
-        )?;
-        refusal.extend_from_slice(removed.as_slice()).ok()?;
-        Some(refusal)
+        let alloc = self.alloc;
+        let roster = cores(hub.handle(), alloc);
+        let remove = joined(hub.handle(), alloc, &[REMOVE]);
+        let mut replies = Vec::new(alloc);
+        let refused = reply(hub, senders, alloc, &roster, &remove, &mut replies);
+        let sealed = seal(hub, senders, alloc, &roster);
+        let removed = removed(hub, senders, alloc, &roster, &remove, &mut replies);
+        (refused && sealed && removed).then_some(replies)
     }
 }
 
@@ -291,39 +313,17 @@ impl Talk for Meets {
         hub: &Hub<D, N, R>,
         senders: &Senders<N>,
     ) -> Option<Vec<u8>> {
-        let rt = hub.handle();
-        let roster = cores(rt, self.alloc);
-        let first = joined(rt, self.alloc, &[REGISTER]);
-        let lookup = joined(rt, self.alloc, &[LOOKUP]);
-        let mut replies = Vec::new(self.alloc);
-        reply(
-            hub,
-            senders,
-            self.alloc,
-            &roster,
-            first.as_slice(),
-            &mut replies,
-        )?;
-        for egress in 2..=3 {
-            let frame = register_by(egress);
-            reply(
-                hub,
-                senders,
-                self.alloc,
-                &roster,
-                frame.as_slice(),
-                &mut replies,
-            )?;
+        let alloc = self.alloc;
+        let roster = cores(hub.handle(), alloc);
+        let mut replies = Vec::new(alloc);
+        let mut is_well = true;
+        for egress in 1..=3 {
+            let ended = reply_to_registration(hub, senders, alloc, &roster, egress, &mut replies);
+            is_well = is_well && ended;
         }
-        reply(
-            hub,
-            senders,
-            self.alloc,
-            &roster,
-            lookup.as_slice(),
-            &mut replies,
-        )?;
-        Some(replies)
+        let lookup = test_support::LOOKUP;
+        let ended = reply(hub, senders, alloc, &roster, &lookup, &mut replies);
+        (is_well && ended).then_some(replies)
     }
 }
 

@@ -8,15 +8,15 @@ use crate::service::frames::{
 use crate::service::stores::{assert_opens_to, cores, new_store};
 use crate::service::tasks::{TURNS, Talk, session, talked};
 use path_hub::{Hub, HubName, Patient, Senders};
-use path_session::{HubService, serve};
+use path_session::{HubService, Service, serve};
 use sector_dev::Device;
 use seg_check::TrustAll;
+use seg_lookup::Roster;
 use std::alloc::Global;
 use std::io;
 use std::io::Read;
 use std::process::Abort;
 use std::sync::Wait;
-use std::test::Fail;
 use std::thread::Threads;
 use std::time::Clock;
 
@@ -56,7 +56,7 @@ impl Talk for Frames {
         let (first, rest) = frames.split_at(self.cut.min(frames.len()));
         let mut input = Cut { first, rest };
         let mut replies = Vec::new(self.alloc);
-        session(
+        let is_well = session(
             hub,
             senders,
             self.alloc,
@@ -64,8 +64,8 @@ impl Talk for Frames {
             Counts::after(0),
             &mut input,
             &mut replies,
-        )?;
-        Some(replies)
+        );
+        is_well.then_some(replies)
     }
 }
 
@@ -136,10 +136,55 @@ fn seventeen_segments(rt: HostRuntime) {
     assert_session(&rt, rt.alloc(), &frames, 0, &["00000002ff2a"], 0, 0);
 }
 
+/// Serves a session of one frame. The result says whether it was replied to.
+fn served<S: Service>(alloc: Global, frame: &[u8], replies: &mut Vec<u8>, service: &mut S) -> bool {
+    let mut input = frame;
+    serve(alloc, &mut input, replies, service, TURNS) == Ok(1)
+}
+
+/// Serves a registration by the one service, a lookup and a removal by the other, and a lookup by
+/// the first one. The result says whether all were replied to.
+fn serve_both<S: Service, O: Service>(
+    alloc: Global,
+    (one, other): (&mut S, &mut O),
+    remove: &[u8],
+    replies: &mut Vec<u8>,
+) -> bool {
+    let registered = served(alloc, &test_support::REGISTER, replies, one);
+    let found = served(alloc, &test_support::LOOKUP, replies, other);
+    let removed = served(alloc, remove, replies, other);
+    let looked_up = served(alloc, &test_support::LOOKUP, replies, one);
+    registered && found && removed && looked_up
+}
+
 /// Two services at once: what the one has committed, the other finds.
 #[derive(Drop)]
 struct Pair {
     alloc: Global,
+}
+
+impl Pair {
+    /// Adds what both services reply. The result says whether they replied to all.
+    fn reply<D: Device, N: HubName, R: Wait + Clock + Abort>(
+        &self,
+        hub: &Hub<D, N, R>,
+        senders: &Senders<N>,
+        (cores, remove): (&Roster, &[u8]),
+        replies: &mut Vec<u8>,
+    ) -> Option<bool> {
+        let reader = hub.reader().ok()?;
+        let another = hub.reader().ok()?;
+        let clock = Counts::after(0);
+        let sender = senders.begin();
+        let mut one = HubService::new(hub, reader, &TrustAll, clock, cores, Patient, sender);
+        let clock = Counts::after(0);
+        let sender = senders.begin();
+        let mut other = HubService::new(hub, another, &TrustAll, clock, cores, Patient, sender);
+        let is_well = serve_both(self.alloc, (&mut one, &mut other), remove, replies);
+        hub.give_back(one.into_reader());
+        hub.give_back(other.into_reader());
+        Some(is_well)
+    }
 }
 
 impl Talk for Pair {
@@ -148,65 +193,17 @@ impl Talk for Pair {
         hub: &Hub<D, N, R>,
         senders: &Senders<N>,
     ) -> Option<Vec<u8>> {
-        let alloc = self.alloc;
         let rt = hub.handle();
-        let roster = cores(rt, alloc);
-        let register = joined(rt, alloc, &[REGISTER]);
-        let lookup = joined(rt, alloc, &[LOOKUP]);
-        let remove = joined(rt, alloc, &[REMOVE]);
-        let mut replies = Vec::new(alloc);
-        let reader = hub.reader().ok()?;
-        let another = hub.reader().ok()?;
-        let mut one = HubService::new(
-            hub,
-            reader,
-            &TrustAll,
-            Counts::after(0),
-            &roster,
-            Patient,
-            senders.begin(),
-        );
-        let mut other = HubService::new(
-            hub,
-            another,
-            &TrustAll,
-            Counts::after(0),
-            &roster,
-            Patient,
-            senders.begin(),
-        );
-        let ended = [
-            serve(
-                alloc,
-                &mut register.as_slice(),
-                &mut replies,
-                &mut one,
-                TURNS,
-            ),
-            serve(
-                alloc,
-                &mut lookup.as_slice(),
-                &mut replies,
-                &mut other,
-                TURNS,
-            ),
-            serve(
-                alloc,
-                &mut remove.as_slice(),
-                &mut replies,
-                &mut other,
-                TURNS,
-            ),
-            serve(alloc, &mut lookup.as_slice(), &mut replies, &mut one, TURNS),
-        ];
-        hub.give_back(one.into_reader());
-        hub.give_back(other.into_reader());
-        (ended == [Ok(1), Ok(1), Ok(1), Ok(1)]).then_some(replies)
+        let roster = cores(rt, self.alloc);
+        let remove = joined(rt, self.alloc, &[REMOVE]);
+        let mut replies = Vec::new(self.alloc);
+        let is_well = self.reply(hub, senders, (&roster, &remove), &mut replies);
+        (is_well == Some(true)).then_some(replies)
     }
 }
 
 #[test]
-fn learnt_receipt_is_shown(rt: HostRuntime) -> Result<(), Fail> {
+fn learnt_receipt_is_shown(rt: HostRuntime) {
     let alloc = rt.alloc();
     let (device, written) = talked(&rt, alloc, new_store(&rt, alloc), Pair { alloc });
     let replies = [
@@ -217,5 +214,4 @@ fn learnt_receipt_is_shown(rt: HostRuntime) -> Result<(), Fail> {
     ];
     assert_replied(&rt, alloc, written, &replies);
     assert_opens_to(&rt, alloc, device, 0, 2);
-    Ok(())
 }

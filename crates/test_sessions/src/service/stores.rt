@@ -1,5 +1,6 @@
 //! Stores on devices in memory, and their core AS.
 
+use crate::checks::{assert_same, assert_true};
 use isd_as::IsdAs;
 use sector_dev::{Device, MemDevice, SECTOR};
 use seg_lookup::Roster;
@@ -35,15 +36,13 @@ pub(crate) fn cores(rt: &impl Abort, alloc: Global) -> Roster {
 /// A new store's device. Where memory is refused, it is asked for once more.
 pub(crate) fn formatted(rt: &impl Abort, alloc: Global) -> MemDevice {
     let sectors = LEAST.sectors();
-    assert!(rt; sectors <= 4096);
+    assert_true(rt, sectors <= 4096, "the device is small");
     let made = match MemDevice::new(alloc, sectors) {
         Err(_) => MemDevice::new(alloc, sectors),
         made => made,
     };
-    let Ok(mut device) = made else {
-        panic!(rt; "out of memory");
-    };
-    assert_eq!(rt; format(&mut device, LEAST), Ok(()));
+    let mut device = made.expect(rt, "the device has memory");
+    assert_same(rt, &format(&mut device, LEAST), &Ok(()), &"format");
     device
 }
 
@@ -68,13 +67,13 @@ pub(crate) fn new_store(rt: &impl Abort, alloc: Global) -> Store<MemDevice> {
 pub(crate) fn old_store(rt: &impl Abort, alloc: Global) -> Store<MemDevice> {
     let mut device = formatted(rt, alloc);
     let mut area = [0; SECTOR];
-    assert!(rt; 1 < device.sectors());
-    assert!(rt; device.read(1, &mut area).is_ok());
+    assert_true(rt, 1 < device.sectors(), "the device has the area");
+    assert_true(rt, device.read(1, &mut area).is_ok(), "it is read");
     area[VERSION] = 1;
-    assert!(rt; device.write(1, &area).is_ok());
-    assert!(rt; device.sync().is_ok());
+    assert_true(rt, device.write(1, &area).is_ok(), "it is written");
+    assert_true(rt, device.sync().is_ok(), "it is synced");
     let store = opened(rt, alloc, device);
-    assert_eq!(rt; store.version(), 1);
+    assert_same(rt, &store.version(), &1, &"version");
     store
 }
 
@@ -109,7 +108,7 @@ pub(crate) fn assert_opens_to<D: Device + Drop>(
     place: u64,
 ) {
     let store = opened(rt, alloc, device);
-    assert_eq!(rt; store.db().rows().count(), rows);
-    assert_eq!(rt; store.place(), place);
+    assert_same(rt, &store.db().rows().count(), &rows, &"rows");
+    assert_same(rt, &store.place(), &place, &"place");
     let _device = store.into_device();
 }

@@ -1,15 +1,16 @@
 //! A workload of one task, which uses a hub in a thread beside its actors. The wait for it has a
 //! limit.
 
+use crate::checks::assert_same;
 use crate::service::clocks::Counts;
 use crate::service::stores::opened;
-use path_hub::{Hub, HubName, Patient, Senders, Workload, with_workload};
-use path_session::{HubService, serve};
+use path_hub::{Hub, HubError, HubName, Patient, Senders, Workload, with_workload};
+use path_session::{FrameError, HubService, Service, serve};
 use sector_dev::Device;
 use seg_check::TrustAll;
 use seg_lookup::Roster;
 use std::alloc::Global;
-use std::io::Read;
+use std::io::{Read, Write};
 use std::process::Abort;
 use std::sync::atomic::{AtomicU64, Ordering};
 use std::sync::{Mutex, Wait};
@@ -85,6 +86,16 @@ impl<T> Task<T> {
     }
 }
 
+/// Runs the workload over a store: the device, and how many tasks there were.
+fn attended<
+    D: Device + Send,
+    T: Talk + Sync,
+    R: Wait + Clock + Threads + Abort + Copy + Drop + Send + Sync,
+>(rt: R, alloc: Global, store: Store<D>, task: &Task<T>) -> (D, Result<u64, HubError>) {
+    let (device, _left, attended) = with_workload(rt, alloc, store, 1, task);
+    (device, attended)
+}
+
 /// Has a task talk to a hub over a store: the device, and what was replied. Where memory is
 /// refused for the hub or the task's thread, it is asked for once more.
 pub(crate) fn talked<
@@ -98,20 +109,31 @@ pub(crate) fn talked<
         gone: AtomicU64::new(0),
         replies: Mutex::new(None),
     };
-    let (device, left, first) = with_workload(rt, alloc, store, 1, &task);
-    let (device, _left, attended) = if first == Ok(1) {
-        (device, left, first)
+    let (device, first) = attended(rt, alloc, store, &task);
+    let (device, attended) = if first == Ok(1) {
+        (device, first)
     } else {
         task.invite_again();
-        with_workload(rt, alloc, opened(&rt, alloc, device), 1, &task)
+        attended(rt, alloc, opened(&rt, alloc, device), &task)
     };
-    assert_eq!(&rt; attended, Ok(1));
+    assert_same(&rt, &attended, &Ok(1), &"attended");
     let replies = task.replies.lock(&rt).take();
     (device, replies)
 }
 
-/// Serves the frames of an input, and adds what is written to `replies`. `None` is a session that
-/// does not end well.
+/// Serves the frames of an input by a service: what the session ends with. This has no clause, so
+/// that who calls it for a service of many parts is not shown what `serve` says of all of them.
+pub(crate) fn served<S: Service, I: Read, W: Write>(
+    alloc: Global,
+    service: &mut S,
+    input: &mut I,
+    writer: &mut W,
+) -> Result<u64, FrameError> {
+    serve(alloc, input, writer, service, TURNS)
+}
+
+/// Serves the frames of an input, and adds what is written to `replies`. The result says whether the
+/// session ends well.
 pub(crate) fn session<D: Device, N: HubName, R: Wait + Clock, I: Read>(
     hub: &Hub<D, N, R>,
     senders: &Senders<N>,
@@ -120,12 +142,13 @@ pub(crate) fn session<D: Device, N: HubName, R: Wait + Clock, I: Read>(
     clock: Counts,
     input: &mut I,
     replies: &mut Vec<u8>,
-) -> Option<()> {
-    let reader = hub.reader().ok()?;
+) -> bool {
+    let Ok(reader) = hub.reader() else {
+        return false;
+    };
     let sender = senders.begin();
     let mut service = HubService::new(hub, reader, &TrustAll, clock, cores, Patient, sender);
-    let ended = serve(alloc, input, replies, &mut service, TURNS);
+    let ended = served(alloc, &mut service, input, replies);
     hub.give_back(service.into_reader());
-    ended.ok()?;
-    Some(())
+    ended.is_ok()
 }

@@ -1,16 +1,16 @@
 //! Commands that come ahead of the replies to those before them.
 
-use crate::sessions::same::assert_same;
+use crate::bytes::joined;
+use crate::checks::assert_same;
 use seg_core::{SegType, Segment};
 use session_core::{
     Ack, Code, CommandKind, FrameError, ListRequest, Listing, MOST_AHEAD, Message, Outcome,
     Service, serve, serve_in_lines,
 };
-use std::alloc::{AllocError, Global};
+use std::alloc::Global;
 use std::io;
 use std::io::{ErrorKind, Write};
 use std::process::Abort;
-use std::test::Fail;
 
 /// A service that takes commands ahead, and notes its calls: `h` for a command that is handed in,
 /// `s` for one that is settled, `c` for one that is answered in one call, and `l` for a lookup or
@@ -170,25 +170,20 @@ fn removal() -> [u8; 38] {
     frame
 }
 
-/// These bytes, one after the other.
-fn joined(alloc: Global, parts: &[&[u8]]) -> Result<Vec<u8>, AllocError> {
-    let mut bytes = Vec::new(alloc);
-    for part in parts {
-        bytes.extend_from_slice(part)?;
-    }
-    Ok(bytes)
-}
-
 /// Purges up to the moments from 100 on, and the replies to them from this place on.
-fn purges(alloc: Global, count: u8) -> Result<(Vec<u8>, Vec<u8>), AllocError> {
+fn purges(rt: &impl Abort, alloc: Global, count: u8) -> (Vec<u8>, Vec<u8>) {
     let mut input = Vec::new(alloc);
     let mut output = Vec::new(alloc);
     for place in 0..count {
         let moment = place.wrapping_add(100);
-        input.extend_from_slice(&purge(moment))?;
-        output.extend_from_slice(&purged(place, moment))?;
+        input
+            .extend_from_slice(&purge(moment))
+            .expect(rt, "the purges have memory");
+        output
+            .extend_from_slice(&purged(place, moment))
+            .expect(rt, "the replies have memory");
     }
-    Ok((input, output))
+    (input, output)
 }
 
 /// How a session is to end.
@@ -223,26 +218,33 @@ const ENOUGH: usize = 10_000;
 
 // Three commands in one piece are handed in before the first is settled.
 #[test]
-fn three_commands(rt: HostRuntime) -> Result<(), Fail> {
-    let (input, replies) = purges(rt.alloc(), 3)?;
+fn three_commands(rt: HostRuntime) {
+    let (input, replies) = purges(&rt, rt.alloc(), 3);
     let wanted = Wanted {
         ended: Ok(3),
         calls: b"hhhsss",
         written: &replies,
     };
     assert_served(&rt, rt.alloc(), (&input, ENOUGH), true, &wanted);
-    Ok(())
+}
+
+/// The calls of a session of 136 commands in one piece.
+fn calls_of_136(rt: &impl Abort, alloc: Global) -> Vec<u8> {
+    let mut calls = Vec::new(alloc);
+    for (call, count) in [(b'h', 128), (b's', 128), (b'h', 8), (b's', 8)] {
+        let len = calls.len();
+        calls
+            .resize(len + count, call)
+            .expect(rt, "the calls have memory");
+    }
+    calls
 }
 
 // Of 136 commands in one piece, 128 are handed in and settled, and then eight.
 #[test]
-fn more_commands_than_are_taken_ahead(rt: HostRuntime) -> Result<(), Fail> {
-    let (input, replies) = purges(rt.alloc(), 136)?;
-    let mut calls = Vec::new(rt.alloc());
-    for (call, count) in [(b'h', 128), (b's', 128), (b'h', 8), (b's', 8)] {
-        let len = calls.len();
-        calls.resize(len + count, call)?;
-    }
+fn more_commands_than_are_taken_ahead(rt: HostRuntime) {
+    let (input, replies) = purges(&rt, rt.alloc(), 136);
+    let calls = calls_of_136(&rt, rt.alloc());
     let wanted = Wanted {
         ended: Ok(136),
         calls: &calls,
@@ -250,89 +252,93 @@ fn more_commands_than_are_taken_ahead(rt: HostRuntime) -> Result<(), Fail> {
     };
     assert_same(&rt, &MOST_AHEAD, &128, &"most ahead");
     assert_served(&rt, rt.alloc(), (&input, ENOUGH), true, &wanted);
-    Ok(())
 }
 
 // A refusal is written in its turn, between the replies to commands that are handed in with it.
 #[test]
-fn refusal_in_its_turn(rt: HostRuntime) -> Result<(), Fail> {
-    let input = joined(rt.alloc(), &[&purge(1), &removal(), &purge(2)])?;
-    let replies = joined(rt.alloc(), &[&purged(0, 1), &NOT_REMOVED, &purged(1, 2)])?;
+fn refusal_in_its_turn(rt: HostRuntime) {
+    let input = joined(&rt, rt.alloc(), &[&purge(1), &removal(), &purge(2)]);
+    let replies = joined(
+        &rt,
+        rt.alloc(),
+        &[&purged(0, 1), &NOT_REMOVED, &purged(1, 2)],
+    );
     let wanted = Wanted {
         ended: Ok(3),
         calls: b"hhhsss",
         written: &replies,
     };
     assert_served(&rt, rt.alloc(), (&input, ENOUGH), true, &wanted);
-    Ok(())
 }
 
 // A lookup is answered once the commands before it are, and the commands after it are handed in
 // only then.
 #[test]
-fn lookup_between(rt: HostRuntime) -> Result<(), Fail> {
-    let input = joined(rt.alloc(), &[&purge(1), &purge(2), &LOOKUP, &purge(3)])?;
+fn lookup_between(rt: HostRuntime) {
+    let input = joined(&rt, rt.alloc(), &[&purge(1), &purge(2), &LOOKUP, &purge(3)]);
     let replies = joined(
+        &rt,
         rt.alloc(),
         &[&purged(0, 1), &purged(1, 2), &NOT_FOUND, &purged(2, 3)],
-    )?;
+    );
     let wanted = Wanted {
         ended: Ok(4),
         calls: b"hhsslhs",
         written: &replies,
     };
     assert_served(&rt, rt.alloc(), (&input, ENOUGH), true, &wanted);
-    Ok(())
 }
 
 // A faulty frame ends the session after the replies to the commands before it.
 #[test]
-fn faulty_frame_after_commands(rt: HostRuntime) -> Result<(), Fail> {
-    let input = joined(rt.alloc(), &[&purge(1), &purge(2), &FAULTY, &purge(3)])?;
-    let replies = joined(rt.alloc(), &[&purged(0, 1), &purged(1, 2)])?;
+fn faulty_frame_after_commands(rt: HostRuntime) {
+    let input = joined(&rt, rt.alloc(), &[&purge(1), &purge(2), &FAULTY, &purge(3)]);
+    let replies = joined(&rt, rt.alloc(), &[&purged(0, 1), &purged(1, 2)]);
     let wanted = Wanted {
         ended: Err(FrameError::Kind),
         calls: b"hhss",
         written: &replies,
     };
     assert_served(&rt, rt.alloc(), (&input, ENOUGH), true, &wanted);
-    Ok(())
 }
 
 // After a write that fails, no further command is settled.
 #[test]
-fn failed_write(rt: HostRuntime) -> Result<(), Fail> {
-    let (input, replies) = purges(rt.alloc(), 4)?;
+fn failed_write(rt: HostRuntime) {
+    let (input, replies) = purges(&rt, rt.alloc(), 4);
     let wanted = Wanted {
         ended: Err(FrameError::Write),
         calls: b"hhhhss",
         written: replies.split_at(replies.len().min(40)).0,
     };
     assert_served(&rt, rt.alloc(), (&input, 40), true, &wanted);
-    Ok(())
 }
 
 // A service that takes nothing ahead answers one message after the other, with the same replies.
 #[test]
-fn one_at_a_time(rt: HostRuntime) -> Result<(), Fail> {
-    let input = joined(rt.alloc(), &[&purge(1), &removal(), &LOOKUP, &purge(2)])?;
+fn one_at_a_time(rt: HostRuntime) {
+    let input = joined(
+        &rt,
+        rt.alloc(),
+        &[&purge(1), &removal(), &LOOKUP, &purge(2)],
+    );
     let replies = joined(
+        &rt,
         rt.alloc(),
         &[&purged(0, 1), &NOT_REMOVED, &NOT_FOUND, &purged(1, 2)],
-    )?;
+    );
     let wanted = Wanted {
         ended: Ok(4),
         calls: b"cclc",
         written: &replies,
     };
     assert_served(&rt, rt.alloc(), (&input, ENOUGH), false, &wanted);
-    Ok(())
 }
 
 // A session over bytes in memory hands in commands ahead, too.
 #[test]
-fn commands_in_lines(rt: HostRuntime) -> Result<(), Fail> {
-    let input = joined(rt.alloc(), &[&removal(), &removal(), &LOOKUP])?;
+fn commands_in_lines(rt: HostRuntime) {
+    let input = joined(&rt, rt.alloc(), &[&removal(), &removal(), &LOOKUP]);
     let mut desk = Desk::new(rt.alloc(), true);
     let mut written = Vec::new(rt.alloc());
     let ended = serve_in_lines(rt.alloc(), input, &mut written, &mut desk);
@@ -340,5 +346,4 @@ fn commands_in_lines(rt: HostRuntime) -> Result<(), Fail> {
     assert_same(&rt, &desk.calls.as_slice(), &b"hhssl".as_slice(), &"lines");
     let wanted = b"00000002ff29\n00000002ff29\n00000002ff26\n";
     assert_same(&rt, &written.as_slice(), &wanted.as_slice(), &"lines");
-    Ok(())
 }

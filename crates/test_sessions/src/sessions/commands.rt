@@ -1,12 +1,12 @@
 //! Purges and removals, over a service that reports its arguments.
 
-use crate::sessions::same::assert_same;
+use crate::bytes::joined;
+use crate::checks::assert_same;
 use seg_core::{SegType, Segment};
 use session_core::{Ack, Code, FrameError, ListRequest, Listing, Message, Outcome, Service, serve};
-use std::alloc::{AllocError, Global};
+use std::alloc::Global;
 use std::io::Read;
 use std::process::Abort;
-use std::test::Fail;
 
 /// A service that counts the commands, and keeps nothing of them.
 #[derive(Drop)]
@@ -95,12 +95,12 @@ fn removal(kind: u8) -> [u8; 38] {
 
 /// A purge, the removals of a down segment and of a segment of no type, and a registration of
 /// nothing.
-fn input(alloc: Global) -> Result<Vec<u8>, AllocError> {
-    let mut bytes = Vec::from_slice(alloc, &PURGE)?;
-    bytes.extend_from_slice(&removal(2))?;
-    bytes.extend_from_slice(&removal(4))?;
-    bytes.extend_from_slice(b"\0\0\0\x01\x01")?;
-    Ok(bytes)
+fn input(rt: &impl Abort, alloc: Global) -> Vec<u8> {
+    joined(
+        rt,
+        alloc,
+        &[&PURGE, &removal(2), &removal(4), b"\0\0\0\x01\x01"],
+    )
 }
 
 /// The replies: acknowledgements at the places 0 and 1, a refusal, and an acknowledgement at the
@@ -132,21 +132,19 @@ fn served(
 }
 
 /// Checks the replies to an input that comes in two parts.
-fn assert_cut(rt: &impl Abort, alloc: Global, input: (&[u8], &[u8])) -> Result<(), Fail> {
+fn assert_cut(rt: &impl Abort, alloc: Global, input: (&[u8], &[u8])) {
     let cut = input.0.len();
     let mut output = Vec::new(alloc);
-    let count = served(alloc, input, &mut output)?;
-    assert_same(rt, &count, &4, &cut);
+    let count = served(alloc, input, &mut output);
+    assert_same(rt, &count, &Ok(4), &cut);
     assert_same(rt, &output.as_slice(), &OUTPUT.as_slice(), &cut);
-    Ok(())
 }
 
 // A session gives the same replies however its input is cut in two.
 #[test]
-fn any_cut(rt: HostRuntime) -> Result<(), Fail> {
-    let input = input(rt.alloc())?;
+fn any_cut(rt: HostRuntime) {
+    let input = input(&rt, rt.alloc());
     for cut in 0..=input.len() {
-        assert_cut(&rt, rt.alloc(), input.as_slice().split_at(cut))?;
+        assert_cut(&rt, rt.alloc(), input.as_slice().split_at(cut));
     }
-    Ok(())
 }

@@ -1,6 +1,7 @@
 //! Streams that come in pieces.
 
-use crate::sessions::same::assert_same;
+use crate::bytes::joined;
+use crate::checks::{assert_same, assert_true};
 use crate::sessions::worked::{LOOKUP, REGISTER, stream};
 use session_core::{Fed, FrameError, Framer, Message};
 use std::alloc::{AllocError, Global};
@@ -25,10 +26,8 @@ impl Taker {
 
     /// Takes a piece, and adds the messages that it completes. Returns the fault after them.
     fn take(&mut self, piece: &[u8]) -> Result<Option<FrameError>, AllocError> {
-        let fed = self.framer.feed(piece)?;
-        for message in fed.messages {
-            self.messages.push(message)?;
-        }
+        let mut fed = self.framer.feed(piece)?;
+        self.messages.append(&mut fed.messages)?;
         Ok(fed.fault)
     }
 }
@@ -40,10 +39,9 @@ fn assert_taken<C: Debug>(
     piece: &[u8],
     fault: Option<FrameError>,
     case: &C,
-) -> Result<(), Fail> {
-    let found = taker.take(piece)?;
+) {
+    let found = taker.take(piece).expect(rt, "the piece has memory");
     assert_same(rt, &found, &fault, case);
-    Ok(())
 }
 
 /// Checks that the messages of a case are these.
@@ -52,11 +50,17 @@ fn assert_messages<C: Debug>(rt: &impl Abort, found: &[Message], wanted: &[Messa
 }
 
 /// The two messages of the worked stream.
-fn both(alloc: Global) -> Result<Vec<Message>, AllocError> {
+fn both(rt: &impl Abort, alloc: Global) -> Vec<Message> {
+    let segment = Vec::from_slice(alloc, &REGISTER[5..]).expect(rt, "the segment has memory");
+    let ends = Vec::from_slice(alloc, &LOOKUP[5..]).expect(rt, "the lookup has memory");
     let mut messages = Vec::new(alloc);
-    messages.push(Message::Register(Vec::from_slice(alloc, &REGISTER[5..])?))?;
-    messages.push(Message::Lookup(Vec::from_slice(alloc, &LOOKUP[5..])?))?;
-    Ok(messages)
+    messages
+        .push(Message::Register(segment))
+        .expect(rt, "the first message has room");
+    messages
+        .push(Message::Lookup(ends))
+        .expect(rt, "the second message has room");
+    messages
 }
 
 /// Takes the two parts of a stream, and checks that its messages are these.
@@ -65,40 +69,36 @@ fn assert_cut(
     taker: &mut Taker,
     (front, rest): (&[u8], &[u8]),
     wanted: &[Message],
-) -> Result<(), Fail> {
+) {
     let cut = front.len();
-    assert_taken(rt, taker, front, None, &cut)?;
-    assert_taken(rt, taker, rest, None, &cut)?;
+    assert_taken(rt, taker, front, None, &cut);
+    assert_taken(rt, taker, rest, None, &cut);
     assert_messages(rt, &taker.messages, wanted, &cut);
-    Ok(())
 }
 
 #[test]
-fn any_cut(rt: HostRuntime) -> Result<(), Fail> {
+fn any_cut(rt: HostRuntime) {
     let bytes = stream();
-    let wanted = both(rt.alloc())?;
+    let wanted = both(&rt, rt.alloc());
     for cut in 0..=bytes.len() {
         let mut taker = Taker::new(rt.alloc());
-        assert_cut(&rt, &mut taker, bytes.split_at(cut), &wanted)?;
+        assert_cut(&rt, &mut taker, bytes.split_at(cut), &wanted);
     }
-    Ok(())
 }
 
 /// Takes bytes one by one, and checks that none of them is a fault.
-fn assert_bytes_taken(rt: &impl Abort, taker: &mut Taker, bytes: &[u8]) -> Result<(), Fail> {
+fn assert_bytes_taken(rt: &impl Abort, taker: &mut Taker, bytes: &[u8]) {
     for byte in bytes {
-        assert_taken(rt, taker, &[*byte], None, byte)?;
+        assert_taken(rt, taker, &[*byte], None, byte);
     }
-    Ok(())
 }
 
 #[test]
-fn byte_by_byte(rt: HostRuntime) -> Result<(), Fail> {
-    let wanted = both(rt.alloc())?;
+fn byte_by_byte(rt: HostRuntime) {
+    let wanted = both(&rt, rt.alloc());
     let mut taker = Taker::new(rt.alloc());
-    assert_bytes_taken(&rt, &mut taker, &stream())?;
+    assert_bytes_taken(&rt, &mut taker, &stream());
     assert_messages(&rt, &taker.messages, &wanted, &"byte by byte");
-    Ok(())
 }
 
 /// Frames with a fault that their last byte shows, and no earlier byte.
@@ -127,43 +127,33 @@ const FAULTS: [(&[u8], FrameError); 20] = [
 
 /// Takes a frame byte by byte and two more pieces, and checks where the fault is reported, and that
 /// there is no message.
-fn assert_fault(
-    rt: &impl Abort,
-    taker: &mut Taker,
-    frame: &[u8],
-    fault: FrameError,
-) -> Result<(), Fail> {
+fn assert_fault(rt: &impl Abort, taker: &mut Taker, frame: &[u8], fault: FrameError) {
     for (at, byte) in frame.iter().enumerate() {
         let shown = if at + 1 == frame.len() {
             Some(fault)
         } else {
             None
         };
-        assert_taken(rt, taker, &[*byte], shown, &frame)?;
+        assert_taken(rt, taker, &[*byte], shown, &frame);
     }
-    assert_taken(rt, taker, &LOOKUP, Some(fault), &frame)?;
-    assert_taken(rt, taker, &[], Some(fault), &frame)?;
+    assert_taken(rt, taker, &LOOKUP, Some(fault), &frame);
+    assert_taken(rt, taker, &[], Some(fault), &frame);
     assert_same(rt, &taker.messages.is_empty(), &true, &frame);
-    Ok(())
 }
 
 // A fault is reported at the byte that shows it, and again for each piece from then on, without a
 // message.
 #[test]
-fn frame_faults(rt: HostRuntime) -> Result<(), Fail> {
+fn frame_faults(rt: HostRuntime) {
     for (frame, fault) in &FAULTS {
         let mut taker = Taker::new(rt.alloc());
-        assert_fault(&rt, &mut taker, frame, *fault)?;
+        assert_fault(&rt, &mut taker, frame, *fault);
     }
-    Ok(())
 }
 
 /// The worked stream, this frame, and one more after it.
-fn with_fault(alloc: Global, frame: &[u8]) -> Result<Vec<u8>, Fail> {
-    let mut piece = Vec::from_slice(alloc, &stream())?;
-    piece.extend_from_slice(frame)?;
-    piece.extend_from_slice(&LOOKUP)?;
-    Ok(piece)
+fn with_fault(rt: &impl Abort, alloc: Global, frame: &[u8]) -> Vec<u8> {
+    joined(rt, alloc, &[&stream(), frame, &LOOKUP])
 }
 
 /// The result of one piece.
@@ -177,59 +167,63 @@ fn assert_fed(rt: &impl Abort, fed: &Fed, wanted: &[Message], fault: FrameError,
     assert_same(rt, &fed.fault, &Some(fault), &frame);
 }
 
+/// Checks the result of a piece that has the worked stream, this frame, and one more.
+fn assert_fault_after(
+    rt: &impl Abort,
+    alloc: Global,
+    wanted: &[Message],
+    frame: &[u8],
+    fault: FrameError,
+) {
+    let piece = with_fault(rt, alloc, frame);
+    let fed = fed(alloc, &piece).expect(rt, "its messages have memory");
+    assert_fed(rt, &fed, wanted, fault, frame);
+}
+
 // The messages before a fault in one piece are returned, and nothing after it.
 #[test]
-fn messages_before_a_fault(rt: HostRuntime) -> Result<(), Fail> {
-    let wanted = both(rt.alloc())?;
+fn messages_before_a_fault(rt: HostRuntime) {
+    let wanted = both(&rt, rt.alloc());
     for (frame, fault) in &FAULTS {
-        let piece = with_fault(rt.alloc(), frame)?;
-        assert_fed(&rt, &fed(rt.alloc(), &piece)?, &wanted, *fault, frame);
+        assert_fault_after(&rt, rt.alloc(), &wanted, frame, *fault);
     }
-    Ok(())
 }
 
 /// A frame of the greatest length.
-fn greatest(alloc: Global) -> Result<Vec<u8>, Fail> {
-    let mut frame = Vec::from_slice(alloc, b"\0\x02\0\x01\x02")?;
-    frame.resize(131_077, 7)?;
-    Ok(frame)
+fn greatest(rt: &impl Abort, alloc: Global) -> Vec<u8> {
+    let mut frame = Vec::from_slice(alloc, b"\0\x02\0\x01\x02").expect(rt, "the head has memory");
+    frame.resize(131_077, 7).expect(rt, "the body has memory");
+    frame
 }
 
 /// Takes that frame in pieces of this size, and checks that no message comes before the last one.
-fn assert_pieces(
-    rt: &impl Abort,
-    taker: &mut Taker,
-    frame: &[u8],
-    size: usize,
-) -> Result<(), Fail> {
-    assert!(rt; size > 0);
+fn assert_pieces(rt: &impl Abort, taker: &mut Taker, frame: &[u8], size: usize) {
+    assert_true(rt, size > 0, "pieces have a size");
     for piece in frame.chunks(size) {
         assert_same(rt, &taker.messages.is_empty(), &true, &size);
-        assert_taken(rt, taker, piece, None, &size)?;
+        assert_taken(rt, taker, piece, None, &size);
     }
-    Ok(())
 }
 
 /// Checks that the only message is a lookup with the body of the frame.
-fn assert_lookup(rt: &impl Abort, alloc: Global, messages: &[Message]) -> Result<(), Fail> {
-    assert_eq!(rt; messages.len(), 1);
+fn assert_lookup(rt: &impl Abort, alloc: Global, messages: &[Message]) {
+    assert_same(rt, &messages.len(), &1, &"messages");
     for message in messages {
-        let body = vec![in alloc; 7; 131_072]?;
-        assert!(rt; *message == Message::Lookup(body));
+        let body = vec![in alloc; 7; 131_072].expect(rt, "the body has memory");
+        let is_lookup = *message == Message::Lookup(body);
+        assert_true(rt, is_lookup, "the message is a lookup with that body");
     }
-    Ok(())
 }
 
 // A frame of the greatest length, in pieces of each size.
 #[test]
-fn greatest_frame(rt: HostRuntime) -> Result<(), Fail> {
-    let frame = greatest(rt.alloc())?;
+fn greatest_frame(rt: HostRuntime) {
+    let frame = greatest(&rt, rt.alloc());
     for size in [999, 65_536, 131_076, 200_000] {
         let mut taker = Taker::new(rt.alloc());
-        assert_pieces(&rt, &mut taker, &frame, size)?;
-        assert_lookup(&rt, rt.alloc(), &taker.messages)?;
+        assert_pieces(&rt, &mut taker, &frame, size);
+        assert_lookup(&rt, rt.alloc(), &taker.messages);
     }
-    Ok(())
 }
 
 /// Whether this is the first or the second message of the worked stream.
@@ -260,17 +254,33 @@ fn assert_worked(rt: &impl Abort, messages: &[Message], from: u8) -> u8 {
     place
 }
 
+/// Feeds a piece of the worked stream, checks its messages from this place on, and returns the place
+/// after them.
+fn feed_worked(
+    rt: &impl Abort,
+    framer: &mut Framer,
+    piece: &[u8],
+    place: u8,
+) -> Result<u8, AllocError> {
+    let fed = fed_again(framer, piece)?;
+    Ok(assert_worked(rt, &fed.messages, place))
+}
+
+/// Feeds the worked stream in pieces, and returns how many messages came.
+fn feed_stream(rt: &impl Abort, framer: &mut Framer) -> Result<u8, AllocError> {
+    let bytes = stream();
+    let mut place = 0u8;
+    for piece in bytes.chunks(50) {
+        place = feed_worked(rt, framer, piece, place)?;
+    }
+    Ok(place)
+}
+
 // Run with each allocation failing in turn: a piece that was refused is fed again, and each message
 // comes once.
 #[test]
 fn refused_memory_keeps_the_stream(rt: HostRuntime) -> Result<(), Fail> {
-    let bytes = stream();
-    let mut framer = Framer::new(rt.alloc());
-    let mut place = 0u8;
-    for piece in bytes.chunks(50) {
-        let fed = fed_again(&mut framer, piece)?;
-        place = assert_worked(&rt, &fed.messages, place);
-    }
-    assert_eq!(rt; place, 2);
+    let place = feed_stream(&rt, &mut Framer::new(rt.alloc()))?;
+    assert_same(&rt, &place, &2, &"messages");
     Ok(())
 }

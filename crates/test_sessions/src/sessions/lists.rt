@@ -4,12 +4,12 @@ ghost use Rattle.std.specs.Prelude.{◌≤◌, length, IfOk};
 ghost use Rattle.std.specs.List.{AllByRecursion};
 ghost use Rattle.seg_core.specs.Encoding.{IsSegment};
 
-use crate::sessions::same::assert_same;
+use crate::bytes::{joined, push};
+use crate::checks::assert_same;
 use seg_core::{SegType, Segment, read_segment};
 use session_core::{Ack, Code, FrameError, Framer, ListRequest, Listing, Message, Service, serve};
-use std::alloc::{AllocError, Global};
+use std::alloc::Global;
 use std::process::Abort;
-use std::test::Fail;
 use test_support::{ID, REGISTER, SEGMENT};
 
 /// Shows the worked segment to each list without an id, after which further segments follow, and no
@@ -104,100 +104,114 @@ const SIDES: [u8; 16] = [
 ];
 
 /// The frame of a list of this type, after an id if there is one.
-fn frame(alloc: Global, kind: u8, id: &[u8]) -> Result<Vec<u8>, AllocError> {
+fn frame(rt: &impl Abort, alloc: Global, kind: u8, id: &[u8]) -> Vec<u8> {
     let len = if id.is_empty() { 0x12 } else { 0x32 };
-    let mut frame = Vec::from_slice(alloc, &[0, 0, 0, len, 0x05, kind])?;
-    frame.extend_from_slice(&SIDES)?;
-    frame.extend_from_slice(id)?;
-    Ok(frame)
+    joined(rt, alloc, &[&[0, 0, 0, len, 0x05, kind], &SIDES, id])
+}
+
+/// Checks that the messages of two pieces are this list, which is one of them.
+fn assert_message(
+    rt: &impl Abort,
+    (before, after): (&[Message], &[Message]),
+    wanted: ListRequest,
+    cut: usize,
+) {
+    let found = if before.is_empty() { after } else { before };
+    let wanted = [Message::List(wanted)];
+    assert_same(rt, &found, &wanted.as_slice(), &cut);
 }
 
 /// Checks that bytes which come in two pieces are the frame of this list.
-fn assert_list(
-    rt: &impl Abort,
-    alloc: Global,
-    (front, rest): (&[u8], &[u8]),
-    wanted: ListRequest,
-) -> Result<(), Fail> {
+fn assert_list(rt: &impl Abort, alloc: Global, (front, rest): (&[u8], &[u8]), wanted: ListRequest) {
     let cut = front.len();
     let mut framer = Framer::new(alloc);
-    let first = framer.feed(front)?;
-    let second = framer.feed(rest)?;
-    let (before, after) = (first.messages, second.messages);
-    let found = if before.is_empty() { after } else { before };
-    assert_same(
-        rt,
-        &found.as_slice(),
-        &[Message::List(wanted)].as_slice(),
-        &cut,
-    );
+    let first = framer.feed(front).expect(rt, "the front has memory");
+    let second = framer.feed(rest).expect(rt, "the rest has memory");
+    let messages = (first.messages.as_slice(), second.messages.as_slice());
+    assert_message(rt, messages, wanted, cut);
     assert_same(rt, &(first.fault, second.fault), &(None, None), &cut);
-    Ok(())
+}
+
+/// Checks that the frame of a list, after an id if there is one, gives this, however it is cut.
+fn assert_frame(rt: &impl Abort, alloc: Global, id: &[u8], wanted: ListRequest) {
+    let bytes = frame(rt, alloc, wanted.kind, id);
+    for cut in 0..=bytes.len() {
+        assert_list(rt, alloc, bytes.as_slice().split_at(cut), wanted);
+    }
 }
 
 // The two lengths of a list's frame give its numbers, however the frame is cut.
 #[test]
-fn frames_of_lists(rt: HostRuntime) -> Result<(), Fail> {
-    let alloc = rt.alloc();
+fn frames_of_lists(rt: HostRuntime) {
     for kind in [0, 1, 2, 3, 4, 255] {
         let first = sides(kind);
         let next = ListRequest {
             after: Some(ID),
             ..first
         };
-        for (id, wanted) in [(&[][..], first), (&ID[..], next)] {
-            let bytes = frame(alloc, kind, id)?;
-            for cut in 0..=bytes.len() {
-                assert_list(&rt, alloc, bytes.as_slice().split_at(cut), wanted)?;
-            }
-        }
+        assert_frame(&rt, rt.alloc(), &[], first);
+        assert_frame(&rt, rt.alloc(), &ID, next);
     }
-    Ok(())
 }
 
-/// What a session of these bytes ends with, and what it writes.
-fn served(alloc: Global, input: &[u8]) -> (Result<u64, FrameError>, Vec<u8>) {
-    let mut output = Vec::new(alloc);
+/// What a session of these bytes ends with. Adds what it writes.
+fn served(alloc: Global, input: &[u8], output: &mut Vec<u8>) -> Result<u64, FrameError> {
     let mut reader = input;
-    let served = serve(alloc, &mut reader, &mut output, &mut Shelf, 9);
-    (served, output)
+    serve(alloc, &mut reader, output, &mut Shelf, 9)
 }
 
-/// The reply with the worked segment: a length of 98, the kind, that more follows, and the response
-/// of 96 bytes, which is that of the worked registration.
-fn page(alloc: Global) -> Result<Vec<u8>, AllocError> {
-    let mut reply = Vec::from_slice(alloc, b"\0\0\0\x62\x85\x01")?;
-    reply.extend_from_slice(&REGISTER[5..])?;
-    Ok(reply)
+/// The reply with the worked segment, that without one, and the refusal of a type. The first one
+/// has a length of 98, the kind, that more follows, and the response of 96 bytes, which is that of
+/// the worked registration.
+fn replies(rt: &impl Abort, alloc: Global) -> Vec<u8> {
+    joined(
+        rt,
+        alloc,
+        &[
+            b"\0\0\0\x62\x85\x01",
+            &REGISTER[5..],
+            b"\0\0\0\x02\x85\x00",
+            b"\0\0\0\x02\xff\x29",
+        ],
+    )
+}
+
+/// The frames of three lists: without an id, after one, and of no type.
+fn three_lists(rt: &impl Abort, alloc: Global) -> Vec<u8> {
+    let mut input = frame(rt, alloc, 2, &[]);
+    push(rt, &mut input, &frame(rt, alloc, 2, &ID));
+    push(rt, &mut input, &frame(rt, alloc, 4, &[]));
+    input
 }
 
 // A page with a segment, a page without one, and the refusal of a type.
 #[test]
-fn replies_to_lists(rt: HostRuntime) -> Result<(), Fail> {
+fn replies_to_lists(rt: HostRuntime) {
     let alloc = rt.alloc();
-    let mut input = frame(alloc, 2, &[])?;
-    input.extend_from_slice(frame(alloc, 2, &ID)?.as_slice())?;
-    input.extend_from_slice(frame(alloc, 4, &[])?.as_slice())?;
-    let mut wanted = page(alloc)?;
-    wanted.extend_from_slice(b"\0\0\0\x02\x85\x00")?;
-    wanted.extend_from_slice(b"\0\0\0\x02\xff\x29")?;
-    let (served, output) = served(alloc, input.as_slice());
+    let input = three_lists(&rt, alloc);
+    let mut output = Vec::new(alloc);
+    let served = served(alloc, input.as_slice(), &mut output);
     assert_same(&rt, &served, &Ok(3), &"three lists");
-    assert_same(&rt, &output, &wanted, &"three lists");
-    Ok(())
+    assert_same(&rt, &output, &replies(&rt, alloc), &"three lists");
+}
+
+/// Checks that a session of the first bytes of a list's frame has answered nothing.
+fn assert_unanswered(rt: &impl Abort, alloc: Global, front: &[u8]) {
+    let mut output = Vec::new(alloc);
+    let served = served(alloc, front, &mut output);
+    let cut = front.len();
+    assert_same(rt, &served, &Err(FrameError::Read), &cut);
+    assert_same(rt, &output.is_empty(), &true, &cut);
 }
 
 // A session whose input ends within the frame of a list has answered nothing.
 #[test]
-fn cut_lists(rt: HostRuntime) -> Result<(), Fail> {
+fn cut_lists(rt: HostRuntime) {
     let alloc = rt.alloc();
     for id in [&[][..], &ID[..]] {
-        let bytes = frame(alloc, 2, id)?;
+        let bytes = frame(&rt, alloc, 2, id);
         for cut in 1..bytes.len() {
-            let (served, output) = served(alloc, bytes.as_slice().split_at(cut).0);
-            assert_same(&rt, &served, &Err(FrameError::Read), &cut);
-            assert_same(&rt, &output.is_empty(), &true, &cut);
+            assert_unanswered(&rt, alloc, bytes.as_slice().split_at(cut).0);
         }
     }
-    Ok(())
 }

@@ -1,7 +1,7 @@
 //! Want of memory. The test is run with each of its allocations refused in turn: a call that is
 //! refused changes nothing, and succeeds when it is tried again.
 
-use crate::refused_steps::host::Host;
+use crate::host::Host;
 use group_core::{BeginError, StageError, SubmitError};
 use sector_dev::MemDevice;
 use std::alloc::Global;
@@ -12,7 +12,7 @@ use test_group_scripts::stores::{
     Contents, assert_half, assert_opens_to, opened, register, sealed_store,
 };
 use test_group_scripts::work::{Paid, Told, Work, work_of};
-use test_support::assert_same;
+use test_support::{TestHost, assert_same, assert_true};
 
 /// Submits a segment, and once more where memory was refused.
 fn submit_again(
@@ -28,13 +28,14 @@ fn submit_again(
     };
     match answer {
         Ok(place) => place,
-        Err(e) => panic!(rt.0; "{e:?}"),
+        Err(e) => rt.fail(format_args!("{e:?}")),
     }
 }
 
 /// Sees that the first command is not committed yet.
 fn assert_waiting(rt: &Host<impl Abort>, work: &mut Work<MemDevice>) {
-    assert!(rt.0; matches!(work.redeem(rt, 0), Paid::Waiting(_)));
+    let is_waiting = matches!(work.redeem(rt, 0), Paid::Waiting(_));
+    assert_true(rt, is_waiting, "the first command is not committed");
 }
 
 /// The flusher's next step, and once more where memory was refused, which is so where a group is
@@ -46,9 +47,9 @@ fn flush_again(
 ) -> (Work<MemDevice>, Told) {
     let (mut work, first) = work.flush(rt);
     match first {
-        Told::Stage(StageError::NoMemory) => assert_eq!(rt.0; number, 0),
+        Told::Stage(StageError::NoMemory) => assert_same(rt, &number, &0, &"staging"),
         Told::NoMemory => {
-            assert_eq!(rt.0; number, 5);
+            assert_same(rt, &number, &5, &"publishing");
             assert_waiting(rt, &mut work);
         }
         _ => return (work, first),
@@ -71,6 +72,13 @@ fn submit_three(rt: &Host<impl Abort>, alloc: Global, work: &mut Work<MemDevice>
     for egress in 2..5 {
         let place = submit_again(rt, alloc, work, egress);
         assert_same(rt, &place, &(u64::from(egress) - 1), &egress);
+    }
+}
+
+/// Redeems the tickets of these, each of which is committed.
+fn redeem_three(rt: &Host<impl Abort>, work: &mut Work<MemDevice>) {
+    for place in 1..4 {
+        work.redeems(rt, 0, Paid::Committed(place, INSERTED));
     }
 }
 
@@ -105,9 +113,7 @@ fn refused_calls_may_be_tried_again(rt: HostRuntime) -> Result<(), Fail> {
     let mut work = work_of(&host, rt.alloc(), store);
     submit_three(&host, rt.alloc(), &mut work);
     let mut work = check_all_again(&host, flush_all_again(&host, work));
-    for place in 1..4 {
-        work.redeems(&host, 0, Paid::Committed(place, INSERTED));
-    }
+    redeem_three(&host, &mut work);
     let store = opened(&host, rt.alloc(), work.device(&host));
     assert_half(&host, &store, (2, false));
     let wanted = Contents {

@@ -1,9 +1,9 @@
 //! Tickets and values that are another state's, and second values while one is out.
 
-use crate::refused_steps::host::Host;
+use crate::host::Host;
 use group_core::{
-    BeginError, FollowError, PlainShow, PublishError, Redeemed, StageError, State, StepError,
-    Ticket,
+    BeginError, Commit, FollowError, Opened, PlainShow, Plan, PublishError, Redeemed, StageError,
+    State, StepError, Ticket,
 };
 use path_db::Command;
 use sector_dev::{Device, MemDevice};
@@ -14,7 +14,7 @@ use test_group_scripts::stores::{
     Contents, assert_opens_to, change, new_store, opened, opened_contents, register, sealed_store,
 };
 use test_group_scripts::work::{Group, Round, Told, Work, state_of, work_of};
-use test_support::assert_same;
+use test_support::{TestHost, assert_same};
 
 /// A state of a store that was sealed, of this home, with one command pending.
 fn sealed_state(
@@ -26,7 +26,36 @@ fn sealed_state(
     let mut state = state_of(rt, alloc, store, home);
     match state.submit(register(rt, alloc, 2, 1)) {
         Ok(ticket) => (state, ticket),
-        Err((_command, e)) => panic!(rt.0; "{e:?}"),
+        Err((_command, e)) => rt.fail(format_args!("{e:?}")),
+    }
+}
+
+/// The value of a step that came back as a stranger.
+fn value_of<T, P>(rt: &Host<impl Abort>, answer: Result<T, StepError<P>>) -> Commit<P> {
+    match answer {
+        Err(StepError::Stranger(value)) => value,
+        _other => rt.fail("no stranger"),
+    }
+}
+
+/// The same of publishing.
+fn unpublished<T, P>(rt: &Host<impl Abort>, answer: Result<T, PublishError<P>>) -> Commit<P> {
+    match answer {
+        Err(PublishError::Stranger(value)) => value,
+        _other => rt.fail("no stranger"),
+    }
+}
+
+/// A group whose gate was written. No group follows it and its gate is not synced, as it is a
+/// stranger.
+fn strange_opened(
+    rt: &Host<impl Abort>,
+    state: &mut State<MemDevice, PlainShow>,
+    opened: Opened,
+) -> Opened {
+    match state.follow(opened) {
+        Err((opened, FollowError::Stranger)) => value_of(rt, state.sync_gate(opened)),
+        _other => rt.fail("no stranger"),
     }
 }
 
@@ -38,42 +67,29 @@ fn strange_group(
 ) -> Group {
     match group {
         Group::Nothing => Group::Nothing,
-        Group::Staged(value) => match state.write_group(value) {
-            Err(StepError::Stranger(value)) => Group::Staged(value),
-            _other => panic!(rt.0; "no stranger"),
-        },
-        Group::Written(value) => match state.sync_group(value) {
-            Err(StepError::Stranger(value)) => Group::Written(value),
-            _other => panic!(rt.0; "no stranger"),
-        },
-        Group::Stable(value) => match state.open_gate(value) {
-            Err(StepError::Stranger(value)) => Group::Stable(value),
-            _other => panic!(rt.0; "no stranger"),
-        },
-        Group::Opened(value) => match state.follow(value) {
-            Err((value, FollowError::Stranger)) => match state.sync_gate(value) {
-                Err(StepError::Stranger(value)) => Group::Opened(value),
-                _other => panic!(rt.0; "no stranger"),
-            },
-            _other => panic!(rt.0; "no stranger"),
-        },
-        Group::Durable(value) => match state.publish(value) {
-            Err(PublishError::Stranger(value)) => Group::Durable(value),
-            _other => panic!(rt.0; "no stranger"),
-        },
-        Group::Following(value) => match state.write_following(value) {
-            Err(StepError::Stranger(value)) => Group::Following(value),
-            _other => panic!(rt.0; "no stranger"),
-        },
-        Group::Followed(value) => match state.sync_followed(value) {
-            Err(StepError::Stranger(value)) => Group::Followed(value),
-            _other => panic!(rt.0; "no stranger"),
-        },
-        Group::DurableFollowed(value) => match state.publish_followed(value) {
-            Err(PublishError::Stranger(value)) => Group::DurableFollowed(value),
-            _other => panic!(rt.0; "no stranger"),
-        },
+        Group::Staged(value) => Group::Staged(value_of(rt, state.write_group(value))),
+        Group::Written(value) => Group::Written(value_of(rt, state.sync_group(value))),
+        Group::Stable(value) => Group::Stable(value_of(rt, state.open_gate(value))),
+        Group::Opened(value) => Group::Opened(strange_opened(rt, state, value)),
+        Group::Durable(value) => Group::Durable(unpublished(rt, state.publish(value))),
+        Group::Following(value) => Group::Following(value_of(rt, state.write_following(value))),
+        Group::Followed(value) => Group::Followed(value_of(rt, state.sync_followed(value))),
+        Group::DurableFollowed(value) => {
+            Group::DurableFollowed(unpublished(rt, state.publish_followed(value)))
+        }
     }
+}
+
+/// A checkpoint of which no sector is written or synced, as it is a stranger.
+fn strange_plan(
+    rt: &Host<impl Abort>,
+    state: &mut State<MemDevice, PlainShow>,
+    plan: Plan,
+) -> Plan {
+    if plan.is_done() {
+        return value_of(rt, state.sync_chunks(plan));
+    }
+    value_of(rt, state.write_chunk(plan))
 }
 
 /// A step of the checkpointer with a value that comes back as a stranger.
@@ -84,39 +100,11 @@ fn strange_round(
 ) -> Round {
     match round {
         Round::Nothing => Round::Nothing,
-        Round::Plan(value) => {
-            let answer = if value.is_done() {
-                match state.sync_chunks(value) {
-                    Err(e) => e,
-                    Ok(_laid) => panic!(rt.0; "no stranger"),
-                }
-            } else {
-                match state.write_chunk(value) {
-                    Err(e) => e,
-                    Ok(_plan) => panic!(rt.0; "no stranger"),
-                }
-            };
-            match answer {
-                StepError::Stranger(value) => Round::Plan(value),
-                _other => panic!(rt.0; "no stranger"),
-            }
-        }
-        Round::Laid(value) => match state.open_half(value) {
-            Err(StepError::Stranger(value)) => Round::Laid(value),
-            _other => panic!(rt.0; "no stranger"),
-        },
-        Round::Switched(value) => match state.sync_half(value) {
-            Err(StepError::Stranger(value)) => Round::Switched(value),
-            _other => panic!(rt.0; "no stranger"),
-        },
-        Round::Live(value) => match state.close_half(value) {
-            Err(StepError::Stranger(value)) => Round::Live(value),
-            _other => panic!(rt.0; "no stranger"),
-        },
-        Round::Closing(value) => match state.sync_close(value) {
-            Err(StepError::Stranger(value)) => Round::Closing(value),
-            _other => panic!(rt.0; "no stranger"),
-        },
+        Round::Plan(value) => Round::Plan(strange_plan(rt, state, value)),
+        Round::Laid(value) => Round::Laid(value_of(rt, state.open_half(value))),
+        Round::Switched(value) => Round::Switched(value_of(rt, state.sync_half(value))),
+        Round::Live(value) => Round::Live(value_of(rt, state.close_half(value))),
+        Round::Closing(value) => Round::Closing(value_of(rt, state.sync_close(value))),
     }
 }
 
@@ -140,20 +128,30 @@ fn hand_to<D: Device>(
     }
 }
 
-/// The ticket that came back as a stranger.
+/// A ticket at place 1 that came back as a stranger.
 fn stranger(rt: &Host<impl Abort>, answer: Redeemed<()>) -> Ticket {
     match answer {
-        Redeemed::Stranger(ticket) => ticket,
-        _other => panic!(rt.0; "no stranger"),
+        Redeemed::Stranger(ticket) => {
+            assert_same(rt, &ticket.place(), &1, &"a ticket");
+            ticket
+        }
+        _other => rt.fail("no stranger"),
     }
 }
 
 /// Sees that the fate of a command at place 1 is not known.
 fn assert_unknown(rt: &Host<impl Abort>, answer: Redeemed<()>) {
     match answer {
-        Redeemed::Unknown(place) => assert_eq!(rt.0; place, 1),
-        _other => panic!(rt.0; "known"),
+        Redeemed::Unknown(place) => assert_same(rt, &place, &1, &"a place"),
+        _other => rt.fail("known"),
     }
+}
+
+/// Redeems the ticket of a state that has stopped, which ends then.
+fn end_unknown(rt: &Host<impl Abort>, state: State<MemDevice, PlainShow>, ticket: Ticket) {
+    let mut state = state;
+    assert_unknown(rt, state.redeem(ticket));
+    let (_device, _show) = state.into_parts();
 }
 
 /// Makes the steps of a group and of a round but the last one, each value being handed to two other
@@ -190,13 +188,9 @@ fn strangers_come_back(rt: HostRuntime) -> Result<(), Fail> {
     let mut work = all_handed(&host, work, &mut other, &mut halted).checks(&host, Told::Ended);
     let ticket = stranger(&host, work.state.redeem(ticket));
     let last = stranger(&host, other.redeem(last));
-    assert_same(&host, &ticket.place(), &1, &"ticket");
-    assert_same(&host, &last.place(), &1, &"last");
     other.halt();
-    assert_unknown(&host, other.redeem(ticket));
-    assert_unknown(&host, halted.redeem(last));
-    let (_device, _show) = other.into_parts();
-    let (_device, _show) = halted.into_parts();
+    end_unknown(&host, other, ticket);
+    end_unknown(&host, halted, last);
     work.redeems_at(&host, 1);
     let wanted = Contents {
         rows: 2,
@@ -211,7 +205,7 @@ fn strangers_come_back(rt: HostRuntime) -> Result<(), Fail> {
 fn no_group(rt: &Host<impl Abort>, work: &mut Work<MemDevice>) -> StageError {
     match work.state.stage() {
         Err(e) => e,
-        Ok(_staged) => panic!(rt.0; "staged"),
+        Ok(_staged) => rt.fail("staged"),
     }
 }
 
@@ -219,20 +213,20 @@ fn no_group(rt: &Host<impl Abort>, work: &mut Work<MemDevice>) -> StageError {
 fn no_round(rt: &Host<impl Abort>, work: &mut Work<MemDevice>) -> BeginError {
     match work.state.begin() {
         Err(e) => e,
-        Ok(_plan) => panic!(rt.0; "begun"),
+        Ok(_plan) => rt.fail("begun"),
     }
 }
 
 /// Sees why nothing is staged.
 fn stages_none(rt: &Host<impl Abort>, work: &mut Work<MemDevice>, wanted: StageError) {
     let refusal = no_group(rt, work);
-    assert_eq!(rt.0; refusal, wanted);
+    assert_same(rt, &refusal, &wanted, &"a group");
 }
 
 /// Sees why no checkpoint is begun.
 fn begins_none(rt: &Host<impl Abort>, work: &mut Work<MemDevice>, wanted: BeginError) {
     let refusal = no_round(rt, work);
-    assert_eq!(rt.0; refusal, wanted);
+    assert_same(rt, &refusal, &wanted, &"a round");
 }
 
 /// Makes all steps of a group and of a round but the last ones, and sees that neither is begun
@@ -289,6 +283,21 @@ fn steps_of_both(rt: &Host<impl Abort>, work: Work<MemDevice>, steps: usize) -> 
     work
 }
 
+/// The place that a state shows which has stopped after this number of steps: a group that is
+/// durable is published then too.
+fn place_shown(steps: usize) -> u64 {
+    if steps == 5 { 6 } else { 1 }
+}
+
+/// The place that is left on its device.
+fn place_left(steps: usize) -> u64 {
+    if steps > 3 {
+        (steps as u64).saturating_add(1)
+    } else {
+        1
+    }
+}
+
 /// Stops a state after this number of steps, and sees that nothing is staged or begun, and what is
 /// shown and left then.
 fn assert_halted(rt: &Host<impl Abort>, alloc: Global, steps: usize) {
@@ -299,15 +308,9 @@ fn assert_halted(rt: &Host<impl Abort>, alloc: Global, steps: usize) {
     stages_none(rt, &mut work, StageError::Stopped);
     begins_none(rt, &mut work, BeginError::Stopped);
     let (device, shown) = work.end(rt);
-    // A group that is durable is published where the state has stopped too.
-    assert_same(rt, &shown.place, if steps == 5 { &6 } else { &1 }, &steps);
+    assert_same(rt, &shown.place, &place_shown(steps), &steps);
     let (left, _device) = opened_contents(rt, alloc, device);
-    let wanted = if steps > 3 {
-        (steps as u64).saturating_add(1)
-    } else {
-        1
-    };
-    assert_same(rt, &left.place, &wanted, &steps);
+    assert_same(rt, &left.place, &place_left(steps), &steps);
 }
 
 #[test]

@@ -1,6 +1,6 @@
 //! Groups that follow each other: the bytes that they leave, and what a stop within them leaves.
 
-use crate::steps::host::Host;
+use crate::host::Host;
 use group_core::FollowError;
 use sector_dev::{Device, MemDevice};
 use std::alloc::Global;
@@ -63,6 +63,21 @@ fn committed<D: Device>(rt: &Host<impl Abort>, work: Work<D>) -> (Work<D>, u64) 
     (work, made)
 }
 
+/// Redeems the tickets of the purges, each of which is committed.
+fn redeem_purges(rt: &Host<impl Abort>, work: &mut Work<MemDevice>) {
+    for place in 0..20 {
+        work.redeems(rt, 0, Paid::Committed(place, NOTHING));
+    }
+}
+
+/// Sees how the groups' payloads begin.
+fn assert_payloads(rt: &Host<impl Abort>, device: &mut MemDevice) {
+    for (at, wanted) in &PAYLOADS {
+        let sector = read_sector(device, *at);
+        assert_same(rt, &sector.starts_with(wanted), &true, at);
+    }
+}
+
 #[test]
 fn three_groups_follow_each_other(rt: HostRuntime) -> Result<(), Fail> {
     let host = Host(&rt);
@@ -70,15 +85,10 @@ fn three_groups_follow_each_other(rt: HostRuntime) -> Result<(), Fail> {
     let mut work = work_of(&host, rt.alloc(), store);
     work.purge(&host, PURGES);
     let (mut work, made) = committed(&host, work);
-    assert_eq!(rt; made, 17);
-    for place in 0..20 {
-        work.redeems(&host, 0, Paid::Committed(place, NOTHING));
-    }
+    assert_same(&host, &made, &17, &"steps");
+    redeem_purges(&host, &mut work);
     let mut device = work.ends(&host, Contents::empty_at(20));
-    for (at, wanted) in &PAYLOADS {
-        let sector = read_sector(&mut device, *at);
-        assert!(rt; sector.starts_with(wanted), "{at}");
-    }
+    assert_payloads(&host, &mut device);
     let _device = assert_opens_to(&host, rt.alloc(), device, Contents::empty_at(20));
     Ok(())
 }
@@ -93,7 +103,7 @@ fn stopped_groups(
     let store = match open(alloc, device) {
         Ok(store) => store,
         Err((device, e)) => {
-            assert_eq!(rt.0; e, OpenError::Device);
+            assert_same(rt, &e, &OpenError::Device, &"an opening");
             return (None, device.into_mem());
         }
     };
@@ -119,18 +129,31 @@ fn place_after(made: u64, tear: Tear) -> u64 {
     }
 }
 
-/// Sees what a stop with this tear leaves at each call of the device.
+/// Sees what a stop after this number of steps has left on a device.
+fn assert_place(rt: &Host<impl Abort>, alloc: Global, device: MemDevice, made: u64, tear: Tear) {
+    let (contents, _device) = opened_contents(rt, alloc, device);
+    let wanted = Contents::empty_at(place_after(made, tear));
+    assert_same(rt, &contents, &wanted, &(made, tear.keep, tear.fill));
+}
+
+/// Sees what a stop with this tear leaves, which lets this number of calls pass: how many steps were
+/// made; none where opening failed already.
+fn stopped_at(rt: &Host<impl Abort>, alloc: Global, calls: u64, tear: Tear) -> Option<u64> {
+    let fuse = FuseDevice::new(old_store(rt, alloc), calls, tear);
+    let (made, device) = stopped_groups(rt, alloc, fuse);
+    if let Some(made) = made {
+        assert_place(rt, alloc, device, made, tear);
+    }
+    made
+}
+
+/// Sees so for each number of calls.
 fn assert_groups_stop(rt: &Host<impl Abort>, alloc: Global, tear: Tear) {
     let mut stops = 0usize;
     for calls in 0..MANY {
-        let fuse = FuseDevice::new(old_store(rt, alloc), calls, tear);
-        let (made, device) = stopped_groups(rt, alloc, fuse);
-        let Some(made) = made else {
+        let Some(made) = stopped_at(rt, alloc, calls, tear) else {
             continue;
         };
-        let (contents, _device) = opened_contents(rt, alloc, device);
-        let wanted = Contents::empty_at(place_after(made, tear));
-        assert_same(rt, &contents, &wanted, &(made, tear.keep, tear.fill));
         assert_same(rt, &Some(&made), &MADE.get(stops), &calls);
         stops = stops.saturating_add(1);
         if stops == MADE.len() {

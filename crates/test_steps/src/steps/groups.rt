@@ -1,6 +1,6 @@
 //! How many commands a group takes, and the order in which tickets are redeemed.
 
-use crate::steps::host::Host;
+use crate::host::Host;
 use sector_dev::MemDevice;
 use std::alloc::Global;
 use std::process::Abort;
@@ -10,6 +10,7 @@ use test_group_scripts::stores::{
     Contents, assert_opens_to, new_store, old_store, opened, read_sector,
 };
 use test_group_scripts::work::{Paid, Work, work_of};
+use test_support::assert_same;
 
 /// What a group of a version takes, and how the payloads of two groups begin. The record of a purge
 /// has 13 bytes.
@@ -86,7 +87,7 @@ fn two_groups(
 /// Sees how a sector begins.
 fn assert_begins(rt: &Host<impl Abort>, device: &mut MemDevice, at: u64, wanted: &[u8; 16]) {
     let sector = read_sector(device, at);
-    assert!(rt.0; sector.starts_with(wanted), "{at}");
+    assert_same(rt, &sector.starts_with(wanted), &true, &at);
 }
 
 /// Sees that as many purges as a group takes are in one group and one more is in another, and how

@@ -1,6 +1,6 @@
 //! Journals that are filled to their ends.
 
-use crate::steps::host::Host;
+use crate::host::Host;
 use group_core::StageError;
 use sector_dev::{Device, MemDevice};
 use std::alloc::Global;
@@ -10,6 +10,7 @@ use test_group_scripts::stores::{
     Contents, GROUPS, assert_opens_to, new_store, opened, read_sector,
 };
 use test_group_scripts::work::{Paid, Told, Work, work_of};
+use test_support::assert_same;
 
 /// The seal of the first half, after these groups.
 const SEAL: [u8; 16] = [2, 0, 0, 0, 0, 0, 0, 0, 0, 0, 0, 0, 0, 0, 1, 1];
@@ -40,7 +41,7 @@ fn commit_to<D: Device>(rt: &Host<impl Abort>, work: Work<D>, from: u64, to: u64
 fn assert_sector(rt: &Host<impl Abort>, device: &mut MemDevice, at: u64, bytes: &[u8]) {
     let sector = read_sector(device, at);
     let is_so = sector.starts_with(bytes) && sector.iter().skip(bytes.len()).all(|byte| *byte == 0);
-    assert!(rt.0; is_so, "{at}");
+    assert_same(rt, &is_so, &true, &at);
 }
 
 /// Sees how some sectors of a device begin.

@@ -1,6 +1,6 @@
 //! Commands that are refused, each by the first reason, and that a refusal leaves all as it was.
 
-use crate::steps::host::Host;
+use crate::host::Host;
 use group_core::SubmitError;
 use path_db::{Command, Outcome};
 use sector_dev::MemDevice;
@@ -26,7 +26,7 @@ fn worked(rt: &Host<impl Abort>, alloc: Global, version: u8, place: u64) -> Work
     };
     change(&mut device, 1, PLACE, &place.to_be_bytes());
     let store = opened(rt, alloc, device);
-    assert_eq!(rt.0; store.place(), place);
+    assert_same(rt, &store.place(), &place, &"place");
     work_of(rt, alloc, store)
 }
 
@@ -67,6 +67,22 @@ fn outcome_at(place: u64) -> Outcome {
     }
 }
 
+/// Commits what is pending, in eight groups.
+fn eight_groups(rt: &Host<impl Abort>, work: Work<MemDevice>) -> Work<MemDevice> {
+    let mut work = work;
+    for _group in 0..8 {
+        work = work.flushes_group(rt);
+    }
+    work
+}
+
+/// Redeems the tickets of what is committed.
+fn redeem_all(rt: &Host<impl Abort>, work: &mut Work<MemDevice>) {
+    for place in 0..257 {
+        work.redeems(rt, 0, Paid::Committed(place, outcome_at(place)));
+    }
+}
+
 #[test]
 fn busy_and_full(rt: HostRuntime) -> Result<(), Fail> {
     let host = Host(&rt);
@@ -76,12 +92,8 @@ fn busy_and_full(rt: HostRuntime) -> Result<(), Fail> {
     registers(&host, rt.alloc(), &mut work, 11, Err(SubmitError::Full));
     // What is there already takes no more room.
     registers(&host, rt.alloc(), &mut work, 10, Ok(256));
-    for _group in 0..8 {
-        work = work.flushes_group(&host);
-    }
-    for place in 0..257 {
-        work.redeems(&host, 0, Paid::Committed(place, outcome_at(place)));
-    }
+    let mut work = eight_groups(&host, work);
+    redeem_all(&host, &mut work);
     let full = Contents {
         rows: 10,
         bytes: 930,

@@ -1,6 +1,6 @@
 //! Opening the device of a state again.
 
-use crate::steps::host::Host;
+use crate::host::Host;
 use group_core::{PlainShow, State};
 use group_recovery::{NotReopened, reopen, reopen_state};
 use sector_dev::MemDevice;
@@ -12,6 +12,7 @@ use test_group_scripts::stores::{
     Contents, assert_contents, contents_of, new_store, opened, register,
 };
 use test_group_scripts::work::{Work, work_of};
+use test_support::{TestHost, assert_same};
 
 /// The state of work whose outcomes are still kept comes back.
 fn comes_back(rt: &Host<impl Abort>, alloc: Global, work: Work<MemDevice>) -> Work<MemDevice> {
@@ -28,7 +29,21 @@ fn comes_back(rt: &Host<impl Abort>, alloc: Global, work: Work<MemDevice>) -> Wo
             group,
             round,
         },
-        _ => panic!(rt.0; "its device was handed out"),
+        _ => rt.fail("its device was handed out"),
+    }
+}
+
+/// Opens a device again for which memory was refused.
+fn reopened_again(
+    rt: &Host<impl Abort>,
+    alloc: Global,
+    device: MemDevice,
+    refused: OpenError,
+) -> Store<MemDevice> {
+    assert_same(rt, &refused, &OpenError::NoMemory, &"an opening");
+    match reopen(alloc, device) {
+        Ok(store) => store,
+        Err((_device, e)) => rt.fail(format_args!("{e:?}")),
     }
 }
 
@@ -38,15 +53,10 @@ fn reopened(
     alloc: Global,
     state: State<MemDevice, PlainShow>,
 ) -> Store<MemDevice> {
-    let again = match reopen_state(alloc, state) {
-        Ok(store) => return store,
-        Err(NotReopened::Refused(device, OpenError::NoMemory)) => reopen(alloc, device),
-        Err(NotReopened::Refused(_device, e)) => panic!(rt.0; "{e:?}"),
-        Err(NotReopened::InUse(_state)) => panic!(rt.0; "an outcome is kept"),
-    };
-    match again {
+    match reopen_state(alloc, state) {
         Ok(store) => store,
-        Err((_device, e)) => panic!(rt.0; "{e:?}"),
+        Err(NotReopened::Refused(device, e)) => reopened_again(rt, alloc, device, e),
+        Err(NotReopened::InUse(_state)) => rt.fail("an outcome is kept"),
     }
 }
 

@@ -1,6 +1,6 @@
 //! The checkpointer's steps between those of the flusher, and what they do for removals.
 
-use crate::steps::host::Host;
+use crate::host::Host;
 use group_core::SubmitError;
 use path_db::{Command, Outcome};
 use sector_dev::MemDevice;
@@ -13,7 +13,7 @@ use test_group_scripts::stores::{
     Contents, assert_half, assert_opens_to, opened, register, sealed_store,
 };
 use test_group_scripts::work::{Paid, Told, Work, work_of};
-use test_support::ID;
+use test_support::{ID, assert_same};
 
 /// Makes a whole round before this step of the flusher, or after the last one.
 fn with_round(rt: &Host<impl Abort>, work: Work<MemDevice>, before: u64) -> Work<MemDevice> {
@@ -60,7 +60,8 @@ fn a_whole_round_between_two_steps(rt: HostRuntime) -> Result<(), Fail> {
 
 /// Sees of which version a store is, and whether its journal is sealed.
 fn assert_version(rt: &Host<impl Abort>, store: &Store<MemDevice>, wanted: (u32, bool)) {
-    assert_eq!(rt.0; (store.version(), store.is_sealed()), wanted);
+    let found = (store.version(), store.is_sealed());
+    assert_same(rt, &found, &wanted, &"a version and a seal");
 }
 
 /// Submits the removal of the sealed store's segment, which is answered so.

@@ -1,6 +1,6 @@
 //! States of stores of each kind.
 
-use crate::steps::host::Host;
+use crate::host::Host;
 use group_core::{StageError, SubmitError};
 use path_db::Command;
 use sector_dev::MemDevice;
@@ -14,7 +14,7 @@ use test_group_scripts::stores::{
     Contents, REGISTERED, SEAL, assert_opens_to, change, new_store, old_store, opened, register,
     segment,
 };
-use test_group_scripts::work::{Told, assert_stopped, work_of};
+use test_group_scripts::work::{Told, Work, assert_stopped, work_of};
 use test_support::assert_same;
 
 /// More calls than it takes to open a store and to make a checkpoint.
@@ -43,7 +43,7 @@ fn upgraded(
 /// A store after a checkpoint.
 fn checkpointed(rt: &Host<impl Abort>, store: Store<MemDevice>) -> Store<MemDevice> {
     let mut store = store;
-    assert_eq!(rt.0; store.checkpoint(), Ok(()));
+    assert_same(rt, &store.checkpoint(), &Ok(()), &"a checkpoint");
     store
 }
 
@@ -57,6 +57,13 @@ fn removals_are_accepted_behind_an_upgrade(rt: HostRuntime) -> Result<(), Fail> 
     Ok(())
 }
 
+/// Sees that no place is left for a command.
+fn exhausts(rt: &Host<impl Abort>, work: &mut Work<MemDevice>) {
+    for _again in 0..2 {
+        work.submits(rt, Command::Purge(0), Err(SubmitError::Exhausted));
+    }
+}
+
 #[test]
 fn place_at_maximum(rt: HostRuntime) -> Result<(), Fail> {
     let host = Host(&rt);
@@ -65,9 +72,7 @@ fn place_at_maximum(rt: HostRuntime) -> Result<(), Fail> {
     let store = opened(&host, rt.alloc(), device);
     assert_same(&host, &store.place(), &u64::MAX, &"place");
     let mut work = work_of(&host, rt.alloc(), store);
-    for _again in 0..2 {
-        work.submits(&host, Command::Purge(0), Err(SubmitError::Exhausted));
-    }
+    exhausts(&host, &mut work);
     let work = work.flushes(&host, Told::Stage(StageError::Empty));
     let _device = assert_opens_to(
         &host,
@@ -133,7 +138,8 @@ fn purge_behind_a_seal(device: &mut MemDevice) {
 
 /// Sees that the rows up to the seal have this many bytes.
 fn assert_sealed(rt: &Host<impl Abort>, store: &Store<MemDevice>, len: u64) {
-    assert_eq!(rt.0; (store.is_sealed(), store.sealed_len()), (true, len));
+    let sealed = (store.is_sealed(), store.sealed_len());
+    assert_same(rt, &sealed, &(true, len), &"the rows up to a seal");
 }
 
 #[test]
@@ -174,9 +180,18 @@ fn breaks(rt: &Host<impl Abort>, alloc: Global, store: Store<FaultDevice>) -> bo
         let _device = store.into_device();
         return false;
     }
-    assert_eq!(rt.0; answer, Err(StoreError::Fault));
+    assert_same(rt, &answer, &Err(StoreError::Fault), &"a checkpoint");
     assert_broken(rt, alloc, store);
     true
+}
+
+/// Does so for a new store of which the call of this number fails; none where opening failed
+/// already.
+fn breaks_at(rt: &Host<impl Abort>, alloc: Global, number: u64) -> Option<bool> {
+    match open(alloc, FaultDevice::new(new_store(rt, alloc), number)) {
+        Ok(store) => Some(breaks(rt, alloc, store)),
+        Err(_refused) => None,
+    }
 }
 
 #[test]
@@ -184,15 +199,12 @@ fn states_of_broken_stores_have_stopped(rt: HostRuntime) -> Result<(), Fail> {
     let host = Host(&rt);
     let mut broken = 0u64;
     for number in 0..MANY {
-        let device = FaultDevice::new(new_store(&host, rt.alloc()), number);
-        let Ok(store) = open(rt.alloc(), device) else {
-            continue;
-        };
-        if !breaks(&host, rt.alloc(), store) {
-            break;
+        match breaks_at(&host, rt.alloc(), number) {
+            None => {}
+            Some(true) => broken = broken.saturating_add(1),
+            Some(false) => break,
         }
-        broken = broken.saturating_add(1);
     }
-    assert_eq!(rt; broken, 6);
+    assert_same(&host, &broken, &6, &"failed checkpoints");
     Ok(())
 }

@@ -1,7 +1,7 @@
 //! Stops of a device within the steps of an actor, and one call that fails, at each of them in
 //! turn.
 
-use crate::steps::host::Host;
+use crate::host::Host;
 use group_core::BeginError;
 use path_db::Command;
 use sector_dev::MemDevice;
@@ -15,7 +15,7 @@ use test_group_scripts::stores::{
     Contents, TEARS, assert_opens_to, new_store, opened, opened_contents, register, sealed_store,
 };
 use test_group_scripts::work::{Paid, Told, Work, assert_stopped, assert_told, work_of};
-use test_support::assert_same;
+use test_support::{TestHost, assert_same, assert_true};
 
 /// More calls of the device than any of these stores takes to be opened and worked with.
 const MANY: u64 = 200;
@@ -30,7 +30,7 @@ fn stopped_group(
     let store = match open(alloc, device) {
         Ok(store) => store,
         Err((device, e)) => {
-            assert_eq!(rt.0; e, OpenError::Device);
+            assert_same(rt, &e, &OpenError::Device, &"an opening");
             return (None, device.into_mem());
         }
     };
@@ -136,7 +136,7 @@ fn stopped_round(
     let store = match open(alloc, device) {
         Ok(store) => store,
         Err((device, e)) => {
-            assert_eq!(rt.0; e, OpenError::Device);
+            assert_same(rt, &e, &OpenError::Device, &"an opening");
             return (None, device.into_mem());
         }
     };
@@ -166,7 +166,7 @@ fn checked(rt: &Host<impl Abort>, work: Work<FuseDevice>) -> (Work<FuseDevice>, 
 fn is_made(rt: &Host<impl Abort>, step: Told) -> bool {
     match step {
         Told::Done | Told::Ended => return true,
-        Told::Begin(e) => assert_eq!(rt.0; e, BeginError::Fault),
+        Told::Begin(e) => assert_same(rt, &e, &BeginError::Fault, &"a round"),
         _ => assert_told(rt, step, Told::Fault),
     }
     false
@@ -210,7 +210,7 @@ fn assert_round_stops(rt: &Host<impl Abort>, alloc: Global, tear: Tear) {
             continue;
         };
         // Each step after the first makes one call of the device.
-        assert!(rt.0; made <= last.saturating_add(1));
+        assert_true(rt, made <= last.saturating_add(1), "a step makes one call");
         last = made;
         if made == 7 {
             break;
@@ -237,7 +237,7 @@ fn calls_before(rt: &Host<impl Abort>, alloc: Global, steps: u64) -> u64 {
             return calls;
         }
     }
-    panic!(rt.0; "no stop there")
+    rt.fail("no stop there")
 }
 
 /// Opens a device that stops: whether it opened, and the device.
@@ -245,7 +245,7 @@ fn opened_or_not(rt: &Host<impl Abort>, alloc: Global, fuse: FuseDevice) -> (boo
     match open(alloc, fuse) {
         Ok(store) => (true, store.into_device()),
         Err((device, e)) => {
-            assert_eq!(rt.0; e, OpenError::Device);
+            assert_same(rt, &e, &OpenError::Device, &"an opening");
             (false, device)
         }
     }
@@ -275,7 +275,7 @@ fn assert_recovered(rt: &Host<impl Abort>, alloc: Global, closing: u64, tear: Te
             return;
         }
     }
-    panic!(rt.0; "never done")
+    rt.fail("never done")
 }
 
 #[test]
@@ -298,7 +298,7 @@ fn failed(rt: &Host<impl Abort>, alloc: Global, number: u64) -> Option<(u64, Wor
     let store = match open(alloc, FaultDevice::new(sealed_store(rt, alloc, 2), number)) {
         Ok(store) => store,
         Err((_device, e)) => {
-            assert_eq!(rt.0; e, OpenError::Device);
+            assert_same(rt, &e, &OpenError::Device, &"an opening");
             return None;
         }
     };
@@ -330,7 +330,7 @@ fn step_behind(
 fn has_failed(rt: &Host<impl Abort>, made: u64, step: Told) -> bool {
     match (made, step) {
         (5 | 12 | 18, Told::Ended) | (_, Told::Done) => return false,
-        (6, Told::Begin(e)) => assert_eq!(rt.0; e, BeginError::Fault),
+        (6, Told::Begin(e)) => assert_same(rt, &e, &BeginError::Fault, &made),
         _ => assert_same(rt, &step, &Told::Fault, &made),
     }
     true
@@ -379,6 +379,15 @@ fn assert_left(rt: &Host<impl Abort>, alloc: Global, made: u64, work: Work<Fault
     false
 }
 
+/// Sees after how many steps the call of this number failed, where the one before it failed after
+/// `last` steps.
+fn assert_next(rt: &Host<impl Abort>, number: u64, last: u64, made: u64) {
+    // Beginning a round makes several calls.
+    if (made, last) != (6, 6) {
+        assert_same(rt, &made, &next_call(last), &number);
+    }
+}
+
 #[test]
 fn each_failed_call_stops(rt: HostRuntime) -> Result<(), Fail> {
     let host = Host(&rt);
@@ -387,10 +396,7 @@ fn each_failed_call_stops(rt: HostRuntime) -> Result<(), Fail> {
         let Some((made, work)) = failed(&host, rt.alloc(), number) else {
             continue;
         };
-        // Beginning a round makes several calls.
-        if (made, last) != (6, 6) {
-            assert_same(&host, &made, &next_call(last), &number);
-        }
+        assert_next(&host, number, last, made);
         last = made;
         if !assert_left(&host, rt.alloc(), made, work) {
             break;

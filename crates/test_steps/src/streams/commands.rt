@@ -113,14 +113,27 @@ pub fn add(rt: &impl TestHost, commands: &mut Vec<Command>, command: Command) {
     }
 }
 
+/// Appends the registration of the block of this number of the segments of some numbers, sixteen in
+/// each block.
+fn add_block(
+    rt: &impl TestHost,
+    alloc: Global,
+    commands: &mut Vec<Command>,
+    (from, count): (u16, u16),
+    block: u16,
+    salt: u16,
+) {
+    let done = block.saturating_mul(MOST);
+    let many = count.saturating_sub(done).min(MOST);
+    let command = register(rt, alloc, from.saturating_add(done), many, salt);
+    add(rt, commands, command);
+}
+
 /// The commands that register the segments of this many numbers from one on, sixteen in each.
 pub fn registrations(rt: &impl TestHost, alloc: Global, from: u16, count: u16) -> Vec<Command> {
     let mut commands = room(rt, alloc, 200);
     for block in 0..count.div_ceil(MOST) {
-        let done = block.saturating_mul(MOST);
-        let many = count.saturating_sub(done).min(MOST);
-        let command = register(rt, alloc, from.saturating_add(done), many, 0);
-        add(rt, &mut commands, command);
+        add_block(rt, alloc, &mut commands, (from, count), block, 0);
     }
     commands
 }
@@ -150,11 +163,8 @@ fn removal_of_last(rt: &impl TestHost, commands: &[Command]) -> Command {
 pub fn mixed(rt: &impl TestHost, alloc: Global, from: u16, count: u16) -> Vec<Command> {
     let mut commands = room(rt, alloc, 400);
     for block in 0..count.div_ceil(MOST) {
-        let done = block.saturating_mul(MOST);
-        let many = count.saturating_sub(done).min(MOST);
         let salt = (block % 7).saturating_mul(37);
-        let command = register(rt, alloc, from.saturating_add(done), many, salt);
-        add(rt, &mut commands, command);
+        add_block(rt, alloc, &mut commands, (from, count), block, salt);
         add_between(rt, &mut commands, block);
     }
     commands

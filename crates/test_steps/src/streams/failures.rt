@@ -1,7 +1,7 @@
 //! Calls of the device that fail while a checkpoint of several pieces is begun and written, each of
 //! them in turn.
 
-use crate::streams::host::Host;
+use crate::host::Host;
 use crate::streams::large_rows::{LARGE_CONTENTS, large_half};
 use group_core::{BeginError, Prepared};
 use sector_dev::MemDevice;
@@ -41,19 +41,21 @@ fn failed_at(
     is_prepared: bool,
 ) -> (Failed, MemDevice) {
     match open(alloc, FaultDevice::new(device, number)) {
-        Ok(store) => {
-            let work = work_of(rt, alloc, store);
-            if is_prepared {
-                prepared(rt, work)
-            } else {
-                begun(rt, work)
-            }
-        }
+        Ok(store) => made(rt, work_of(rt, alloc, store), is_prepared),
         Err((device, e)) => {
             assert_same(rt, &e, &OpenError::Device, &number);
             (Failed::Opening, device.into_mem())
         }
     }
+}
+
+/// Begins a checkpoint, after all pieces of it or none are prepared, and writes it up to its last
+/// sector.
+fn made(rt: &Host<impl Abort>, work: Work<FaultDevice>, is_prepared: bool) -> (Failed, MemDevice) {
+    if is_prepared {
+        return prepared(rt, work);
+    }
+    begun(rt, work)
 }
 
 /// Prepares all pieces of a checkpoint, begins it, and writes it up to its last sector.
@@ -118,28 +120,56 @@ struct Calls {
     chunks: u64,
 }
 
-/// How many calls fail in turn. Each time the device opens to the same.
+/// None fails.
+const NONE: Calls = Calls {
+    prepares: 0,
+    begins: 0,
+    chunks: 0,
+};
+
+impl Calls {
+    /// These calls, with one more that failed.
+    fn with(self, failed: Failed) -> Calls {
+        match failed {
+            Failed::Prepare => Calls {
+                prepares: self.prepares.saturating_add(1),
+                ..self
+            },
+            Failed::Begin => Calls {
+                begins: self.begins.saturating_add(1),
+                ..self
+            },
+            Failed::Chunk => Calls {
+                chunks: self.chunks.saturating_add(1),
+                ..self
+            },
+            Failed::Opening | Failed::None => self,
+        }
+    }
+}
+
+/// Has the call of this number fail: where it did, and the device, which opens to the same.
+fn failed_alike(
+    rt: &Host<impl Abort>,
+    alloc: Global,
+    device: MemDevice,
+    number: u64,
+    is_prepared: bool,
+) -> (Failed, MemDevice) {
+    let (failed, device) = failed_at(rt, alloc, device, number, is_prepared);
+    (failed, assert_opens_to(rt, alloc, device, LARGE_CONTENTS))
+}
+
+/// How many calls fail in turn.
 fn failures(rt: &Host<impl Abort>, alloc: Global, device: MemDevice, is_prepared: bool) -> Calls {
     let mut device = device;
-    let mut prepares = 0u64;
-    let mut begins = 0u64;
-    let mut chunks = 0u64;
+    let mut calls = NONE;
     for number in 0..MANY {
         let failed;
-        (failed, device) = failed_at(rt, alloc, device, number, is_prepared);
-        device = assert_opens_to(rt, alloc, device, LARGE_CONTENTS);
-        match failed {
-            Failed::Opening => {}
-            Failed::Prepare => prepares = prepares.saturating_add(1),
-            Failed::Begin => begins = begins.saturating_add(1),
-            Failed::Chunk => chunks = chunks.saturating_add(1),
-            Failed::None => {
-                return Calls {
-                    prepares,
-                    begins,
-                    chunks,
-                };
-            }
+        (failed, device) = failed_alike(rt, alloc, device, number, is_prepared);
+        calls = calls.with(failed);
+        if matches!(failed, Failed::None) {
+            return calls;
         }
     }
     rt.fail("the calls make no end")

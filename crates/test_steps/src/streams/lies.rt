@@ -1,17 +1,17 @@
 //! A device of which one read lies once a checkpoint is begun: the lie is noticed, and no byte of
 //! it is written.
 
-use crate::streams::host::Host;
+use crate::host::Host;
 use crate::streams::large_rows::{LARGE_CONTENTS, large_half};
 use crate::streams::sealed::{SECTORS, sectors_from};
 use crate::streams::watched::{Change, Watched};
-use group_core::{BeginError, StepError};
+use group_core::{BeginError, Plan, StepError};
 use sector_dev::{MemDevice, SECTOR};
 use std::alloc::Global;
 use std::process::Abort;
 use std::test::Fail;
-use test_group_scripts::stores::{opened, opened_contents};
-use test_group_scripts::work::{Told, work_of};
+use test_group_scripts::stores::{assert_opens_to, opened};
+use test_group_scripts::work::{Told, Work, work_of};
 use test_support::{TestHost, assert_same};
 
 /// What changes a device that lies, of a round over the half of large rows, of which 213,089 bytes
@@ -35,15 +35,16 @@ fn reads_of_begin(rt: &Host<impl Abort>, alloc: Global) -> u64 {
     reads
 }
 
-/// The bytes of a store after a checkpoint was begun over a device whose next read lies: the first
-/// chunk is written, what is read after it is refused, and the state has stopped. The store opens
-/// to the rows of its old half.
-fn bytes_after_a_lie(rt: &Host<impl Abort>, alloc: Global, honest: u64) -> Vec<u8> {
-    let store = opened(rt, alloc, watched(rt, alloc, honest));
-    let mut work = work_of(rt, alloc, store);
-    let Ok(plan) = work.state.begin() else {
-        rt.fail("no checkpoint was begun");
-    };
+/// A checkpoint that is begun.
+fn plan_of(rt: &Host<impl Abort>, work: &mut Work<Watched<MemDevice>>) -> Plan {
+    match work.state.begin() {
+        Ok(plan) => plan,
+        Err(_refused) => rt.fail("no checkpoint was begun"),
+    }
+}
+
+/// Sees that what is read after the first chunk is refused, and that the state has stopped.
+fn assert_damaged(rt: &Host<impl Abort>, work: &mut Work<Watched<MemDevice>>, plan: Plan) {
     match work.state.write_chunk(plan) {
         Err(StepError::Damaged) => {}
         _ => rt.fail("the lie was not noticed"),
@@ -52,11 +53,30 @@ fn bytes_after_a_lie(rt: &Host<impl Abort>, alloc: Global, honest: u64) -> Vec<u
         Err(BeginError::Stopped) => {}
         _ => rt.fail("the state goes on"),
     }
-    let (changes, memory) = work.device(rt).into_parts();
-    assert!(rt.0; changes.ends_with(&CHANGES), "{changes:?}");
-    let (contents, mut memory) = opened_contents(rt, alloc, memory);
-    assert_same(rt, &contents, &LARGE_CONTENTS, &"the old half");
+}
+
+/// Sees that the first chunk is written, and nothing after it.
+fn assert_changes(rt: &Host<impl Abort>, changes: &[Change]) {
+    assert_same(rt, &changes.ends_with(&CHANGES), &true, &changes);
+}
+
+/// The bytes of a device that opens to the rows of the old half.
+fn bytes_of(rt: &Host<impl Abort>, alloc: Global, memory: MemDevice) -> Vec<u8> {
+    let mut memory = assert_opens_to(rt, alloc, memory, LARGE_CONTENTS);
     sectors_from(rt, alloc, &mut memory, 0, SECTORS as usize)
+}
+
+/// The bytes of a store after a checkpoint was begun over a device whose next read lies: the first
+/// chunk is written, what is read after it is refused, and the state has stopped. The store opens
+/// to the rows of its old half.
+fn bytes_after_a_lie(rt: &Host<impl Abort>, alloc: Global, honest: u64) -> Vec<u8> {
+    let store = opened(rt, alloc, watched(rt, alloc, honest));
+    let mut work = work_of(rt, alloc, store);
+    let plan = plan_of(rt, &mut work);
+    assert_damaged(rt, &mut work, plan);
+    let (changes, memory) = work.device(rt).into_parts();
+    assert_changes(rt, &changes);
+    bytes_of(rt, alloc, memory)
 }
 
 /// Sectors of a device, and whether they are other ones after a lie.
@@ -87,15 +107,25 @@ const SECTORS_THAT_DIFFER: [Span; 3] = [
     Span { from: 1958, count: 1445, differ: false },
 ];
 
+/// Sees which sectors differ.
+fn assert_spans(rt: &Host<impl Abort>, before: &[u8], lied: &[u8]) {
+    for span in SECTORS_THAT_DIFFER {
+        assert_differ(rt, before, lied, span);
+    }
+}
+
+/// The bytes of the half of large rows before any checkpoint.
+fn bytes_before(rt: &Host<impl Abort>, alloc: Global) -> Vec<u8> {
+    let mut memory = large_half(rt, alloc);
+    sectors_from(rt, alloc, &mut memory, 0, SECTORS as usize)
+}
+
 #[test]
 fn lies_are_noticed(rt: HostRuntime) -> Result<(), Fail> {
     let host = Host(&rt);
     let reads = reads_of_begin(&host, rt.alloc());
     let lied = bytes_after_a_lie(&host, rt.alloc(), reads);
-    let mut before = large_half(&host, rt.alloc());
-    let before = sectors_from(&host, rt.alloc(), &mut before, 0, SECTORS as usize);
-    for span in SECTORS_THAT_DIFFER {
-        assert_differ(&host, &before, &lied, span);
-    }
+    let before = bytes_before(&host, rt.alloc());
+    assert_spans(&host, &before, &lied);
     Ok(())
 }

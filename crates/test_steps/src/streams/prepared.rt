@@ -1,6 +1,6 @@
 //! Checkpoints of which none, some or all pieces are prepared before they are begun.
 
-use crate::streams::host::Host;
+use crate::host::Host;
 use crate::streams::large_rows::large_half;
 use crate::streams::rounds::whole_round;
 use crate::streams::sealed::{SECTORS, sectors_from};
@@ -59,14 +59,19 @@ fn round_after(rt: &Host<impl Abort>, alloc: Global, count: usize) -> Vec<u8> {
     sectors_from(rt, alloc, &mut memory, 0, SECTORS as usize)
 }
 
+/// Sees that these bytes are there then.
+fn assert_after(rt: &Host<impl Abort>, alloc: Global, count: usize, wanted: &[u8]) {
+    let made = round_after(rt, alloc, count);
+    assert_same(rt, &(made.as_slice() == wanted), &true, &count);
+}
+
 #[test]
 fn any_pieces_make_the_same(rt: HostRuntime) -> Result<(), Fail> {
     let host = Host(&rt);
     let alloc = rt.alloc();
     let wanted = round_after(&host, alloc, 0);
     for count in 1..=pieces(&host, alloc) {
-        let made = round_after(&host, alloc, count);
-        assert_same(&host, &(made == wanted), &true, &count);
+        assert_after(&host, alloc, count, &wanted);
     }
     Ok(())
 }
@@ -80,14 +85,7 @@ fn commit_between(rt: &Host<impl Abort>, work: Work<MemDevice>, count: usize) ->
         if step < count {
             let _whole = is_prepared(rt, &mut work);
         }
-        let told;
-        (work, told) = work.flush(rt);
-        assert_same(
-            rt,
-            &told,
-            if step < 5 { &Told::Done } else { &Told::Ended },
-            &step,
-        );
+        work = work.flushes(rt, if step < 5 { Told::Done } else { Told::Ended });
     }
     work.redeems_all(rt, 1);
     work
@@ -102,14 +100,19 @@ fn round_between(rt: &Host<impl Abort>, alloc: Global, count: usize) -> Vec<u8> 
     sectors_from(rt, alloc, &mut memory, 0, SECTORS as usize)
 }
 
+/// Sees that these bytes are there then.
+fn assert_between(rt: &Host<impl Abort>, alloc: Global, count: usize, wanted: &[u8]) {
+    let made = round_between(rt, alloc, count);
+    assert_same(rt, &(made.as_slice() == wanted), &true, &count);
+}
+
 #[test]
 fn a_group_is_committed_between_pieces(rt: HostRuntime) -> Result<(), Fail> {
     let host = Host(&rt);
     let alloc = rt.alloc();
     let wanted = round_between(&host, alloc, 0);
     for count in 1..=6 {
-        let made = round_between(&host, alloc, count);
-        assert_same(&host, &(made == wanted), &true, &count);
+        assert_between(&host, alloc, count, &wanted);
     }
     Ok(())
 }

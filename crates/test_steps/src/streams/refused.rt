@@ -2,8 +2,8 @@
 //! `begin` is refused, nothing has changed, and the same call succeeds when it is made again, with
 //! the same bytes.
 
+use crate::host::Host;
 use crate::streams::commands::{add, fold, moment, register, registrations, removal_of};
-use crate::streams::host::Host;
 use crate::streams::rounds::{assert_area, assert_opens, whole_round};
 use crate::streams::sealed::sealed_half;
 use crate::streams::watched::Watched;
@@ -73,6 +73,13 @@ fn begin_again(rt: &Host<impl Abort>, work: Work<Watched<MemDevice>>) -> Work<Wa
 /// More pieces than a half here has, and one that is begun anew.
 const PIECES: usize = 20;
 
+/// Prepares all pieces.
+fn prepare_all(rt: &Host<impl Abort>, work: &mut Work<Watched<MemDevice>>) {
+    let mut pieces = 0..PIECES;
+    let is_whole = pieces.any(|_| prepare_again(rt, work));
+    assert_true(rt, is_whole, "the pieces end");
+}
+
 /// Makes a round over a sealed half, of which all pieces are prepared or none, where memory may be
 /// refused once: the device.
 fn round_over(
@@ -84,12 +91,7 @@ fn round_over(
     let watched = Watched::over(rt, alloc, device, u64::MAX);
     let mut work = work_of(rt, alloc, opened(rt, alloc, watched));
     if is_prepared {
-        let mut pieces = 0..PIECES;
-        assert_true(
-            rt,
-            pieces.any(|_| prepare_again(rt, &mut work)),
-            "the pieces end",
-        );
+        prepare_all(rt, &mut work);
     }
     let work = whole_round(rt, begin_again(rt, work));
     let (_changes, memory) = work.device(rt).into_parts();

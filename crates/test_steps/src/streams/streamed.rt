@@ -1,7 +1,7 @@
 //! The bytes of checkpoints that are made while they are written.
 
+use crate::host::Host;
 use crate::streams::commands::{add, fold, mixed, registrations, removal_of, room};
-use crate::streams::host::Host;
 use crate::streams::large_rows::{LARGE_CONTENTS, large_commands, large_olds};
 use crate::streams::rounds::{assert_area, assert_opens, whole_round};
 use crate::streams::sealed::sealed_half;
@@ -78,16 +78,32 @@ fn removals_of(rt: &Host<impl Abort>, alloc: Global, olds: &[Command]) -> Vec<Co
     commands
 }
 
+/// Sees that a purge of all rows leaves none of these.
+fn assert_purged(rt: &Host<impl Abort>, alloc: Global, olds: &[Command]) {
+    let purge = [Command::Purge(u64::MAX)];
+    assert_streamed(rt, alloc, olds, &purge, (0, 0));
+}
+
+/// Sees that the removals of all of them leave none.
+fn assert_removed(rt: &Host<impl Abort>, alloc: Global, olds: &[Command]) {
+    let removals = removals_of(rt, alloc, olds);
+    assert_streamed(rt, alloc, olds, &removals, (0, 0));
+}
+
 #[test]
 fn none_over_few(rt: HostRuntime) -> Result<(), Fail> {
     let host = Host(&rt);
-    let olds = registrations(&host, rt.alloc(), 1000, 20);
-    let purge = [Command::Purge(u64::MAX)];
-    assert_streamed(&host, rt.alloc(), &olds, &purge, (0, 0));
-    let one = registrations(&host, rt.alloc(), 1000, 1);
-    let removals = removals_of(&host, rt.alloc(), &one);
-    assert_streamed(&host, rt.alloc(), &one, &removals, (0, 0));
-    assert_streamed(&host, rt.alloc(), &[], &purge, (0, 0));
+    assert_purged(
+        &host,
+        rt.alloc(),
+        &registrations(&host, rt.alloc(), 1000, 20),
+    );
+    assert_removed(
+        &host,
+        rt.alloc(),
+        &registrations(&host, rt.alloc(), 1000, 1),
+    );
+    assert_purged(&host, rt.alloc(), &[]);
     Ok(())
 }
 
