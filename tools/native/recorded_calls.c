@@ -13,6 +13,7 @@
 // a journal alone), `chunks` (a checkpoint area), `half` (the gate of a half), `close` (the two gates
 // of a half). Every second sync of that kind isn't made, and the program isn't told.
 // CHECKPOINT and JOURNAL are the sizes of the store's parts in sectors, by which a write is judged.
+// Where PURGES_ALONE is set, only 'W' is written, and only of a write with the record of a purge.
 // tools/pathd_tools/recording.py uses it.
 #define _GNU_SOURCE
 #include <dlfcn.h>
@@ -28,14 +29,21 @@
 
 enum { SECTOR = 512, OPEN = 0xa7 };
 
+// How a purge begins in a journal, with its length before it.
+static const unsigned char PURGE[] = {0, 0, 0, 9, 2};
+
 static pthread_mutex_t lock = PTHREAD_MUTEX_INITIALIZER;
 static int file = -2;
 static __thread char last_kind[8] = "";
 static long syncs_of_kind;
 
+static int is_left_out(char letter, const void *bytes, size_t len) {
+  return getenv("PURGES_ALONE") && (letter != 'W' || !memmem(bytes, len, PURGE, sizeof PURGE));
+}
+
 static void put(char letter, int fd, off_t offset, const void *bytes, size_t len) {
   const char *path = getenv("RECORD");
-  if (!path) return;
+  if (!path || is_left_out(letter, bytes, len)) return;
   unsigned char head[21];
   uint32_t thread = (uint32_t)syscall(SYS_gettid), length = (uint32_t)len;
   int32_t of = fd;

@@ -8,12 +8,12 @@
 //     length    ftruncate
 //     accept    accept4
 //     clone     fcntl that duplicates a descriptor
-//     fstat     statx and lseek, by which a program learns of a file and its length
+//     fstat     statx of a descriptor and lseek, by which a program learns of a file and its length
 //     thread    pthread_create
 //     receive   recv
 //     send      send
-//     setting   open, flock, ioctl, fchmod, posix_fadvise, socket, bind, listen, getsockname,
-//               setsockopt
+//     setting   open, statx of a path, flock, ioctl, fchmod, posix_fadvise, socket, bind, listen,
+//               getsockname, setsockopt
 //
 // How it fails, by REFUSED_HOW: by the name of an error, as `EIO`; `part` (half of the bytes are
 // moved), `one` (one byte is moved), `torn` (half of the bytes are moved, and the call says EIO),
@@ -170,7 +170,7 @@ int fcntl(int fd, int command, ...) {
 }
 
 int statx(int fd, const char *path, int flags, unsigned mask, struct statx *found) {
-  return fails(FSTAT) ? failed() : (int)syscall(SYS_statx, fd, path, flags, mask, found);
+  return fails(path && *path ? SETTING : FSTAT) ? failed() : (int)syscall(SYS_statx, fd, path, flags, mask, found);
 }
 
 off_t lseek(int fd, off_t offset, int whence) { return fails(FSTAT) ? failed() : syscall(SYS_lseek, fd, offset, whence); }

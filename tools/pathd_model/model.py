@@ -17,7 +17,7 @@ from functools import lru_cache
 UP, DOWN, CORE = 1, 2, 3
 TYPE_NAMES = {UP: "up", DOWN: "down", CORE: "core"}
 
-REGISTER, LOOKUP, PURGE, REMOVE = 1, 2, 3, 4
+REGISTER, LOOKUP, PURGE, REMOVE, LIST = 1, 2, 3, 4, 5
 REFUSED = 0xFF
 MOST_FOUND = 64
 
@@ -157,13 +157,23 @@ def classify(cores: set[int], source: int, destination: int) -> tuple[int, int, 
     return (UP, destination, source) if to_core else (DOWN, source, destination)
 
 
-def matching(db: dict, query: tuple[int, int, int], now: int = 0) -> list[bytes]:
-    """The segments that a query finds."""
+def matching_keys(db: dict, query: tuple[int, int, int], now: int = 0) -> list[tuple[int, bytes]]:
+    """The keys of the rows that match a query and are valid, in order."""
     kind, start, end = query
-    keys = sorted(
+    return sorted(
         key for key, row in db.items() if key[0] == kind and covers(start, row.first) and covers(end, row.last) and row.expiry > now
     )
-    return [db[key].segment for key in keys[:MOST_FOUND]]
+
+
+def matching(db: dict, query: tuple[int, int, int], now: int = 0) -> list[bytes]:
+    """The segments that a query finds."""
+    return [db[key].segment for key in matching_keys(db, query, now)[:MOST_FOUND]]
+
+
+def page(db: dict, query: tuple[int, int, int], after: bytes = b"", now: int = 0) -> tuple[list[bytes], bool]:
+    """The segments of a page after an id, or of the first page, and whether more follow."""
+    keys = [key for key in matching_keys(db, query, now) if not after or key > (query[0], after)]
+    return [db[key].segment for key in keys[:MOST_FOUND]], len(keys) > MOST_FOUND
 
 
 def found_body(kind: int, segments: list[bytes]) -> bytes:
@@ -172,6 +182,11 @@ def found_body(kind: int, segments: list[bytes]) -> bytes:
         return b""
     listed = b"".join(bytes_field(1, segment) for segment in segments)
     return bytes_field(1, number_field(1, kind) + bytes_field(2, listed))
+
+
+def listed_body(kind: int, segments: list[bytes], is_more: bool) -> bytes:
+    """The body of a list's reply."""
+    return bytes([is_more]) + found_body(kind, segments)
 
 
 def isd_as_text(number: int) -> str:
@@ -195,7 +210,7 @@ def show_text(db: dict, place: int) -> bytes:
 
 
 def command_of(content: bytes) -> tuple:
-    """The command of a request's frame, which is in order and no lookup's."""
+    """The command of a request's frame, which is in order and no lookup's or list's."""
     kind, body = content[0], content[1:]
     if kind == PURGE:
         return ("purge", int.from_bytes(body, "big"))
@@ -212,6 +227,12 @@ def lookup_of(content: bytes) -> tuple[int, int]:
     """The source and the destination of a lookup's frame."""
     fields = dict(read_fields(content[1:]))
     return fields.get(1, 0), fields.get(2, 0)
+
+
+def list_of(content: bytes) -> tuple[int, int, int, bytes]:
+    """The type, the start, the end and the id of a list's frame, whose length is right; without an id it is empty."""
+    kind, start, end = struct.unpack_from(">BQQ", content, 1)
+    return kind, start, end, content[18:]
 
 
 # Stores

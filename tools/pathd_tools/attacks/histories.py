@@ -2,20 +2,28 @@
 of the commands explains all of it.
 
     tools/pathd-tools histories [--program PROGRAM] [--seed N] [--replies N] [--for MINUTES] [--kills N] [--sessions N] [--ahead N]
+                                [--journal SECTORS]
 
-Sessions over TCP, a process each, send random registrations, removals, purges and lookups, some of
-them several at once: 1 to 128, or as many as --ahead says at the most. The server is killed (-9) while they do, and started again on the same file, N
-times. The order is that of the places. It is shown that
+Sessions over TCP, a process each, send random registrations, removals, purges, lookups and lists,
+some of them several at once: 1 to 128, or as many as --ahead says at the most. Every fourth session
+is one of the listener for lookups, and each second the server purges by itself the rows that have
+expired meanwhile. The server is killed (-9) while they do, and started again on the same file, N
+times. With --journal the journals of its store have so many sectors, at least 516: the fewer there
+are, the more checkpoints are made. The order is that of the places. It is shown that
 
 - each place up to the one at which the store opens again is that of one command; the commands
   without a reply are read from the journal, and were sent; where a checkpoint has one already, some
-  command that was sent makes that checkpoint's rows;
+  command that was sent makes that checkpoint's rows; the server's own purges are those that a
+  preloaded library (tools/native/recorded_calls.c) has seen written, and their moments rise and lie
+  within the run;
+- the sessions of the listener for lookups are refused each command; of the other commands those are
+  refused that register a row once it has expired;
 - each acknowledgement has the counts that the fold of all commands before it gives;
 - within a session places rise, and a command that was acknowledged before another was sent has the
   smaller place;
-- each lookup is the answer after a front of the commands, which is at least as long as what its
-  session's last acknowledgement and last lookup showed, and has no command that was sent only after
-  the lookup's reply had come;
+- each lookup and each page is the answer after a front of the commands, which is at least as long
+  as what its session's last acknowledgement and last lookup showed, and has no command that was
+  sent only after the lookup's reply had come;
 - what `show` prints after each kill is the fold of all commands.
 
 That the checker sees faults is tried on the first round, by altering a reply. Beyond what is
@@ -24,8 +32,8 @@ to anybody before the lookup was sent.
 
 With --for all of it is repeated with the next seed until so many minutes have passed.
 
-It needs Python 3, and the loopback. It ends with the status 1 where something doesn't hold, and
-prints the first ones.
+It needs Python 3 and gcc, and the loopback. It ends with the status 1 where something doesn't hold,
+and prints the first ones.
 """
 from __future__ import annotations
 
@@ -45,9 +53,17 @@ from pathlib import Path
 
 from pathd_model import model
 from pathd_tools import messages, runs, toolbox
+from pathd_tools.recording import events_of, own_purges
 
-KEYS = 60
+# More than a page of each type.
+KEYS = 240
 POOL = 20_000
+# For each second there are so many commands about rows that expire then, for so many seconds.
+EACH_SECOND, SECONDS_OF_POOL = 16, 900
+# Every so many sessions one is of the listener for lookups, and how it refuses a command.
+FOR_LOOKUPS = 4
+NOT_HERE, EXPIRED = b"\x64", b"\x32"
+WORDS = ["--purge", "1", "--lookups", "127.0.0.1:0"]
 LAYOUT = model.Layout(64, 4096)
 # When it was sent, when its reply came, the request, the reply's first byte or 0, and what is left
 # of the reply.
@@ -56,13 +72,15 @@ NEVER = (1 << 64) - 1
 # How many choices of the commands without a reply are tried.
 MOST_TRIES = 1000
 LOOKUPS = 1 << 31
+# The first bytes of the replies to lookups and to lists, and to commands.
+LOOKS, ACKS = (0x82, 0x85), (0x81, 0x83, 0x84)
 # How long a session waits after a refusal, which a stopped store gives at once.
 AFTER_REFUSAL = 0.05
 
 
 @dataclass(frozen=True)
 class Asked:
-    """A request with its reply: a command of the pool by its number, or a lookup from LOOKUPS on."""
+    """A request with its reply: a command of the pool by its number, or a lookup or a page from LOOKUPS on."""
 
     sent: int
     received: int
@@ -71,32 +89,42 @@ class Asked:
     reply: bytes
 
 
-def make_pool(seed: int) -> list[tuple]:
-    """The commands that sessions choose from."""
+def make_pool(seed: int, begun: int) -> list[tuple]:
+    """The commands that sessions choose from, and then those of each second from a moment on."""
     commands = runs.Commands(f"{seed}/pool", KEYS)
-    return [commands.next(0.2, 0.01) for _ in range(POOL)]
+    pool = [commands.next(0.2, 0.01) for _ in range(POOL)]
+    return pool + [runs.fading(commands.random, begun + it // EACH_SECOND) for it in range(EACH_SECOND * SECONDS_OF_POOL)]
+
+
+def next_number(chance: random.Random, begun: int) -> int:
+    """The number of a command of the pool, which may be about a row that expires in some seconds."""
+    seconds = int(time.time()) - begun + chance.randint(*runs.FADES_AFTER)
+    if chance.random() < 0.1 and seconds < SECONDS_OF_POOL:
+        return POOL + EACH_SECOND * seconds + chance.randrange(EACH_SECOND)
+    return chance.randrange(POOL)
 
 
 # A session's process
 
 
 def hold_session(
-    connection: socket.socket, seed: str, frames: list[bytes], asking: list[bytes], counts: object, number: int, ahead: int, path: Path
+    connection: socket.socket, seed: str, frames: list[bytes], asking: list[bytes], counts: object, number: int, options: argparse.Namespace, path: Path
 ) -> None:
     """Sends requests until the server is gone, and writes what was asked and answered to a file."""
     chance = random.Random(seed)
     records = bytearray()
     replies = runs.Replies(connection)
-    most = runs.greatest_window(number, ahead)
+    most = runs.greatest_window(number, options.ahead)
+    share = 0.95 if is_for_lookups(number, options.for_lookups) else 0.5
     window: list[tuple[int, int]] = []
     try:
         while True:
             window = []
             for _ in range(runs.next_window(chance, most)):
-                if chance.random() < 0.5:
+                if chance.random() < share:
                     window.append((LOOKUPS + chance.randrange(len(asking)), 0))
                 else:
-                    window.append((chance.randrange(POOL), 0))
+                    window.append((next_number(chance, options.begun), 0))
             data = b"".join(asking[it - LOOKUPS] if it >= LOOKUPS else frames[it] for it, _ in window)
             sent = time.monotonic_ns()
             window = [(it, sent) for it, _ in window]
@@ -105,10 +133,10 @@ def hold_session(
                 content = replies.next()
                 received = time.monotonic_ns()
                 request, sent = window.pop(0)
-                rest = runs.digest(content[1:]) if content[0] == 0x82 else content[1:]
+                rest = runs.digest(content) if content[0] in LOOKS else content[1:]
                 records += RECORD.pack(sent, received, request, content[0], rest)
                 counts[number] += 1
-                if content[0] == model.REFUSED:
+                if content[0] == model.REFUSED and rest not in (NOT_HERE, EXPIRED):
                     time.sleep(AFTER_REFUSAL)
     except OSError:
         for request, sent in window:
@@ -116,14 +144,34 @@ def hold_session(
     path.write_bytes(records)
 
 
+def is_for_lookups(number: int, every: int) -> bool:
+    """Whether the session of a number is one of the listener for lookups, as every so many are; none is where that is 0."""
+    return every > 0 and number % every == every - 1
+
+
 # Checking
 
 
-class Checker:
-    """Folds the commands of one round after the other, and compares what was answered."""
+@dataclass(frozen=True)
+class Round:
+    """What a round left: what its sessions asked, the server's own purges by their places, the file after the kill, what `show`
+    prints of it, and when it began and ended."""
 
-    def __init__(self, pool: list[tuple]) -> None:
+    sessions: list[list[Asked]]
+    own: dict[int, tuple]
+    image: bytes
+    printed: tuple[int, bytes, bytes]
+    begun: float
+    ended: float
+
+
+class Checker:
+    """Folds the commands of one round after the other, and compares what was answered. Every so many sessions one is of the
+    listener for lookups; none is where that is 0."""
+
+    def __init__(self, pool: list[tuple], for_lookups: int = FOR_LOOKUPS) -> None:
         self.pool = pool
+        self.for_lookups = for_lookups
         self.db: dict = {}
         self.place = 0
         self.faults: list[str] = []
@@ -133,16 +181,19 @@ class Checker:
         """Notes what doesn't hold."""
         self.faults.append(text)
 
-    def check(self, sessions: list[list[Asked]], image: bytes, printed: tuple[int, bytes, bytes]) -> None:
-        """Judges a round: what its sessions asked, the file after the kill, and what `show` prints of it."""
-        start = self.place
-        opened = model.open_image(image)
+    def check(self, ended: Round) -> None:
+        """Judges a round."""
+        sessions, start = ended.sessions, self.place
+        opened = model.open_image(ended.image)
         end = opened.place + len(opened.commands)
         placed = self._placed(sessions)
-        commands, sent, received = self._order(sessions, placed, opened, start, end)
+        # One that was written when the server was killed may be in no journal.
+        own = {place: command for place, command in ended.own.items() if place < end}
+        self._check_own(own, placed, ended)
+        commands, sent, received = self._order(sessions, placed, own, opened, start, end)
         if commands is None:
             return
-        answers = runs.Answers(runs.QUERIES, self.db)
+        answers = runs.Answers(runs.ASKED, self.db)
         for command in commands:
             answers.add(command)
         for place, asked in placed.items():
@@ -151,41 +202,65 @@ class Checker:
         self._check_times(sent, received, start)
         self._check_lookups(sessions, answers, sent, received, start)
         self.db, self.place = answers.db, end
-        if printed != (0, model.show_text(self.db, end), b""):
-            self.fault(f"after place {end} `show` prints something else: {printed[2].decode(errors='replace')}")
+        if ended.printed != (0, model.show_text(self.db, end), b""):
+            self.fault(f"after place {end} `show` prints something else: {ended.printed[2].decode(errors='replace')}")
+
+    def _check_own(self, own: dict[int, tuple], placed: dict[int, Asked], ended: Round) -> None:
+        moments = [own[place][1] for place in sorted(own)]
+        self.counts["own purges"] += len(moments)
+        if moments != sorted(moments) or any(not int(2 * ended.begun) <= moment <= 2 * ended.ended for moment in moments):
+            self.fault(f"the server's own purges are by {moments}, from {ended.begun} to {ended.ended}")
+        for place in own:
+            if place < self.place or place in placed:
+                self.fault(f"a purge of the server's own has the place {place}, which was given before")
 
     def _placed(self, sessions: list[list[Asked]]) -> dict[int, Asked]:
         placed: dict[int, Asked] = {}
-        for asked in (it for session in sessions for it in session):
+        for number, asked in ((number, it) for number, session in enumerate(sessions) for it in session):
             self.counts["replies"] += asked.kind != 0
             self.counts["unanswered"] += asked.kind == 0
-            if asked.kind in (0x81, 0x83, 0x84):
+            if asked.kind in ACKS:
                 self.counts["acknowledgements"] += 1
+                if is_for_lookups(number, self.for_lookups):
+                    self.fault("a session for lookups has a command acknowledged")
                 place = int.from_bytes(asked.reply[:8], "big")
                 if place in placed:
                     self.fault(f"the place {place} was given twice")
                 placed[place] = asked
-            elif asked.kind == 0x82:
-                self.counts["lookups"] += 1
+            elif asked.kind in LOOKS:
+                self.counts["lookups" if asked.kind == LOOKS[0] else "pages"] += 1
+            elif asked.kind == model.REFUSED and asked.reply[:1] == NOT_HERE and asked.request < LOOKUPS and is_for_lookups(number, self.for_lookups):
+                self.counts["commands refused where lookups are served"] += 1
+            elif asked.kind == model.REFUSED and asked.reply[:1] == EXPIRED and self._has_expired(asked):
+                self.counts["registrations refused as the row has expired"] += 1
             elif asked.kind == model.REFUSED:
                 self.fault(f"refused by {asked.reply[:1].hex()}")
         return placed
 
+    def _has_expired(self, asked: Asked) -> bool:
+        """Whether a request registers a row that has expired by the time of its reply."""
+        command = self.pool[asked.request] if asked.request < LOOKUPS else ("look",)
+        answered = asked.received / 1e9 - time.monotonic() + time.time()
+        return command[0] == "register" and any(model.row_of(segment).expiry <= 2 * answered + 1 for _, segment in command[1])
+
     def _order(
-        self, sessions: list[list[Asked]], placed: dict[int, Asked], opened: model.Opened, start: int, end: int
+        self, sessions: list[list[Asked]], placed: dict[int, Asked], own: dict[int, tuple], opened: model.Opened, start: int, end: int
     ) -> tuple[list[tuple] | None, list[int], list[int]]:
         """The commands of a round by place, with when they were sent and when their acknowledgements came."""
         if placed and not start <= min(placed) <= max(placed) < end:
             self.fault(f"a place outside of {start} to {end} was acknowledged, as the store opens to {end}")
             return None, [], []
-        missing = [place for place in range(start, end) if place not in placed]
+        missing = [place for place in range(start, end) if place not in placed and place not in own]
         wanted = [opened.commands[place - opened.place] if place >= opened.place else None for place in missing]
         # A command came before whatever of a later place was acknowledged.
         before = list(accumulate((placed[place].received if place in placed else NEVER for place in reversed(range(start, end))), min))
         limits = [before[end - 1 - place] for place in missing]
-        unanswered = [[it for it in session if it.kind == 0 and it.request < LOOKUPS] for session in sessions]
+        unanswered = [
+            [it for it in session if it.kind == 0 and it.request < LOOKUPS and not is_for_lookups(number, self.for_lookups)]
+            for number, session in enumerate(sessions)
+        ]
         tried = islice(self._senders(wanted, limits, unanswered), MOST_TRIES)
-        found = next((it for it in tried if self._explains({**placed, **dict(zip(missing, it))}, None in wanted, opened, start)), None)
+        found = next((it for it in tried if self._explains({**placed, **dict(zip(missing, it))}, own, None in wanted, opened, start)), None)
         if found is None:
             self.fault(f"nobody sent the commands of the places {missing}")
             return None, [], []
@@ -195,22 +270,22 @@ class Checker:
         by_place = {**placed, **dict(zip(missing, found))}
         commands, sent, received = [], [], []
         for place in range(start, end):
-            asked = by_place[place]
-            commands.append(self.pool[asked.request])
-            sent.append(asked.sent)
-            received.append(asked.received)
+            asked = by_place.get(place)
+            commands.append(self.pool[asked.request] if asked else own[place])
+            sent.append(asked.sent if asked else 0)
+            received.append(asked.received if asked else NEVER)
         for place in range(max(start, opened.place), end):
             if opened.commands[place - opened.place] != commands[place - start]:
                 self.fault(f"the journal has another command at the place {place}")
         return commands, sent, received
 
-    def _explains(self, by_place: dict[int, Asked], is_folded: bool, opened: model.Opened, start: int) -> bool:
+    def _explains(self, by_place: dict[int, Asked], own: dict[int, tuple], is_folded: bool, opened: model.Opened, start: int) -> bool:
         """Whether the commands of a round make the checkpoint's rows, where one that has no acknowledgement is folded into it."""
         if not is_folded:
             return True
         rows = dict(self.db)
         for place in range(start, opened.place):
-            model.apply(rows, self.pool[by_place[place].request])
+            model.apply(rows, own[place] if place in own else self.pool[by_place[place].request])
         return rows == opened.rows
 
     def _senders(self, wanted: list[tuple | None], limits: list[int], unanswered: list[list[Asked]]) -> Iterator[list[Asked]]:
@@ -218,26 +293,36 @@ class Checker:
         before a limit. Any command may be one that is None."""
         found: list[Asked] = []
         taken = [0] * len(unanswered)
-        tried: list[list[int]] = []
+        before: list[int] = []
+        tried: list[list[tuple[int, int]]] = []
         while True:
             is_whole = len(found) == len(wanted)
             if is_whole:
                 yield list(found)
             elif len(tried) == len(found):
                 command = wanted[len(found)]
-                able = [it for it, session in enumerate(unanswered) if taken[it] < len(session)]
-                able = [it for it in able if command is None or self.pool[unanswered[it][taken[it]].request] == command]
-                able = [it for it in able if unanswered[it][taken[it]].sent < limits[len(found)]]
-                tried.append(sorted(able, key=lambda it: unanswered[it][taken[it]].sent, reverse=True))
+                able = [(it, at) for it, session in enumerate(unanswered) for at in self._next_of(session, taken[it])]
+                able = [(it, at) for it, at in able if command is None or self.pool[unanswered[it][at].request] == command]
+                able = [(it, at) for it, at in able if unanswered[it][at].sent < limits[len(found)]]
+                tried.append(sorted(able, key=lambda it: (unanswered[it[0]][it[1]].sent, it[1]), reverse=True))
             if not is_whole and tried[-1]:
-                session = tried[-1].pop()
-                found.append(replace(unanswered[session][taken[session]], kind=session))
-                taken[session] += 1
+                session, at = tried[-1].pop()
+                before.append(taken[session])
+                found.append(replace(unanswered[session][at], kind=session))
+                taken[session] = at + 1
             elif found:
                 # No session goes on from here: the one before was another's.
                 del tried[len(found) :]
-                taken[found.pop().kind] -= 1
+                taken[found.pop().kind] = before.pop()
             else:
+                return
+
+    def _next_of(self, session: list[Asked], first: int) -> Iterator[int]:
+        """The requests of a session, of which each may be its next one: those before it may have been refused, as their rows had expired."""
+        for at in range(first, len(session)):
+            yield at
+            command = self.pool[session[at].request]
+            if command[0] != "register" or all(model.row_of(segment).expiry > 2 * runs.MADE for _, segment in command[1]):
                 return
 
     def _check_times(self, sent: list[int], received: list[int], start: int) -> None:
@@ -255,14 +340,14 @@ class Checker:
         for session in sessions:
             least = fresh = last_place = 0
             for asked in session:
-                if asked.kind in (0x81, 0x83, 0x84):
+                if asked.kind in ACKS:
                     place = int.from_bytes(asked.reply[:8], "big") - start
                     if place < last_place:
                         self.fault(f"the places of a session fall to {start + place}")
                     last_place = place
                     least, fresh = max(least, place + 1), max(fresh, place + 1)
-                elif asked.kind == 0x82:
-                    query = runs.QUERIES[asked.request - LOOKUPS]
+                elif asked.kind in LOOKS:
+                    query = runs.ASKED[asked.request - LOOKUPS]
                     most = bisect.bisect_right(latest_sent, asked.received)
                     version = answers.first_version(query, asked.reply[:12], least)
                     if version is None or version > most:
@@ -285,8 +370,8 @@ def altered(sessions: list[list[Asked]], how: str, number: int) -> list[list[Ask
     """The same sessions, of which the one of a number has a reply that is another one than it was."""
     sessions = [list(session) for session in sessions]
     session = sessions[number]
-    acks = [at for at, it in enumerate(session) if it.kind in (0x81, 0x83, 0x84)]
-    lookups = [at for at, it in enumerate(session) if it.kind == 0x82]
+    acks = [at for at, it in enumerate(session) if it.kind in ACKS]
+    lookups = [at for at, it in enumerate(session) if it.kind in LOOKS]
     at = acks[len(acks) // 2]
     asked = session[at]
     if how == "a count":
@@ -318,23 +403,23 @@ ALTERED = [
 ]
 
 
-def test_checker(pool: list[tuple], sessions: list[list[Asked]], image: bytes, printed: tuple[int, bytes, bytes]) -> list[str]:
+def test_checker(pool: list[tuple], ended: Round) -> list[str]:
     """What the checker doesn't see of replies that were altered in a first round."""
     missed = []
     for how in ALTERED:
         # An answer of before may be one of later too, so three sessions are tried; one that was
         # asked too little has nothing to alter.
         faults, tried = [], 0
-        for number in range(len(sessions)):
+        for number in range(len(ended.sessions)):
             if faults or tried == 3:
                 break
             try:
-                changed = altered(sessions, how, number)
+                changed = altered(ended.sessions, how, number)
             except (IndexError, StopIteration):
                 continue
             tried += 1
             checker = Checker(pool)
-            checker.check(changed, image, printed)
+            checker.check(replace(ended, sessions=changed))
             faults = checker.faults
         if tried > 0 and not faults:
             missed.append(f"the checker doesn't see that {how} was altered")
@@ -350,16 +435,23 @@ def read_session(path: Path) -> list[Asked]:
     return [Asked(*RECORD.unpack_from(data, at)) for at in range(0, len(data), RECORD.size)]
 
 
-def hold_round(program: str, store: Path, folder: Path, options: argparse.Namespace, number: int, frames: list[bytes], replies: int) -> list[list[Asked]]:
+def hold_round(
+    program: str, library: str, store: Path, folder: Path, options: argparse.Namespace, number: int, frames: list[bytes], replies: int
+) -> Round:
     """Runs the sessions until this number of replies has come and the server is killed."""
-    asking = [messages.lookup_frame(*query) for query in runs.QUERIES]
+    asking = [runs.asking_frame(it) for it in runs.ASKED]
     counts = multiprocessing.Array("Q", options.sessions, lock=False)
     paths = [folder / f"session{it}" for it in range(options.sessions)]
-    with runs.Server(program, store) as server:
+    log = folder / "purges"
+    log.write_bytes(b"")
+    env = {"LD_PRELOAD": library, "RECORD": str(log), "PURGES_ALONE": "1"}
+    begun = time.time()
+    with runs.Server(program, store, WORDS, env) as server:
         processes = []
-        connections = [server.connect() for _ in paths]
+        ports = [server.lookups_port() if is_for_lookups(it, options.for_lookups) else 0 for it in range(options.sessions)]
+        connections = [server.connect(port=port) for port in ports]
         for session, path in enumerate(paths):
-            given = (connections[session], f"{options.seed}/{number}/{session}", frames, asking, counts, session, options.ahead, path)
+            given = (connections[session], f"{options.seed}/{number}/{session}", frames, asking, counts, session, options, path)
             processes.append(multiprocessing.Process(target=hold_session, args=given))
             processes[-1].start()
         until = time.monotonic() + options.seconds
@@ -369,28 +461,31 @@ def hold_round(program: str, store: Path, folder: Path, options: argparse.Namesp
         for process, connection in zip(processes, connections):
             process.join()
             connection.close()
-    return [read_session(path) for path in paths]
+    ended = time.time()
+    shutil.copy(store, folder / "copy")
+    own = {place: command for place, (_, command) in own_purges(events_of(log), options.layout).items()}
+    return Round([read_session(path) for path in paths], own, store.read_bytes(), runs.shown(program, folder / "copy"), begun, ended)
 
 
 def hold_seed(program: str, options: argparse.Namespace) -> Checker:
     """Records and checks the rounds of a seed."""
-    pool = make_pool(options.seed)
+    options.begun, options.for_lookups = int(time.time()), FOR_LOOKUPS
+    options.layout = replace(LAYOUT, journal=options.journal)
+    pool = make_pool(options.seed, options.begun)
     frames = [messages.command_frame(command) for command in pool]
     checker = Checker(pool)
     with runs.scratch() as folder:
-        store = folder / "store"
-        runs.format_store(program, store, LAYOUT)
+        store, library = folder / "store", runs.compiled("recorded_calls.c", folder)
+        runs.format_store(program, store, options.layout)
         first = min(10_000, options.replies // options.kills)
         for number in range(options.kills):
             wanted = first if number == 0 else (options.replies - first) // max(1, options.kills - 1)
-            sessions = hold_round(program, store, folder, options, number, frames, wanted)
-            shutil.copy(store, folder / "copy")
-            image, printed = store.read_bytes(), runs.shown(program, folder / "copy")
+            ended = hold_round(program, library, store, folder, options, number, frames, wanted)
             if number == 0:
-                missed = test_checker(pool, sessions, image, printed)
+                missed = test_checker(pool, ended)
                 checker.faults += missed
                 print(f"  {len(ALTERED) - len(missed)} of {len(ALTERED)} replies that were altered on purpose are seen", flush=True)
-            checker.check(sessions, image, printed)
+            checker.check(ended)
             print(f"  kill {number + 1}: place {checker.place}, {checker.counts['replies']} replies so far", flush=True)
             if checker.faults:
                 break
@@ -407,6 +502,7 @@ def main(words: list[str]) -> int:
     parser.add_argument("--kills", type=int, default=10, help="how often the server is killed, at the end too")
     parser.add_argument("--sessions", type=int, default=32)
     parser.add_argument("--ahead", type=int, default=128, help="how many requests a session sends at one time at the most")
+    parser.add_argument("--journal", type=int, default=LAYOUT.journal, metavar="SECTORS", help="how many sectors a journal has")
     parser.add_argument("--seconds", type=int, default=600, help="how long it may take from one kill to the next")
     options = parser.parse_args(words)
     program = runs.program_of(options.program)

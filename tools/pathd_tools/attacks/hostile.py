@@ -4,12 +4,14 @@ answer with the one that docs/PROTOCOL.md and docs/STORE.md give.
     tools/pathd-tools hostile [--program PROGRAM] [--seed N] [--frames N] [--images N] [--jobs N]
 
 Frames are mutated bytewise, and field by field with the lengths around a field set right; among
-them are registrations, segments and lookups' replies of the greatest sizes, and some sessions begin
-by filling the store. Each reply has to be, to the byte, that of tools/pathd_model: its code, the
-place, the counts, the segments found. Each session ends with a frame that is none: the status and
-the line have to be those of its fault. Images come from recorded stores of both versions, with and
-without seals; what `show` prints of a mutated one, or the line by which it refuses it, has to be
-that of the model.
+them are registrations, segments and lookups' replies of the greatest sizes. Some sessions begin by
+filling the store. Others begin with thousands of rows of many ASes, and go on with lookups and
+pages of them, removals, and purges that drop some. Each reply has to be, to the byte, that of
+tools/pathd_model: its code, the place, the counts, the segments found or listed, and whether more
+follow. In some sessions it is later than the expiry of some segments. Each session ends with a
+frame that is none: the status and the line have to be those of its fault. Images come from recorded
+stores of both versions, with and without seals; what `show` prints of a mutated one, or the line by
+which it refuses it, has to be that of the model.
 
 It needs Python 3 and gcc. It ends with the status 1 where an answer is another one, and prints the
 first ones.
@@ -38,13 +40,18 @@ SMALL = model.Layout(8, 516)
 # what exceeds them.
 MOST_BODY = 131_072
 ROOM = 2_097_120
-FULL = 0x52
+FULL, EXPIRED = 0x52, 0x32
 # How many requests are made of the greatest ones, and which sessions begin with a full store.
 OF_GREATEST = 0.015
 FILLED_EVERY = 20
 # The ends of the greatest segments, and the lookup that finds them all.
 FAR = (0x0001_FF00_0000_0900, 0x0001_FF00_0000_0901)
 FAR_QUERY = (1 << 48, FAR[1])
+# Which sessions begin with this number of rows, and of which ISDs and ASes their ends are. In the
+# other sessions the moment is one of these.
+WIDE_EVERY, WIDE_AT = 20, 7
+WIDE_ROWS, WIDE_ISDS, WIDE_ASES = 6_000, 6, 24
+MOMENTS = (0, 0, 2 * runs.MADE + 675 * 62 + 60_000)
 INTERESTING = [0, 1, 2, 0x7F, 0x80, 0x81, 0xA7, 0xFE, 0xFF]
 
 
@@ -70,6 +77,7 @@ def valid_bodies(seed: str) -> list[tuple[int, bytes]]:
         bodies.append((frame[4], frame[5:]))
     bodies += [(model.LOOKUP, messages.lookup_frame(*query)[5:]) for query in runs.QUERIES]
     bodies += [(model.REGISTER, full_registration(number)) for number in range(6)]
+    bodies += [(model.LIST, messages.list_frame(*page)[5:]) for page in runs.PAGES]
     bodies.append((model.LOOKUP, b""))
     bodies.append((model.REGISTER, b""))
     return bodies
@@ -141,6 +149,53 @@ def filling_requests() -> list[tuple[int, bytes]]:
     bodies += [filled_registration(4_000 + 100 * less, 8, 16_384, MOST_BODY - less) for less in (0, 15, 16)]
     bodies.append(far_registration([far_segment(9_000, 700)]))
     return [*((model.REGISTER, body) for body in bodies), (model.LOOKUP, messages.lookup_frame(*FAR_QUERY)[5:])]
+
+
+class Wide:
+    """Requests about rows whose ends are of many ASes."""
+
+    def __init__(self, chance: random.Random) -> None:
+        self.chance = chance
+        self.rows: list[tuple[int, list[messages.Hop]]] = []
+        for number in range(WIDE_ROWS):
+            ends = chance.sample(range(WIDE_ISDS * WIDE_ASES), 2)
+            # Some ASes have many rows.
+            first, last = (self._isd_as(it if chance.random() < 0.8 else it % 5) for it in ends)
+            hops = [messages.Hop(first, 0, 1 + number), messages.Hop(last if last != first else first + 512, 1 + number % 7, 0)]
+            self.rows.append((1 + number % 3, hops))
+
+    @staticmethod
+    def _isd_as(number: int) -> int:
+        return (1 + number // WIDE_ASES) << 48 | 0xFF00_0000_0110 + number % WIDE_ASES
+
+    def filling(self) -> list[tuple[int, bytes]]:
+        """Registrations of all rows."""
+        return [self._registration(self.rows[at : at + 16]) for at in range(0, len(self.rows), 16)]
+
+    def _registration(self, rows: list[tuple[int, list[messages.Hop]]]) -> tuple[int, bytes]:
+        made = [(kind, messages.make_segment(hops, runs.MADE + self.chance.randrange(100_000))) for kind, hops in rows]
+        return model.REGISTER, messages.registration(made)[5:]
+
+    def _side(self) -> int:
+        isd_as = self._isd_as(self.chance.randrange(WIDE_ISDS * WIDE_ASES))
+        return self.chance.choice((isd_as, isd_as, isd_as >> 48 << 48, 0, isd_as & (1 << 48) - 1))
+
+    def next(self) -> tuple[int, bytes]:
+        """A lookup, a page, a registration, a removal or a purge."""
+        fate = self.chance.random()
+        kind, hops = self.chance.choice(self.rows)
+        if fate < 0.2:
+            sides = self.chance.choice(((self._side(), self._side()), (runs.CORE_A, self._side()), (hops[-1].isd_as, runs.CORE_A)))
+            return model.LOOKUP, messages.lookup_frame(*sides)[5:]
+        if fate < 0.6:
+            after = self.chance.choice((b"", messages.path_id(hops), self.chance.randbytes(32)))
+            return model.LIST, messages.list_frame(self.chance.randrange(1, 4), self._side(), self._side(), after)[5:]
+        if fate < 0.75:
+            return self._registration(self.chance.sample(self.rows, 3))
+        if fate < 0.95:
+            return model.REMOVE, bytes([kind]) + messages.path_id(hops)
+        # Most drop some rows that the ones before have left, and some drop none.
+        return model.PURGE, struct.pack(">Q", 2 * (runs.MADE + self.chance.randrange(6_000)) + 675 * 64)
 
 
 def mutated_bytes(data: bytes, others: list[bytes], chance: random.Random) -> bytes:
@@ -228,6 +283,9 @@ def mutated_request(bodies: list[tuple[int, bytes]], chance: random.Random) -> t
     if kind == model.REMOVE:
         at = chance.randrange(33)
         return kind, body[:at] + bytes([chance.randrange(5)]) + body[at + 1 :] if chance.random() < 0.5 else body
+    if kind == model.LIST:
+        at = chance.choice((0, chance.randrange(len(body))))
+        return kind, body[:at] + bytes([chance.randrange(256) if at else chance.randrange(5)]) + body[at + 1 :] if chance.random() < 0.5 else body
     if chance.random() < (0.5 if is_greatest else 0.1):
         return kind, body
     for _ in range(chance.choice((1, 1, 2))):
@@ -240,23 +298,26 @@ def mutated_request(bodies: list[tuple[int, bytes]], chance: random.Random) -> t
 def broken_frame(bodies: list[tuple[int, bytes]], chance: random.Random) -> tuple[bytes, bytes]:
     """What ends a session, and the line that says so."""
     kind, body = chance.choice(bodies)
-    how = chance.randrange(6)
+    how = chance.randrange(7)
     if how == 0:
         return struct.pack(">I", chance.choice((0, 131_074, 1 << 31, (1 << 32) - 1))) + chance.randbytes(chance.randrange(9)), b"error: frame 1\n"
     if how == 1:
-        return struct.pack(">IB", 1 + len(body), chance.choice((0, 5, 0x81, 0xFF))) + body, b"error: frame 2\n"
+        return struct.pack(">IB", 1 + len(body), chance.choice((0, 6, 0x81, 0xFF))) + body, b"error: frame 2\n"
     if how == 2:
         return struct.pack(">IB", chance.choice((1, 8, 10, 131_073)), 3) + chance.randbytes(8), b"error: frame 1\n"
     if how == 3:
         return struct.pack(">IB", chance.choice((1, 33, 35, 131_073)), 4) + chance.randbytes(33), b"error: frame 1\n"
+    if how == 4:
+        return struct.pack(">IB", chance.choice((1, 17, 19, 49, 51, 131_073)), 5) + chance.randbytes(49), b"error: frame 1\n"
     frame = messages.frame(kind, body)
     return frame[: chance.randrange(1, len(frame))], b"error: frame 3\n"
 
 
 class Session:
-    """What a session of `once` answers."""
+    """What a session of `once` answers at a moment."""
 
-    def __init__(self) -> None:
+    def __init__(self, now: int = 0) -> None:
+        self.now = now
         self.db: dict = {}
         self.place = 0
         # At least as many bytes as the records of all rows have.
@@ -267,8 +328,12 @@ class Session:
         try:
             if kind == model.LOOKUP:
                 return self._found(*reading.read_request(body))
+            if kind == model.LIST:
+                return self._listed(*model.list_of(bytes([kind]) + body))
             if kind == model.REGISTER:
                 command = reading.read_registration(body)
+                if any(model.row_of(segment).expiry <= self.now for _, segment in command[1]):
+                    return bytes([model.REFUSED, EXPIRED])
             elif kind == model.PURGE:
                 command = ("purge", int.from_bytes(body, "big"))
             elif body[0] not in model.TYPE_NAMES:
@@ -298,7 +363,12 @@ class Session:
         query = model.classify(runs.CORES, source, destination)
         if isinstance(query, int):
             return bytes([model.REFUSED, query])
-        return b"\x82" + model.found_body(query[0], model.matching(self.db, query))
+        return b"\x82" + model.found_body(query[0], model.matching(self.db, query, self.now))
+
+    def _listed(self, kind: int, start: int, end: int, after: bytes) -> bytes:
+        if kind not in model.TYPE_NAMES:
+            return bytes([model.REFUSED, reading.BAD_TYPE])
+        return b"\x85" + model.listed_body(kind, *model.page(self.db, (kind, start, end), after, self.now))
 
 
 def try_frames(given: tuple) -> tuple[Counter, list[str]]:
@@ -310,12 +380,16 @@ def try_frames(given: tuple) -> tuple[Counter, list[str]]:
     while counts["frames"] < count and len(faults) < 5:
         bodies = valid_bodies(f"{seed}/{worker}/{counts['frames'] % 7}")
         requests = [mutated_request(bodies, chance) for _ in range(SESSION)]
+        now = chance.choice(MOMENTS)
         if counts["sessions"] % FILLED_EVERY == 0:
-            requests = filling_requests() + requests[len(filling_requests()) :]
+            requests, now = filling_requests() + requests[len(filling_requests()) :], 0
+        elif counts["sessions"] % WIDE_EVERY == WIDE_AT:
+            wide, now = Wide(chance), 0
+            requests = [*wide.filling(), *(wide.next() for _ in range(SESSION))]
         last, line = broken_frame(bodies, chance)
         data = b"".join(messages.frame(*request) for request in requests) + last
-        done = subprocess.run([program, "once", *ONCE_WORDS], input=data, capture_output=True, check=False, timeout=300)
-        session = Session()
+        done = subprocess.run([program, "once", *ONCE_WORDS, "--now", str(now)], input=data, capture_output=True, check=False, timeout=300)
+        session = Session(now)
         wanted = [session.reply(*request) for request in requests]
         replies, rest = messages.whole_frames(done.stdout)
         counts["frames"] += len(requests)

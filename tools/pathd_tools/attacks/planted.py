@@ -1,17 +1,18 @@
 """Plants faults in the program, one at a time, and says how often each of them is seen.
 
-    tools/pathd-tools planted [--only NAME ..] [--programs FOLDER] [--images N] [--replies N] [--seed N] [--jobs N]
+    tools/pathd-tools planted [--only NAME ..] [--programs FOLDER] [--images N] [--replies N] [--frames N] [--seed N] [--jobs N]
 
 A fault is a file tools/planted/NAME.edit: `body:` says what is wrong, `file:` names a file of the
 repository, and each pair of `old:` and `new:` replaces a text that the file has once. It is applied
 to a copy of the crates, whose program is built without proofs (it has none) and then attacked by
-power-cuts and by histories. FOLDER keeps the programs by their names, and one that is there already
-is not built again.
+power-cuts, by histories and by hostile. FOLDER keeps the programs by their names, and one that is
+there already is not built again.
 
 Lines are printed for each fault: the losses that power-cuts found among its images, after 20 of
-which it ends, and the replies that histories could not explain. A recorded run of which no order of
-the commands can be made is a find too. The status is 1 where neither saw a fault. It needs Python
-3, gcc, `rt`, two minutes of a processor and 2 GB of memory for a build, and the loopback.
+which it ends, the replies that histories could not explain, and the frames that hostile saw
+answered otherwise than by the model. A recorded run of which no order of the commands can be made
+is a find too. The status is 1 where none of them saw a fault. It needs Python 3, gcc, `rt`, two
+minutes of a processor and 2 GB of memory for a build, and the loopback.
 """
 from __future__ import annotations
 
@@ -31,7 +32,7 @@ FOLDER = TOP / "tools" / "planted"
 CUTTING = "--commands 1200 --restarts 0 --openings 0 --enough 20"
 # How the error begins by which a tool judges a recorded run.
 JUDGED = "RuntimeError: "
-COUNTED = re.compile(r"^(\d+) (?:images, (\d+) losses|replies, (\d+) unexplained)", re.M)
+COUNTED = re.compile(r"^(\d+) (?:images, (\d+) losses|replies, (\d+) unexplained|frames, 0 images, (\d+) differ)", re.M)
 
 
 @dataclass(frozen=True)
@@ -78,7 +79,7 @@ def attack(words: list[str]) -> tuple[int, str]:
     done = subprocess.run([TOP / "tools" / "pathd-tools", *words], capture_output=True, text=True, errors="replace", check=False)
     counted = COUNTED.search(done.stdout)
     if counted:
-        return int(counted[2] or counted[3]), counted[0]
+        return int(counted[2] or counted[3] or counted[4]), counted[0]
     # What a recorded run shows may be such that no image is made.
     ended = runs.last_line(done.stderr.encode()) or f"status {done.returncode}"
     return int(ended.startswith(JUDGED)), f"ended early: {ended}"
@@ -91,6 +92,7 @@ def main(words: list[str]) -> int:
     parser.add_argument("--programs", type=Path, metavar="FOLDER", help="keep the programs here")
     parser.add_argument("--images", type=int, default=4_000)
     parser.add_argument("--replies", type=int, default=40_000)
+    parser.add_argument("--frames", type=int, default=24_000)
     parser.add_argument("--seed", default="1")
     parser.add_argument("--jobs", default="2", help="processes of power-cuts")
     options = parser.parse_args(words)
@@ -109,10 +111,12 @@ def main(words: list[str]) -> int:
             given = ["--program", str(program), "--seed", options.seed]
             cuts = attack(["power-cuts", *given, *CUTTING.split(), "--images", str(options.images), "--jobs", options.jobs])
             replies = attack(["histories", *given, "--replies", str(options.replies), "--kills", "6"])
-            is_seen = cuts[0] + replies[0] > 0
+            frames = attack(["hostile", *given, "--frames", str(options.frames), "--images", "0", "--jobs", "1"])
+            is_seen = cuts[0] + replies[0] + frames[0] > 0
             unseen += [] if is_seen else [fault.name]
             sum_of = hashlib.sha256(program.read_bytes()).hexdigest()[:12]
-            print(f"{fault.name}: {fault.body} (program {sum_of})", f"  power-cuts: {cuts[1]}", f"  histories: {replies[1]}", sep="\n", flush=True)
+            print(f"{fault.name}: {fault.body} (program {sum_of})", flush=True)
+            print(f"  power-cuts: {cuts[1]}", f"  histories: {replies[1]}", f"  hostile: {frames[1]}", sep="\n", flush=True)
     for name in unseen:
         print(f"not seen: {name}", file=sys.stderr)
     return 1 if unseen else 0

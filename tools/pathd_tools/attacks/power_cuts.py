@@ -1,14 +1,16 @@
 """Cuts the power of a server at every moment of a recorded run, and opens what is left.
 
     tools/pathd-tools power-cuts [--program PROGRAM] [--seed N] [--images N] [--for MINUTES] [--commands N] [--restarts N]
-                                 [--ahead N] [--jobs N] [--swallowed KIND]
+                                 [--ahead N] [--rows N] [--copies N] [--jobs N] [--swallowed KIND]
 
 A server on a real file is recorded by a preloaded library (tools/native/recorded_calls.c) while 6
-sessions register, remove, purge and look up: each write with its bytes, each sync, each request and
-each reply, in order. The sessions send 1 to 128 requests before they read replies, or as many as
---ahead says at the most. A run over a store of version 2 and one over a store of version 1 are
-recorded, and after each of them N shorter ones, each over an image that a power cut at a random
-moment of the one before it leaves.
+sessions register, remove, purge, look up and list: each write with its bytes, each sync, each
+request and each reply, in order. One of them is a session of the listener for lookups. The server
+purges by itself each second what has expired. The sessions send 1 to 128 requests before they read
+replies, or as many as --ahead says at the most. A run over a store of version 2 and one over a
+store of version 1 are recorded, and after each of them N shorter ones, each over an image that a
+power cut at a random moment of the one before it leaves. With --rows the first store has so many
+rows, so that a checkpoint has many pieces, with commands on all of these rows between them.
 
 Then images are made of the file after each write and each sync. Of a sector that was written since
 the last sync that covers it, an image holds what it held before, what was written, a front of the
@@ -18,10 +20,13 @@ acknowledgements, that
 
 - holds every command acknowledged before the next call on the device,
 - has no command that hadn't come before,
-- contains a front of which each lookup that was answered before is the answer.
+- contains a front of which each lookup and each page that was answered before is the answer.
 
 Openings that write are recorded too, and cut at each of their calls: the next opening has to print
-the same. So are upgrades of stores of version 1.
+the same. So are upgrades of stores of version 1. Of what cuts leave, copies of random sizes are
+made, and recorded and cut in the same way: each image is no store, has no half that is open, or
+opens to the whole copy, as it does once the last sync has ended. The store that is copied has to
+have the bytes that it had.
 
 With --swallowed every second sync of a kind isn't made (`group`, `gate`, `chunks`, `half`,
 `close`): the script then has to find losses, and ends with the status 0 where it does. The sync of
@@ -48,10 +53,10 @@ from pathlib import Path
 
 from pathd_model import model
 from pathd_tools import runs, toolbox
-from pathd_tools.recording import Disk, Moment, Recorded, events_of, record
+from pathd_tools.recording import Disk, Moment, Recorded, events_of, filled, record
 
 SECTOR = model.SECTOR
-LAYOUT = model.Layout(64, 516)
+LAYOUT, WIDE_LAYOUT = model.Layout(64, 516), model.Layout(2048, 516)
 SWALLOWED = ["group", "gate", "chunks", "half", "close"]
 # The kinds of losses of syncs that images can show.
 FOUND_KINDS = SWALLOWED[:4]
@@ -119,14 +124,14 @@ def differing(held: bytes, kept: bytes, among: set[int]) -> set[int]:
 class Cutter:
     """Opens images by `show`, in a file of its own."""
 
-    def __init__(self, program: str, libraries: tuple[str, str], folder: Path, first: bytes) -> None:
+    def __init__(self, program: str, libraries: tuple[str, str], folder: Path, first: bytes, layout: model.Layout) -> None:
         self.words = [program, "show", str(folder / "image")]
         self.upgrade_words = [program, "upgrade", str(folder / "image")]
         self.library, self.folder = libraries[0], folder
         self.forked = runs.Forked(libraries[1], self.words, folder)
         self.file = os.open(folder / "image", os.O_RDWR | os.O_CREAT | os.O_TRUNC, 0o644)
         os.pwrite(self.file, first, 0)
-        self.gates = gates_of(LAYOUT)
+        self.gates = gates_of(layout)
         self.losses: list[str] = []
 
     def lay(self, sectors: dict[int, bytes]) -> None:
@@ -170,11 +175,16 @@ class Cutter:
             self.losses.append(f"{where}: the rows aren't those after {place} commands")
 
 
-def is_about(kind: str, held: dict[int, list[bytes]]) -> bool:
+def layout_for(options: argparse.Namespace) -> model.Layout:
+    """The layout of the stores that are cut."""
+    return WIDE_LAYOUT if options.rows else LAYOUT
+
+
+def is_about(kind: str, held: dict[int, list[bytes]], layout: model.Layout) -> bool:
     """Whether sectors that aren't kept for certain are those that a kind of swallowed sync is about; so is any where it is a group's."""
     if kind in ("", "group", "gate"):
         return True
-    areas = {sector for half in (0, 1) for sector in range(LAYOUT.area(half), LAYOUT.gate(half) + (kind != "chunks"))}
+    areas = {sector for half in (0, 1) for sector in range(layout.area(half), layout.gate(half) + (kind != "chunks"))}
     return not areas.isdisjoint(held)
 
 
@@ -214,7 +224,7 @@ def cut_run(given: tuple) -> tuple[Counter, list[str]]:
     openings = options.openings
     folder.mkdir()
     disk = Disk(run.first)
-    cutter = Cutter(program, libraries, folder, run.first)
+    cutter = Cutter(program, libraries, folder, run.first, layout_for(options))
     chance = random.Random(f"{options.seed}/{run.name}/{worker}")
     seen: set = set()
     kept, written = run.first, set()
@@ -232,7 +242,7 @@ def cut_run(given: tuple) -> tuple[Counter, list[str]]:
         if call.letter not in "Ws" or number % options.jobs != worker:
             continue
         held = disk.dirty()
-        if not is_about(options.swallowed, held):
+        if not is_about(options.swallowed, held, layout_for(options)):
             continue
         images = fixed_images(held) if held else [("old", {})]
         if held:
@@ -286,6 +296,77 @@ def cut_upgrade(cutter: Cutter, kept: bytes, chance: random.Random, counts: Coun
     counts["images of cut upgrades"] += cut_opening(cutter, kept, {}, answer, chance, cutter.upgrade_words)
 
 
+# Copies
+
+
+def copy_words(chance: random.Random) -> tuple[list[str], model.Layout]:
+    """Words of a copy, and the layout that they ask for."""
+    if chance.random() < 0.3:
+        rows = chance.choice((63, 64, 500))
+        return ["--rows", str(rows)], model.Layout(rows + 1, 1_024)
+    layout = model.Layout(chance.choice((8, 40, LAYOUT.checkpoint, 100, 257, WIDE_LAYOUT.checkpoint)), chance.choice((LAYOUT.journal, 517, 2_048)))
+    return ["--checkpoint", str(layout.checkpoint), "--journal", str(layout.journal)], layout
+
+
+def opens_to_nothing(image: bytes, answer: tuple[int, bytes, bytes]) -> bool:
+    """Whether an image is none of a store or has no half that is open, and `show` says so."""
+    try:
+        model.open_image(image)
+    except model.NoStore as refused:
+        line = runs.last_line(answer[2])
+        return answer[:2] == (1, b"") and line == str(refused) and line in ("error: open 1", "error: open 3 1")
+    return False
+
+
+def cut_copy(program: str, libraries: tuple[str, str], folder: Path, old: bytes, chance: random.Random, each: int) -> tuple[Counter, list[str]]:
+    """Records a copy of a store, cuts it at each of its calls, and opens what is left."""
+    words, layout = copy_words(chance)
+    db, place = model.open_image(old).fold()
+    store, copied, log = folder / "old", folder / "new", folder / "log"
+    store.write_bytes(old)
+    for path in (copied, log):
+        path.unlink(missing_ok=True)
+    env = {**os.environ, "LD_PRELOAD": libraries[0], "RECORD": str(log)}
+    done = subprocess.run([program, "copy", str(store), str(copied), *words], env=env, capture_output=True, check=False)
+    counts, where = Counter({"copies": 1}), f"copy {' '.join(words)} of {len(db)} rows"
+    if store.read_bytes() != old:
+        return counts, [f"{where}: the store that is copied has other bytes"]
+    is_small = sum(5 + len(row.segment) for row in db.values()) > layout.checkpoint * SECTOR - 32
+    wanted = (1, b"", "error: copy 3") if is_small else (0, f"copied {len(db)} rows at place {place}\n".encode(), "")
+    if (done.returncode, done.stdout, runs.last_line(done.stderr)) != wanted:
+        return counts, [f"{where}: {done.returncode}, {done.stdout}, {done.stderr}"]
+    if is_small:
+        counts["copies that do not fit"] += 1
+        return counts, [f"{where}: bytes were written"] if any(copied.read_bytes()) else []
+    calls = [call for call in events_of(log) if call.letter in "WwSs"]
+    file = {call.descriptor for call in calls if call.letter == "W"}
+    disk = Disk(bytes(layout.sectors * SECTOR))
+    (folder / "copy").mkdir()
+    cutter = Cutter(program, libraries, folder / "copy", bytes(disk.kept), layout)
+    whole = (0, model.show_text(db, place), b"")
+    for number, call in enumerate(call for call in calls if call.descriptor in file):
+        disk.follow(call)
+        if call.letter not in "Ws":
+            continue
+        held = disk.dirty()
+        kept = bytes(disk.kept)
+        cutter.restore(kept, set(range(layout.sectors)))
+        for name, image in (fixed_images(held) + [random_image(held, chance) for _ in range(each)]) if held else [("kept", {})]:
+            cutter.lay(image)
+            laid = os.pread(cutter.file, len(kept), 0)
+            answer = cutter.show()
+            cutter.restore(kept, set(image))
+            counts["images of cut copies"] += 1
+            counts["images of cut copies that open"] += answer == whole
+            if answer != whole and not opens_to_nothing(laid, answer):
+                cutter.losses.append(f"{where}, call {number}, {name}: {answer[0]} {answer[1][-12:]!r} {answer[2]!r}")
+    if os.pread(cutter.file, len(disk.kept) + 1, 0) != copied.read_bytes() or cutter.show() != whole:
+        cutter.losses.append(f"{where}: what is synced is not the whole copy")
+    cutter.forked.close()
+    shutil.rmtree(folder / "copy")
+    return counts, cutter.losses
+
+
 # The script
 
 
@@ -322,12 +403,13 @@ def left_of(run: Recorded, chance: random.Random) -> bytes:
 def cut_lives(program: str, libraries: tuple[str, str], folder: Path, version: int, options: argparse.Namespace) -> tuple[Counter, list[str]]:
     """Records a run over a store of a version and the runs after power cuts, and cuts each of them."""
     total, losses = Counter(), []
-    first, each = None, 0
+    layout, each = layout_for(options), 0
+    first = filled(program, folder, layout, version, options.rows, f"{options.seed}/{version}") if options.rows else None
     restarts = 0 if options.swallowed else options.restarts
     for restart in range(1 + restarts):
         seed = f"{options.seed}/{version}/{restart}"
         commands = options.commands if restart == 0 else options.commands // 4
-        run = record(program, libraries[0], folder, seed, commands, LAYOUT, version, first, options.swallowed, options.ahead)
+        run = record(program, libraries[0], folder, seed, commands, layout, version, first, options.swallowed, options.ahead, options.rows)
         letters = Counter(call.letter for call in run.calls)
         words = ", ".join(f"{count} {name}" for name, count in sorted(run.replies.items()))
         from_ = f"version {version}" if restart == 0 else f"what a power cut left, {run.start} commands"
@@ -337,6 +419,11 @@ def cut_lives(program: str, libraries: tuple[str, str], folder: Path, version: i
         counts, found = cut_all(program, libraries, folder, run, version == 1 and restart == 0, each, options)
         total += counts + Counter({"recorded runs": 1})
         losses += found
+        chance = random.Random(seed)
+        for _ in range(0 if options.swallowed else options.copies):
+            counts, found = cut_copy(program, libraries, folder, left_of(run, chance), chance, 6)
+            total += counts
+            losses += found
         if losses:
             break
         first = left_of(run, random.Random(seed))
@@ -365,6 +452,8 @@ def main(words: list[str]) -> int:
     parser.add_argument("--ahead", type=int, default=128, help="how many requests a session sends at one time at the most")
     parser.add_argument("--jobs", type=int, default=2)
     parser.add_argument("--openings", type=int, default=40, help="how many openings and upgrades each process cuts")
+    parser.add_argument("--rows", type=int, default=0, help="how many rows the first store has")
+    parser.add_argument("--copies", type=int, default=4, help="how many copies of each recorded run are made and cut")
     parser.add_argument("--enough", type=int, default=200, help="how many losses end a process")
     parser.add_argument("--swallowed", choices=SWALLOWED, default="", help="leave out every second sync of a kind")
     options = parser.parse_args(words)
@@ -382,7 +471,7 @@ def main(words: list[str]) -> int:
         print(f"  {name}: {count}")
     for loss in losses[:5]:
         print(f"  {loss}")
-    images = total["images"] + total["images of cut openings"] + total["images of cut upgrades"]
+    images = sum(total[name] for name in ("images", "images of cut openings", "images of cut upgrades", "images of cut copies"))
     print(f"{images} images, {len(losses)} losses, {time.monotonic() - begun:.0f} seconds")
     is_right = bool(losses) == bool(options.swallowed in FOUND_KINDS)
     return 0 if is_right else 1

@@ -1,5 +1,5 @@
-"""Runs `format`, `show`, `status`, `upgrade` and a served session, once for each allocation and for
-each call of the system, which is refused in that run.
+"""Runs `format`, `show`, `status`, `upgrade`, `copy` and a served session, once for each allocation
+and for each call of the system, which is refused in that run.
 
     tools/pathd-tools refused-calls [--program PROGRAM] [--every N] [--jobs N] [--only COMMAND] [--kind KIND] [--for MINUTES]
 
@@ -8,19 +8,20 @@ with EIO or ENOSPC, once or from then on; it interrupts one (EINTR), moves a par
 none, or a part with EIO. What has to come of it:
 
 - a transfer that is interrupted or moves a part is made again, and nothing else is seen of it;
-- `format`, `show`, `status` and `upgrade` end with the status 1 and the line of that refusal, and
-  what a store held before it still shows;
+- `format`, `show`, `status`, `upgrade` and `copy` end with the status 1 and the line of that
+  refusal, and what a store held before it still shows; a copy is whole, or no half of it is open;
 - a server ends so while it opens its store. Later it reports that the store has stopped, answers
   commands by 0x62 and 0x54, and lookups as before. What it acknowledged is there when the file is
   opened again, and beyond that at most what had no other reply than 0x62;
 - an allocation ends a command with `error: memory`, a server too if it has answered nobody yet, or
   the reply to a request is 0x01, or its session ends; the next requests are answered as before.
 
-- an fstat is a call on the store's file, before it is known to be one too;
+- an fstat is a call on the store's file, before it is known to be one too; one without memory
+  (ENOMEM) may end a command with `error: memory`;
 - an accept, a copy of a descriptor, a new thread, a byte from or to a peer, or what is set up once
-  (opening, locking, listening): a command ends with the status 1 and an `error:` line, a server too
-  where it has answered nobody yet; or nothing is seen of it; or a session ends, and the next one is
-  answered as before. The store never stops by it.
+  (looking at a path, opening, locking, listening): a command ends with the status 1 and an `error:`
+  line, a server too where it has answered nobody yet; or nothing is seen of it; or a session ends,
+  and the next one is answered as before. The store never stops by it.
 
 No run may take longer than 60 seconds. --every N tries each N-th allocation and read alone. With
 --for it begins no further way to fail after so many minutes, and says which were left out. It
@@ -67,8 +68,10 @@ NO_ADDRESS = "the server doesn't listen"
 # What a session is answered for which there is no thread, before its requests are read.
 NO_THREAD = b"\xff\x61"
 # What a command says where one of these ends it.
-BESIDE_LINES = re.compile(r"error: (memory|net|device 1|format \d|open \d|output)")
-COMMANDS = ["format", "show", "status", "upgrade", "run"]
+BESIDE_LINES = re.compile(r"error: (memory|net|device 1|format \d|open \d|copy \d|output)")
+COMMANDS = ["format", "show", "status", "upgrade", "copy", "run"]
+# What `show` says of a copy that has failed.
+NO_COPY = {"error: open 1", "error: open 3 1"}
 STOPPED = "the store has stopped"
 SECONDS = 60
 GROUPS = 252
@@ -101,14 +104,17 @@ def statuses(command: str) -> set[int]:
 
 def try_command(program: str, store: Path, command: str, env: dict, kind: str, how: str, first: bytes | None) -> str:
     """Runs a command over a store, and answers what came of it."""
-    words = [program, command, str(store)]
+    words, made = [program, command, str(store)], store.with_name("made")
+    made.unlink(missing_ok=True)
     if command == "format":
         words += ["--checkpoint", "2", "--journal", "516"]
         store.unlink(missing_ok=True)
     else:
         store.write_bytes(first)
+        words += [str(made)] if command == "copy" else []
     wanted = called(words, {})
-    held = store.read_bytes()
+    held = bytes_of(store), bytes_of(made)
+    made.unlink(missing_ok=True)
     before = None
     if command == "format":
         store.unlink()
@@ -119,16 +125,20 @@ def try_command(program: str, store: Path, command: str, env: dict, kind: str, h
     if not Path(env["REFUSED_MARK"]).exists():
         return "none"
     if status == 0:
-        if (status, out, err) != wanted or (command != "format" or how in PASSING) and store.read_bytes() != held:
+        if (status, out, err) != wanted or (command != "format" or how in PASSING) and (bytes_of(store), bytes_of(made)) != held:
             raise Wrong(f"status 0, {out!r}, {err!r}")
         if how not in PASSING and kind != "memory" and kind not in BESIDE:
             raise Wrong("ends as if nothing had failed")
         return "passed"
+    if command == "copy":
+        check_copy(program, store, made, first, before)
     if kind in BESIDE:
         return ended_beside(program, store, command, before, (status, out, err), wanted)
-    lines = {"error: open 2", "error: device 1", "error: format 3"}
+    lines = {"error: open 2", "error: device 1", "error: copy 5" if command == "copy" else "error: format 3"}
     if kind == "memory":
         lines = {"error: memory", *NO_PATH} if OF_PATH in err else {"error: memory"}
+    if how == "ENOMEM":
+        lines.add("error: memory")
     line = runs.last_line(err)
     if status not in statuses(command) or not wanted[1].startswith(out) or line not in lines:
         raise Wrong(f"status {status}, {out!r}, {err!r}")
@@ -137,6 +147,20 @@ def try_command(program: str, store: Path, command: str, env: dict, kind: str, h
     if before and called([program, "show", str(store)], {}) != before:
         raise Wrong("what was there isn't shown any more")
     return line
+
+
+def bytes_of(path: Path) -> bytes | None:
+    """The bytes of a file that may be missing."""
+    return path.read_bytes() if path.exists() else None
+
+
+def check_copy(program: str, store: Path, made: Path, first: bytes, before: tuple) -> None:
+    """Checks what a copy that has failed leaves: the store as it was, and a copy that is whole, or opens to nothing."""
+    if store.read_bytes() != first:
+        raise Wrong("the store that is copied has other bytes")
+    shown = called([program, "show", str(made)], {}) if made.exists() else before
+    if shown != before and (shown[:2] != (1, b"") or runs.last_line(shown[2]) not in NO_COPY):
+        raise Wrong(f"the copy shows {shown}")
 
 
 def ended_beside(program: str, store: Path, command: str, before: tuple | None, ended: tuple[int, bytes, bytes], wanted: tuple[int, bytes, bytes]) -> str:
@@ -160,18 +184,19 @@ def shown_of(program: str, store: Path, first: bytes) -> tuple[int, bytes, bytes
 
 
 def requests_of_session(count: int = 14) -> list[tuple]:
-    """This number of commands, with lookups between them; 14 fill a journal that has room for five groups, and some more."""
+    """This number of commands, with lookups and pages between them; 14 fill a journal that has room for five groups, and some more."""
     commands = runs.Commands("refusals", 9)
     requests: list[tuple] = []
     for number in range(count):
         requests.append(commands.next(0.2 if number > 9 else 0, 0.1))
-        requests.append(("lookup", *runs.QUERIES[number % len(runs.QUERIES)]))
+        requests.append(("look", runs.QUERIES[number % len(runs.QUERIES)]))
+        requests.append(("look", runs.PAGES[number % len(runs.PAGES)]))
     return requests
 
 
 def frame_of(request: tuple) -> bytes:
-    """The frame of a command or a lookup."""
-    return messages.lookup_frame(*request[1:]) if request[0] == "lookup" else messages.command_frame(request)
+    """The frame of a command, a lookup or a page."""
+    return runs.asking_frame(request[1]) if request[0] == "look" else messages.command_frame(request)
 
 
 class Worlds:
@@ -193,8 +218,8 @@ class Worlds:
     def take(self, request: tuple, content: bytes | None, how: str) -> None:
         """Takes a reply, or None where the session ended without one."""
         self.has_answered |= content is not None
-        if request[0] == "lookup":
-            self._take_lookup(request, content, how)
+        if request[0] == "look":
+            self._take_look(request[1], content, how)
         elif content is None or content in (b"\xff\x01", b"\xff\x62"):
             if how in PASSING or (content != b"\xff\x62") != (how == "refused"):
                 raise Wrong(f"the reply {content}")
@@ -219,24 +244,23 @@ class Worlds:
             raise Wrong(f"the acknowledgement {content.hex()}")
         self.lists = left
 
-    def _take_lookup(self, request: tuple, content: bytes | None, how: str) -> None:
+    def _take_look(self, asked: tuple, content: bytes | None, how: str) -> None:
         if how == "refused" and content in (None, b"\xff\x01"):
             return
-        kind, start, end = model.classify(runs.CORES, *request[1:])
-        found = [model.found_body(kind, model.matching(self.fold(commands), (kind, start, end))) for commands in self.lists]
-        if content is None or content[0] != 0x82 or content[1:] not in found:
-            raise Wrong(f"a lookup's reply {content}")
+        if content not in [runs.answer_to(asked, self.fold(commands)) for commands in self.lists]:
+            raise Wrong(f"the reply {content} to {asked}")
 
     def has(self, out: bytes) -> bool:
         """Whether `show` prints one of these."""
         return any(out == model.show_text(self.fold(commands), self.place + len(commands)) for commands in self.lists)
 
 
-def first_lines(kind: str, said: str) -> set[str]:
+def first_lines(kind: str, how: str, said: str) -> set[str]:
     """What a server says that ends before it serves."""
     if kind == "memory":
         return {"error: memory", *NO_PATH} if OF_PATH.decode() in said else {"error: memory"}
-    return {"error: open 2", "error: device 1"} if kind == "fstat" else {"error: open 2"}
+    lines = {"error: open 2", "error: device 1"} if kind == "fstat" else {"error: open 2"}
+    return lines | {"error: memory"} if how == "ENOMEM" else lines
 
 
 def try_session(program: str, store: Path, env: dict, kind: str, how: str, first: bytes) -> str:
@@ -252,7 +276,7 @@ def try_session(program: str, store: Path, env: dict, kind: str, how: str, first
         # A line of standard error that finds no memory is left out, and so may be the one with the address.
         if (kind == "setting" and " serves " in notices) or (kind == "memory" and " opened " in notices and str(ended) == NO_ADDRESS):
             result = "served, and said no address"
-        elif not (BESIDE_LINES.fullmatch(line) if kind in BESIDE else line in first_lines(kind, str(ended))) or how in PASSING:
+        elif not (BESIDE_LINES.fullmatch(line) if kind in BESIDE else line in first_lines(kind, how, str(ended))) or how in PASSING:
             raise Wrong(str(ended)) from ended
     else:
         with server:

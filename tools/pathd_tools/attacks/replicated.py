@@ -60,13 +60,13 @@ class Load:
     """Sessions of a server, a process each, which go on until it is killed."""
 
     def __init__(self, server: Server, frames: list[bytes], options: argparse.Namespace, seed: str, folder: Path) -> None:
-        asking = [messages.lookup_frame(*query) for query in runs.QUERIES]
+        asking = [runs.asking_frame(it) for it in runs.ASKED]
         self._counts = multiprocessing.Array("Q", options.sessions, lock=False)
         self._paths = [folder / f"session{seed.replace('/', '-')}-{it}" for it in range(options.sessions)]
         self._connections = [server.connect() for _ in self._paths]
         self._processes = []
         for number, path in enumerate(self._paths):
-            given = (self._connections[number], f"{seed}/{number}", frames, asking, self._counts, number, options.ahead, path)
+            given = (self._connections[number], f"{seed}/{number}", frames, asking, self._counts, number, options, path)
             self._processes.append(multiprocessing.Process(target=histories.hold_session, args=given))
             self._processes[-1].start()
 
@@ -113,11 +113,11 @@ class Trial:
 
     def __post_init__(self) -> None:
         self.frames = [messages.command_frame(command) for command in self.pool]
-        self.checker = histories.Checker(self.pool)
+        self.checker = histories.Checker(self.pool, self.options.for_lookups)
 
     def round(self, number: int) -> str:
         """A round; what is printed of it."""
-        kind = self.options.only[number % len(self.options.only)]
+        kind, begun = self.options.only[number % len(self.options.only)], time.time()
         first, second, third = self.chance.sample(self.volume.machines, len(self.volume.machines))
         server, _ = self.volume.take_over(first)
         load = Load(server, self.frames, self.options, f"{self.options.seed}/{number}/0", self.folder)
@@ -129,7 +129,7 @@ class Trial:
         sessions, took = self._taken_over(kind, number, server, load, second)
         image = third.image()
         (self.folder / "copy").write_bytes(image)
-        self.checker.check(sessions, image, runs.shown(self.program, self.folder / "copy"))
+        self.checker.check(histories.Round(sessions, {}, image, runs.shown(self.program, self.folder / "copy"), begun, time.time()))
         if kind == "machine":
             first.start()
             first.mount()
@@ -188,11 +188,13 @@ class Trial:
 def tried(options: argparse.Namespace) -> list[str]:
     """Makes the rounds; what doesn't hold."""
     program = runs.program_of(options.program)
+    # No server has a listener for lookups, or purges by itself.
+    options.begun, options.for_lookups = int(time.time()), 0
     with runs.scratch() as folder, ExitStack() as ending:
         volume = Volume(program, folder)
         ending.callback(volume.close)
         volume.format(histories.LAYOUT)
-        trial = Trial(program, folder, volume, options, random.Random(options.seed), histories.make_pool(options.seed))
+        trial = Trial(program, folder, volume, options, random.Random(options.seed), histories.make_pool(options.seed, options.begun))
         checker = trial.checker
         for number in range(options.rounds):
             begun = time.monotonic()

@@ -3,9 +3,10 @@ descriptors.
 
     tools/pathd-tools soak [--program PROGRAM] [--seed N] [--minutes N] [--sessions N] [--rate N] [--ahead N] [--coming N] [--series FILE]
 
-Sessions, a process each, register, remove, purge and look up, 1 to --ahead requests at one time, at
---rate requests a second each (0: as many as they can), for an hour if nothing else is said. Beside
-them --coming further sessions a second come, each for one lookup. At the end
+Sessions, a process each, register, remove, purge, look up and list, 1 to --ahead requests at one
+time, at --rate requests a second each (0: as many as they can), for an hour if nothing else is
+said. Beside them --coming further sessions a second come to the listener for lookups, each for one
+lookup. At the end
 
 - each request has its reply, and the places of the acknowledgements are those from 0 on, without a
   gap;
@@ -56,7 +57,7 @@ def hold_session(connection: socket.socket, seed: str, frames: list[bytes], unti
     """Sends requests until a moment, and writes the acknowledgements to a file; the last record has the numbers of requests and replies."""
     chance = random.Random(seed)
     replies = runs.Replies(connection)
-    asking = [messages.lookup_frame(*query) for query in runs.QUERIES]
+    asking = [runs.asking_frame(it) for it in runs.ASKED]
     asked = answered = found = 0
     next_at = time.monotonic()
     with open(path, "wb") as file:
@@ -69,7 +70,7 @@ def hold_session(connection: socket.socket, seed: str, frames: list[bytes], unti
                     content = replies.next()
                     answered += 1
                     if number >= POOL:
-                        found += content[0] == 0x82
+                        found += content[0] in (0x82, 0x85)
                     elif content[0] in (0x81, 0x83, 0x84):
                         file.write(RECORD.pack(*struct.unpack(">QIIII", content[1:]), number))
                 if rate:
@@ -86,7 +87,7 @@ def come_and_go(server: runs.Server, until: float, coming: float, faults: list[s
     next_at = time.monotonic()
     try:
         while coming > 0 and time.monotonic() < until:
-            with server.connect() as connection:
+            with server.connect(port=server.lookups_port()) as connection:
                 connection.sendall(asked)
                 if runs.Replies(connection).next()[0] != 0x82:
                     faults.append("a session of one lookup got another reply")
@@ -124,7 +125,7 @@ def main(words: list[str]) -> int:
         store = folder / "store"
         runs.format_store(program, store, LAYOUT)
         paths = [folder / f"session{it}" for it in range(options.sessions)]
-        with runs.Server(program, store) as server:
+        with runs.Server(program, store, ["--lookups", "127.0.0.1:0"]) as server:
             until = time.monotonic() + 60 * options.minutes
             processes = []
             for number, path in enumerate(paths):
@@ -183,7 +184,7 @@ def check(paths: list[Path], pool: list[tuple], program: str, store: Path, fault
     heads = [model.head_of(image, LAYOUT.area(half)) for half in (0, 1) if image[LAYOUT.gate(half) * model.SECTOR] == model.OPEN]
     if runs.shown(program, store) != (0, model.show_text(db, len(acknowledged)), b""):
         faults.append("`show` doesn't print the fold of all commands")
-    return f"{answered} replies: {len(acknowledged)} acknowledgements, {found} lookups; {max(head[1] for head in heads) - 1} checkpoints"
+    return f"{answered} replies: {len(acknowledged)} acknowledgements, {found} lookups and pages; {max(head[1] for head in heads) - 1} checkpoints"
 
 
 def watch(samples: list[Sample], faults: list[str]) -> None:

@@ -8,12 +8,14 @@ meant for ten minutes on a machine that does nothing else; without it the counts
 docs/RELIABILITY.md, and it takes some hours. --only takes some of the attacks by their names, so
 that several can run side by side:
 
-    power-cuts            images of a recorded server, of both versions, after openings and upgrades
+    power-cuts            images of a recorded server, of both versions, after openings, upgrades and copies
+    power-cuts-rows       the same over a store of 2,000 rows, whose checkpoints have several pieces
     swallowed-KIND        the same, every second sync of a kind left out: group, gate, chunks, half
     histories             32 sessions, each of which sends 1 to 128 requests ahead
     histories-kills       the same, the server killed again and again
     refused               refused-memory, refused-calls and refused-tests
-    peers, hostile, soak  the tools of these names
+    peers, hostile, soak, expiring
+                          the tools of these names
     loop                  what a loop device has of a store while the server is stopped; as root, by --only alone
     planted               faults in the sources, for which `rt` builds programs; by --only alone
 
@@ -58,14 +60,17 @@ def attack(name: str, tool: str, words: str, short: str, full: str, takes: str) 
 
 
 CUTTING = "--images 1500 --commands 2400 --openings 1", "--images 4000 --commands 4000 --openings 1"
+CUTTING_ROWS = "--images 1500 --commands 400 --openings 1 --restarts 0", "--images 100000"
 ATTACKS = [
     attack("power-cuts", "power-cuts", "", "--images 6000 --commands 500 --openings 8 --restarts 2", "--images 500000", "program seed jobs for"),
+    attack("power-cuts-rows", "power-cuts", "--rows 2000 --copies 1", *CUTTING_ROWS, "program seed jobs for"),
     *[attack(f"swallowed-{kind}", "power-cuts", f"--swallowed {kind}", *CUTTING, "program seed jobs") for kind in KINDS],
     attack("histories", "histories", "--kills 2", "--replies 30000", "--replies 1000000", "program seed for"),
     attack("histories-kills", "histories", "--kills 11", "--replies 30000", "--replies 1000000", "program seed for"),
     attack("refused", "refused", "", "--short", "", "last"),
     attack("peers", "peers", "", "--connections 2000 --seconds 5", "", "program"),
     attack("hostile", "hostile", "", "--frames 60000 --images 4000", "--frames 1000000 --images 100000", "program seed jobs"),
+    attack("expiring", "expiring", "", "--seconds 20", "--seconds 300", "program seed"),
     attack("soak", "soak", "", "--minutes 1 --rate 0", "--minutes 60 --rate 0", "program seed minutes"),
     attack("loop", "snapshots", "--kind loop", "--snapshots 20", "--snapshots 400", "program seed"),
     attack("planted", "planted", "", "--images 2000 --replies 20000", "", "seed jobs"),
