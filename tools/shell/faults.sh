@@ -1,8 +1,9 @@
 #!/usr/bin/env bash
 # Runs the built program with calls of the system on the file of a store failing or interrupted. A
-# transfer that a signal interrupts is made again: the command ends as it does without it. Any other
-# failure ends the command with its line of standard error. It needs Debian's strace, which makes
-# the calls fail, and is no part of the gate.
+# transfer that a signal interrupts is made again, and a look at the path that fails before the file
+# is opened is passed over: the command ends as it does without it. Any other failure ends the
+# command with its line of standard error. It needs Debian's strace, which makes the calls fail, and
+# is no part of the gate.
 #
 #     tools/pathd-tools faults [PROGRAM]
 #
@@ -73,13 +74,15 @@ interrupted fdatasync:error=EINTR:when=1+2 upgrade "$store"
 interrupted fsync:error=EINTR:when=1+2 "${format[@]}"
 # The first ten calls, of which no two are made by the same transfer otherwise.
 interrupted pwrite64:error=EINTR:when=1..10 upgrade "$store"
+# The look at the path before it is opened: what opens the file, and looks at it, decides.
+interrupted statx:error=EINVAL:when=1 show "$store"
 
 fails "error: device 1" openat:error=EACCES:when=1 show "$store"
 fails "error: device 1" flock:error=ENOLCK show "$store"
 fails "error: device 1" flock:error=ENOLCK show "$store" --layout
-fails "error: device 1" statx:error=EINVAL:when=1 show "$store"
 fails "error: device 1" statx:error=EINVAL:when=2 show "$store"
 fails "error: device 1" statx:error=EINVAL:when=3 show "$store"
+fails "error: device 1" statx:error=EINVAL:when=4 show "$store"
 fails "error: open 2" pread64:error=EIO:when=1 show "$store"
 fails "error: open 2" pread64:retval=0:when=1 show "$store"
 fails "error: open 2" pread64:error=EIO:when=1 show "$store" --layout
