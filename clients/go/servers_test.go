@@ -204,7 +204,7 @@ func TestLookupsFallOver(t *testing.T) {
 	}
 
 	hung := running(t, silent)
-	const try = 2 * time.Second // as long as a busy machine may take for a reply
+	const try = 5 * time.Second // as long as a busy machine may take for a reply
 	servers, ctx = serversOf(t, Options{Timeout: try}, hung, away)
 	begun := time.Now()
 	look(ctx, servers)

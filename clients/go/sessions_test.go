@@ -140,7 +140,7 @@ func TestServersWithoutRoom(t *testing.T) {
 }
 
 func TestASessionThatIsStuckIsClosed(t *testing.T) {
-	const patience = 2 * time.Second // as long as a busy machine may take to send and to reply
+	const patience = 5 * time.Second // as long as a busy machine may take to send and to reply
 	store := running(t, silent)
 	client, ctx := clientOf(t, store, ClientOptions{Patience: patience})
 	var all sync.WaitGroup
@@ -173,7 +173,7 @@ func TestASessionThatIsStuckIsClosed(t *testing.T) {
 }
 
 func TestASessionWithoutRequestsIsNotStuck(t *testing.T) {
-	const patience = 2 * time.Second // as long as a busy machine may take for a reply
+	const patience = 5 * time.Second // as long as a busy machine may take for a reply
 	client, ctx := clientOf(t, running(t, taken), ClientOptions{Patience: patience, Attempts: 1})
 	if _, err := client.Lookup(ctx, 1, 2); err != nil {
 		t.Error(err)

@@ -10,8 +10,10 @@ from types import TracebackType
 
 LENGTH = struct.Struct(">I")
 
-# How long a test waits for the other side at most, in seconds.
-PATIENCE = 10.0
+# How long a test waits at most for what has to come, in seconds, and the bound of a call that ends by
+# its bound. A machine that does other work may take most of the second for a connection and a reply.
+PATIENCE = 60.0
+BOUND = 4.0
 
 
 def framed(content: bytes) -> bytes:

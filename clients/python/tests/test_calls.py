@@ -21,7 +21,7 @@ from pathd_client import (
 )
 
 from .fake_server import (
-    FakeServer, Peer, Script, ack, answers, closes, refusal, turns_away,
+    BOUND, FakeServer, Peer, Script, ack, answers, closes, refusal, turns_away,
 )
 from .fake_store import FakeStore, acknowledges, lists
 from .samples import LIST, LOOKUP, PURGE, QUICKLY, REMOVE, in_order, registration, row
@@ -323,7 +323,7 @@ class Tasks(unittest.IsolatedAsyncioTestCase):
         with FakeServer(script) as server:
             async with AsyncSession(*server.address) as session:
                 with self.assertRaises(ReplyTimeout):
-                    await session.purge(within=0.05)
+                    await session.purge(within=BOUND / 2)
                 self.assertEqual((await session.purge()).place, 1)
 
     async def test_ends(self) -> None:
@@ -359,7 +359,7 @@ class Tasks(unittest.IsolatedAsyncioTestCase):
 
     async def test_a_silent_server(self) -> None:
         with FakeStore(lambda content: None) as store:
-            async with AsyncSession(*store.address, reply_timeout=0.1) as session:
+            async with AsyncSession(*store.address, reply_timeout=BOUND) as session:
                 asked = [session.purge(), session.look_up("1-0", "2-0")]
                 for fault in await asyncio.gather(*asked, return_exceptions=True):
                     self.assertIsInstance(fault, ReplyTimeout)

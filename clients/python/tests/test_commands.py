@@ -120,7 +120,7 @@ class Commands(unittest.TestCase):
 
     def test_a_server_that_is_away(self) -> None:
         with FakeStore() as up, FakeStore(is_up=False) as away:
-            to = ["--connect", f"{up.address},{away.address}", "--timeout", "1"]
+            to = ["--connect", f"{up.address},{away.address}", "--timeout", "4"]
             status, printed, said = run(*to, "--acknowledge", "one", "purge")
             self.assertEqual((status, len(printed.splitlines())), (0, 1))
             self.assertIn(f"warning: {away.address} lacks 1: no connection", said)

@@ -2,7 +2,6 @@
 from __future__ import annotations
 
 import socket
-import threading
 import time
 import unittest
 from collections.abc import Iterator
@@ -15,14 +14,16 @@ from pathd_client import (
 )
 from pathd_client.connection import Connection
 
-from .fake_server import FakeServer, Peer, ack, answers, closes, framed, refusal, resets, turns_away
+from .fake_server import (
+    BOUND, PATIENCE, FakeServer, Peer, ack, answers, closes, framed, refusal, resets, turns_away,
+)
 from .samples import LOOKUP, PURGE, QUICKLY, REMOVE, large_registration, registration, row
 
 NOTHING = Found([])
 
 
 def session_with(
-    server: FakeServer, retry: Retry = QUICKLY, reply_timeout: float = 10.0
+    server: FakeServer, retry: Retry = QUICKLY, reply_timeout: float = PATIENCE
 ) -> Session:
     """A session with a fake server."""
     host, port = server.address
@@ -296,11 +297,11 @@ class Faults(unittest.TestCase):
             peer.wait_for_end()
 
         with FakeServer(is_silent, answers(b"\x82")) as server:
-            with session_with(server, reply_timeout=0.2) as session:
+            with session_with(server, reply_timeout=BOUND) as session:
                 before = time.monotonic()
                 with self.assertRaises(ReplyTimeout) as caught:
                     session.ask(LOOKUP)
-                self.assertLess(time.monotonic() - before, 5.0)
+                self.assertLess(time.monotonic() - before, PATIENCE / 2)
                 self.assertIsInstance(caught.exception, TimeoutError)
                 self.assertEqual(session.ask(LOOKUP), NOTHING)
         self.assertEqual(server.requests, [contents(LOOKUP), contents(LOOKUP)])
@@ -308,14 +309,13 @@ class Faults(unittest.TestCase):
     def test_a_bound_on_the_whole_call(self) -> None:
         def is_slow(peer: Peer) -> None:
             with suppress(ConnectionError):
-                for _ in range(100):
-                    peer.read()
-                    time.sleep(0.05)
+                while peer.read():
+                    time.sleep(0.1)
                     peer.send(b"\x82")
 
         with FakeServer(is_slow) as server, session_with(server) as session:
             with self.assertRaises(SessionError) as caught:
-                session.pipeline([LOOKUP] * 100, within=0.5)
+                session.pipeline([LOOKUP] * 100, within=BOUND)
             self.assertIn(NOTHING, caught.exception.replies)
             self.assertIn(None, caught.exception.replies)
 
@@ -326,27 +326,26 @@ class Faults(unittest.TestCase):
             session.ask(LOOKUP, within=0.1)
 
     def test_an_interrupt(self) -> None:
-        def is_silent(peer: Peer) -> None:
+        def interrupts(peer: Peer) -> None:
+            peer.read()
+            session.interrupt()
             peer.wait_for_end()
 
-        with FakeServer(is_silent, answers(b"\x82")) as server:
+        with FakeServer(interrupts, answers(b"\x82")) as server:
             with session_with(server, NO_RETRY) as session:
                 session.interrupt()
-                timer = threading.Timer(0.2, session.interrupt)
-                timer.start()
                 with self.assertRaises(ConnectionEnded):
                     session.ask(LOOKUP)
-                timer.join()
                 self.assertEqual(session.ask(LOOKUP), NOTHING)
 
     def test_the_time_is_that_of_one_reply(self) -> None:
         def is_slow(peer: Peer) -> None:
             for _ in range(4):
                 peer.read()
-                time.sleep(0.6)
+                time.sleep(0.4 * BOUND)
                 peer.send(b"\x82")
 
-        with FakeServer(is_slow) as server, session_with(server, reply_timeout=2.0) as session:
+        with FakeServer(is_slow) as server, session_with(server, reply_timeout=BOUND) as session:
             self.assertEqual(session.pipeline([LOOKUP] * 4), [NOTHING] * 4)
 
     def test_what_is_no_reply_ends_the_session(self) -> None:
