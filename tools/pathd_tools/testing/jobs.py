@@ -7,7 +7,7 @@ import threading
 import time
 from collections.abc import Callable, Sequence
 from concurrent.futures import Future, ThreadPoolExecutor, as_completed
-from dataclasses import dataclass
+from dataclasses import dataclass, replace
 
 from pathd_tools import bounded, need
 
@@ -27,11 +27,12 @@ class Result:
 
 @dataclass(frozen=True)
 class Job:
-    """Something to run, and the things of need.py that it needs."""
+    """Something to run, the things of need.py that it needs, and whether it measures times."""
 
     name: str
     run: Callable[[], Result]
     needs: str = ""
+    is_timed: bool = False
 
     def missing(self) -> list[str]:
         """Which of these things are missing."""
@@ -98,20 +99,31 @@ def timed(job: Job, progress: Progress) -> Result:
 
 
 def run_all(jobs: Sequence[Job], at_once: int, fails_if_missing: bool) -> list[Result]:
-    """Runs jobs in their order, this number at one time. One that lacks something is skipped, or has failed."""
+    """Runs jobs in their order, this number at one time. One that lacks something is skipped, or has failed.
+
+    A job that measures times and fails beside others is run once more when they have ended, by
+    itself, and that result counts.
+    """
     progress = Progress(len(jobs))
     pool = ThreadPoolExecutor(at_once)
-    futures: list[Future[Result]] = []
-    results = []
+    futures: dict[Future[Result], Job] = {}
+    results: list[Result] = []
+    again: list[Job] = []
     for job in jobs:
         missing = job.missing()
         if missing:
             progress.end(job.name, [f"{'failed' if fails_if_missing else 'skipped':8}{job.name}: {', '.join(missing)} missing"])
             results.append(Result(0, int(fails_if_missing)))
         else:
-            futures.append(pool.submit(timed, job, progress))
+            futures[pool.submit(timed, job, progress)] = job
     try:
-        return results + [done.result() for done in as_completed(futures)]
+        for done in as_completed(futures):
+            job = futures[done]
+            if done.result().failed and job.is_timed and at_once > 1:
+                again.append(job)
+            else:
+                results.append(done.result())
+        return results + [timed(replace(job, name=f"{job.name}, by itself"), progress) for job in again]
     except BaseException:
         pool.shutdown(wait=False, cancel_futures=True)
         bounded.end_all()

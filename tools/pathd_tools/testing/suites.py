@@ -9,7 +9,7 @@ from pathd_tools import TOP, bounded
 from pathd_tools.testing.jobs import Job, Result
 
 # The seconds that a check or a suite may take.
-LIMIT = 600
+LIMIT = 1200
 # The checks of pages, each with its words.
 PAGES = ["links", "complete", "uses", "proofs", "apart", "unsafe", "codes", "help-texts", "metric-names", "plots-page", "widths", "blocks", "installed", "pictures", "reading --check"]
 GATEWAY = """protoc go protoc-gen-go protoc-gen-go-grpc golang-google-protobuf-dev golang-github-golang-protobuf-1-5-dev
@@ -52,4 +52,4 @@ def suites(program: Callable[[], Path | None]) -> list[Job]:
         return run([str(path) if word == "PROGRAM" else word for word in words])
 
     lines = [(needs, line) for needs, line in SUITES if (TOP / FOLDERS.get(line.split()[0], "tools")).is_dir()]
-    return [Job(line.replace("PROGRAM", "pathd"), partial(with_program, line.split()), needs) for needs, line in lines]
+    return [Job(line.replace("PROGRAM", "pathd"), partial(with_program, line.split()), needs, is_timed=True) for needs, line in lines]

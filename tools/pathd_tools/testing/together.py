@@ -16,7 +16,9 @@ check of pages and a suite each count as one, and so does a crate that is not co
 
 A suite is skipped where it lacks a package. It has failed instead with --all, or where the variable
 CI is set, as a machine that tests every change has to run all of it. A test may take 120 seconds, a
-check or a suite ten minutes. The status is 1 where something failed, and else 0.
+check or a suite twenty minutes. A suite that fails beside other jobs is run once more when they have
+ended, by itself, and that result counts: suites measure times, which a busy machine lengthens. The
+status is 1 where something failed, and else 0.
 
 The toolchain's `rt` has to be on the PATH. A job takes a core and up to 1.5 GB of memory.
 """
