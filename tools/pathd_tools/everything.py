@@ -38,7 +38,7 @@ PROGRAMS = [
     ("root losetup nspawn nft ip make curl protoc python3-protobuf", "units PROGRAM"),
     ("gcc python3", "refused-calls --program PROGRAM"),
     ("gcc python3", "power-cuts --program PROGRAM"),
-    ("python3", "histories --program PROGRAM"),
+    ("gcc python3", "histories --program PROGRAM"),
     ("python3-protobuf", "servers --program PROGRAM"),
     ("gcc python3", "short-load PROGRAM"),
 ]

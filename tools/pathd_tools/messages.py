@@ -11,7 +11,7 @@ from collections.abc import Iterable, Sequence
 from dataclasses import dataclass
 
 DOWN = 2
-REGISTER, LOOKUP, PURGE, REMOVE = 1, 2, 3, 4
+REGISTER, LOOKUP, PURGE, REMOVE, LIST = 1, 2, 3, 4, 5
 MTU = 1472
 
 
@@ -143,6 +143,11 @@ def command_frame(command: tuple) -> bytes:
 def lookup_frame(source: int, destination: int) -> bytes:
     """The request of a lookup."""
     return frame(LOOKUP, number_field(1, source) + number_field(2, destination))
+
+
+def list_frame(kind: int, start: int, end: int, after: bytes = b"") -> bytes:
+    """The request of a page of a type, after an id where there is one."""
+    return frame(LIST, struct.pack(">BQQ", kind, start, end) + after)
 
 
 def whole_frames(data: bytes) -> tuple[list[bytes], bytes]:

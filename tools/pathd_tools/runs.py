@@ -10,6 +10,7 @@ import re
 import shutil
 import signal
 import socket
+import struct
 import subprocess
 import sys
 import tempfile
@@ -36,6 +37,16 @@ AHEAD = (1, 8, 32, 128, 2, 64)
 QUERIES = [(CORE_A, leaf) for leaf in LEAVES] + [(leaf, CORE_A) for leaf in LEAVES] + [
     (CORE_A, CORE_B), (CORE_B, CORE_A), (1 << 48, LEAVES[0]), (LEAVES[1], 2 << 48), (0, LEAVES[2]), (LEAVES[3], 0), (CORE_A, 0),
 ]
+# Pages of each type: of the rows of an ISD, an AS, or two, and after an id.
+PAGES = [(model.UP, 1 << 48, 0, b""), (model.DOWN, 1 << 48, 1 << 48, b""), (model.CORE, 2 << 48, 0, b"")] + [
+    (model.DOWN, CORE_A, LEAVES[0], b""), (model.CORE, 0, CORE_A, b""), (model.DOWN, 0, LEAVES[1] & (1 << 48) - 1, b""),
+    *((kind, 0, 1 << 48, bytes([first]) + bytes(31)) for kind, first in ((model.UP, 0x10), (model.DOWN, 0x80), (model.CORE, 0xF0))),
+]
+# Lookups and pages.
+ASKED = [*QUERIES, *PAGES]
+# Rows that expire within seconds, whose ends no lookup and no page above covers: how many there are
+# of each type, and after how many seconds.
+FADING, FADES_AFTER = 8, (3, 9)
 
 
 def program_of(path: str | None) -> str:
@@ -83,6 +94,13 @@ def format_store(program: str, store: Path, layout: model.Layout, version: int =
             file.write(b"\1")
 
 
+def connected(port: int, timeout: float = 60.0) -> socket.socket:
+    """A connection to a port of the loopback."""
+    connection = socket.create_connection(("127.0.0.1", port), timeout)
+    connection.setsockopt(socket.IPPROTO_TCP, socket.TCP_NODELAY, 1)
+    return connection
+
+
 class Server:
     """A server of a store on the loopback, run by the words `under` where there are some. Port 0 is any free one."""
 
@@ -105,11 +123,12 @@ class Server:
             self.process = subprocess.Popen(
                 command, stdin=subprocess.DEVNULL, stdout=subprocess.DEVNULL, stderr=lines, env={**os.environ, **(env or {})}
             )
-        self.port = self._port()
+        self.port = self._noticed(r" at 127\.0\.0\.1:(\d+):")
 
-    def _port(self) -> int:
+    def _noticed(self, line: str) -> int:
+        """The port of a line on standard error, which may be still to come."""
         for _ in range(2000):
-            found = re.search(r" at 127\.0\.0\.1:(\d+):", self.notices.read_text())
+            found = re.search(line, self.notices.read_text(), re.M)
             if found:
                 return int(found.group(1))
             if self.process.poll() is not None:
@@ -122,11 +141,13 @@ class Server:
         """The port at which the server's numbers are asked for, where `--status` is among its words."""
         return int(re.search(r"^pathd: status at 127\.0\.0\.1:(\d+)$", self.notices.read_text(), re.M).group(1))
 
-    def connect(self, timeout: float = 60.0) -> socket.socket:
-        """A connection to the server."""
-        connection = socket.create_connection(("127.0.0.1", self.port), timeout)
-        connection.setsockopt(socket.IPPROTO_TCP, socket.TCP_NODELAY, 1)
-        return connection
+    def lookups_port(self) -> int:
+        """The port at which sessions only look up, where `--lookups` is among its words."""
+        return self._noticed(r"^pathd: lookups at 127\.0\.0\.1:(\d+)$")
+
+    def connect(self, timeout: float = 60.0, port: int = 0) -> socket.socket:
+        """A connection to the server, at its first listener if no port is named."""
+        return connected(port or self.port, timeout)
 
     def status(self, name: str) -> int:
         """A number of /proc/PID/status, as VmRSS or VmHWM in KiB, or Threads."""
@@ -250,6 +271,55 @@ class Commands:
         return ("register", tuple(sorted(segments, key=lambda row: row[0])))
 
 
+def fading(chance: random.Random, seconds: float | None = None) -> tuple:
+    """A registration of a row that expires so many seconds since 1970, or some seconds from now, or a removal of such a row."""
+    number = chance.randrange(3 * FADING)
+    kind = 1 + number % 3
+    hops = [messages.Hop(9 << 48 | 1, 0, 1 + number), messages.Hop(9 << 48 | 2, 1, 0)]
+    if chance.random() < 0.2:
+        return ("remove", kind, messages.path_id(hops))
+    expires = int(time.time() + chance.randint(*FADES_AFTER) if seconds is None else seconds)
+    # 337.5 seconds are the least time of a hop field, so that the row expires half a second later.
+    return ("register", ((kind, messages.make_segment(hops, expires - 337, 0)),))
+
+
+def is_own_purge(record: bytes) -> bool:
+    """Whether a command's record is a purge by the clock, as sessions' purges are by moments that are far from it."""
+    return record[:1] == b"\2" and len(record) == 9 and int.from_bytes(record[1:], "big") < 2 * (MADE - 1_000)
+
+
+def records_of(payload: bytes) -> Iterator[tuple[int, bytes]]:
+    """The places and the records of the commands of a group's payload; none of other bytes."""
+    kind, count, zeros, size, place = struct.unpack_from(">BBHIQ", payload) if len(payload) >= 16 else (0,) * 5
+    if kind != 1 or zeros or len(payload) < 16 + size:
+        return
+    at = 16
+    for number in range(count):
+        length = int.from_bytes(payload[at : at + 4], "big")
+        if at + 4 + length > 16 + size:
+            return
+        yield place + number, payload[at + 4 : at + 4 + length]
+        at += 4 + length
+
+
+def asking_frame(asked: tuple) -> bytes:
+    """The frame of a lookup, which has two sides, or of a page."""
+    return messages.lookup_frame(*asked) if len(asked) == 2 else messages.list_frame(*asked)
+
+
+def answer_to(asked: tuple, db: dict, now: int = 0) -> bytes:
+    """The reply to a lookup, which isn't refused, or to a page."""
+    if len(asked) == 2:
+        query = model.classify(CORES, *asked)
+        return b"\x82" + model.found_body(query[0], model.matching(db, query, now))
+    return b"\x85" + model.listed_body(asked[0], *model.page(db, asked[:3], asked[3], now))
+
+
+def asked_of(content: bytes) -> tuple:
+    """The lookup or the page that a request asks for."""
+    return model.lookup_of(content) if content[0] == model.LOOKUP else model.list_of(content)
+
+
 def greatest_window(number: int, ahead: int) -> int:
     """How many requests the session of a number sends at one time at the most, where none sends more than `ahead`."""
     return min(ahead, AHEAD[number % len(AHEAD)])
@@ -266,19 +336,18 @@ def digest(body: bytes) -> bytes:
 
 
 class Answers:
-    """What each query finds after each front of a list of commands, and what each command counts."""
+    """What each lookup and each page finds after each front of a list of commands, and what each command counts."""
 
-    def __init__(self, queries: Sequence[tuple[int, int]], start: dict | None = None) -> None:
+    def __init__(self, queries: Sequence[tuple], start: dict | None = None) -> None:
         self.db = dict(start or {})
         self.count = 0
         self.outcomes: list[tuple[int, int, int, int]] = []
-        self.asked = {query: model.classify(CORES, *query) for query in queries}
+        self.asked = {query: model.classify(CORES, *query) if len(query) == 2 else query[:3] for query in queries}
         self.versions = {query: [0] for query in queries}
         self.digests = {query: [self._digest(query)] for query in queries}
 
-    def _digest(self, query: tuple[int, int]) -> bytes:
-        asked = self.asked[query]
-        return digest(model.found_body(asked[0], model.matching(self.db, asked)))
+    def _digest(self, query: tuple) -> bytes:
+        return digest(answer_to(query, self.db))
 
     def add(self, command: tuple) -> None:
         """Folds the next command on."""
@@ -307,7 +376,7 @@ class Answers:
                 return True
         return False
 
-    def first_version(self, query: tuple[int, int], found: bytes, least: int) -> int | None:
+    def first_version(self, query: tuple, found: bytes, least: int) -> int | None:
         """The length of the shortest front, of `least` commands or more, after which a query finds this."""
         versions, digests = self.versions[query], self.digests[query]
         at = bisect.bisect_right(versions, least) - 1

@@ -53,7 +53,8 @@ ATTACKS = [
     Tool("power-cuts", "attacks.power_cuts", "cuts the power at each write and sync of a recorded server, and opens what is left"),
     Tool("histories", "attacks.histories", "one order of the commands explains all replies of 32 sessions, over kills"),
     Tool("hostile", "attacks.hostile", "mutated frames and images, each answer compared with the model's"),
-    Tool("refused-calls", "attacks.refused_calls", "refuses each allocation and call of the system of four commands and a server"),
+    Tool("expiring", "attacks.expiring", "lookups and pages while rows expire, beside the server's own purges"),
+    Tool("refused-calls", "attacks.refused_calls", "refuses each allocation and call of the system of five commands and a server"),
     Tool("refused-memory", "attacks.refused_memory", "refuses each allocation of `once`"),
     Tool("refused-tests", "attacks.refused_tests", "refuses each allocation of each test"),
     Tool("refused", "attacks.refused", "refused-memory, refused-calls and refused-tests"),
@@ -63,7 +64,7 @@ ATTACKS = [
     Tool("soak", "attacks.soak", "a mixed load for an hour, with many checkpoints"),
     Tool("full-disk", "attacks.full_disk", "a file system that runs out of room; as root"),
     Tool("snapshots", "attacks.snapshots", "snapshots of a store beside its running server; as root"),
-    Tool("planted", "attacks.planted", "faults in the program's sources, each of which power-cuts or histories has to see"),
+    Tool("planted", "attacks.planted", "faults in the program's sources, each of which power-cuts, histories or hostile has to see"),
     Tool("attacks", "attacks.together", "power-cuts, histories, refused, peers, hostile, soak and planted, with a summary"),
 ]
 
@@ -76,6 +77,7 @@ LOAD = [
 
 OTHERS = [
     Tool("test", "testing.together", "every test without a proof, in minutes: of crates, pages and clients; or of the crates that are named"),
+    Tool("gate", "gate", "the gate of a merge: `rt ci` without the proofs of the tests, or with them"),
     Tool("gate-time", "gate_time", "runs the gate, and prints the seconds of each crate's proof, edits and tests"),
     Tool("need", "need", "what the tools need and is missing on this machine"),
     Tool("all", "everything", "`test`, and the checks of the program that need packages or root"),

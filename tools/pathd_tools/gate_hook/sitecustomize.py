@@ -1,13 +1,20 @@
-"""Python reads this module before a program where its folder is in PYTHONPATH. For `rt ci` it notes
-the processor's seconds of each program that is started, and what the prover says of each edit.
+"""Python reads this module before a program where its folder is in PYTHONPATH. It changes `rt ci` in
+two ways, neither of which changes what is proved.
 
-`tools/pathd-tools gate-time` sets PATHD_GATE_TIME to the folder of its notes."""
+The sum of a crate's sources is made of the sums of the crates below it. `rt` makes it for each
+library twice, and reads a crate anew for each way that leads down to it, which here are millions.
+Within one such sum each crate is read once. The list of the crates below one is made once, too.
+
+Where PATHD_GATE_TIME is set, to the folder of its notes, the processor's seconds are noted of each
+program that is started, and what the prover says of each edit. `tools/pathd-tools gate-time` sets
+it."""
 import json
 import os
 import subprocess
 import sys
 import threading
 import time
+from importlib.machinery import SourceFileLoader
 
 FOLDER = os.environ.get("PATHD_GATE_TIME")
 LOCK = threading.Lock()
@@ -70,6 +77,47 @@ def run_and_keep(*words, **named):
     return done
 
 
+def run_and_change(loader, module):
+    """Runs a module of a file, and changes `rtlib`, the module of `rt` that has the crates."""
+    EXEC(loader, module)
+    if module.__name__ == "rtlib":
+        sum_once(module.Crate)
+        list_once(module.Crate)
+
+
+def sum_once(crate):
+    """Has the sum of a crate read each crate below it once."""
+    plain, of_thread = crate.stamp, threading.local()
+
+    def stamp(self):
+        sums = getattr(of_thread, "sums", None)
+        if sums is not None:
+            if self.folder not in sums:
+                sums[self.folder] = plain(self)
+            return sums[self.folder]
+        of_thread.sums = {}
+        try:
+            return plain(self)
+        finally:
+            of_thread.sums = None
+
+    crate.stamp = stamp
+
+
+def list_once(crate):
+    """Has a crate keep the list of those below it."""
+    plain = crate.below
+
+    def below(self):
+        if "kept_below" not in self.__dict__:
+            self.kept_below = plain(self)
+        return list(self.kept_below)
+
+    crate.below = below
+
+
+EXEC = SourceFileLoader.exec_module
+SourceFileLoader.exec_module = run_and_change
 if FOLDER:
     RUN = subprocess.run
     subprocess.Popen = Timed
