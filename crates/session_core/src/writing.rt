@@ -93,7 +93,7 @@ fn write_found<W: Sink>(
         return Err(FrameError::NoMemory);
     };
     let head = found_head(response.len());
-    write_parts(alloc, writer, &head, response.as_slice())
+    write_parts(alloc, writer, &head, response)
 }
 
 /// Writes the frame of a page.
@@ -107,27 +107,31 @@ fn write_listed<W: Sink>(alloc: Global, writer: &mut W, listing: &Listing) -> Re
         return Err(FrameError::NoMemory);
     };
     let head = listed_head(listing.more, response.len());
-    write_parts(alloc, writer, &head, response.as_slice())
+    write_parts(alloc, writer, &head, response)
 }
 
 /// Writes all bytes of a reply's head and of its body. A long body is joined with the head before,
-/// as a connection that does not gather it would send the head alone. Where memory for that is
-/// refused, the head is written before the body.
+/// as a connection that does not gather it would send the head alone. The body itself is dropped
+/// then, as a peer may take long to read. Where memory for that is refused, the head is written
+/// before the body.
 fn write_parts<W: Sink>(
     alloc: Global,
     writer: &mut W,
     head: &[u8],
-    body: &[u8],
+    body: Vec<u8>,
 ) -> Result<(), FrameError>
-    ensures ok { OnOk result (Appends (W.contents writer.old) (W.contents writer.new) (head.now ++ body.now)) }
-    ensures err { IfErr result (ReplyWriteFails (W.contents writer.old) (W.contents writer.new) (head.now ++ body.now)) }
+    ensures ok { OnOk result (Appends (W.contents writer.old) (W.contents writer.new) (head.now ++ body.items)) }
+    ensures err { IfErr result (ReplyWriteFails (W.contents writer.old) (W.contents writer.new) (head.now ++ body.items)) }
 {
     if body.len() < LONG {
-        return write_both(writer, head, body);
+        return write_both(writer, head, body.as_slice());
     }
-    match joined(alloc, head, body) {
-        Ok(whole) => write_all(writer, whole.as_slice()),
-        Err(_) => write_both(writer, head, body),
+    match joined(alloc, head, body.as_slice()) {
+        Ok(whole) => {
+            drop(body);
+            write_all(writer, whole.as_slice())
+        }
+        Err(_) => write_both(writer, head, body.as_slice()),
     }
 }
 
