@@ -17,6 +17,7 @@ mod ends;
 mod error;
 mod listeners;
 mod options;
+mod pace;
 mod parting;
 mod peer_socket;
 mod purger;

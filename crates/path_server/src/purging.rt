@@ -3,6 +3,7 @@
 ghost use Rattle.std.specs.Prelude.{◌≡◌, false};
 
 use crate::listeners::Listener;
+use crate::pace::Pace;
 use crate::purger::Purger;
 use crate::reports::{Report, Reports};
 use crate::server::Server;
@@ -38,7 +39,8 @@ impl<L: Listener + Drop, V: Verifier, O: Reports> Waiter for UntilEnd<'_, '_, L,
 }
 
 impl<L: Listener + Drop, V: Verifier, O: Reports> Server<'_, L, V, O> {
-    /// Hands in a purge of the clock's moment after each period, until the server is at its end.
+    /// Hands in a purge of the clock's moment after each rest, until the server is at its end. A rest
+    /// is the period, or shorter while purges drop many rows.
     pub(crate) fn purge<D: Device, N: HubName, R: Wait + Clock>(
         &self,
         hub: &Hub<D, N, R>,
@@ -47,18 +49,21 @@ impl<L: Listener + Drop, V: Verifier, O: Reports> Server<'_, L, V, O> {
     ) {
         let rt = hub.handle();
         let mut purger = Purger::new(hub, SystemNow::new(rt), sender);
+        let mut pace = Pace::new(period);
         for _ in rt.forever() {
-            if !self.rest(rt, period) || !self.purge_once(&mut purger) {
+            if !self.rest(rt, pace.rest()) || !self.purge_once(&mut purger, &mut pace) {
                 break;
             }
         }
         purger.end();
     }
 
-    /// Hands in a purge, and waits until it is answered. Returns whether the server goes on.
+    /// Hands in a purge, waits until it is answered, and notes how many rows it dropped. Returns
+    /// whether the server goes on.
     fn purge_once<D: Device, N: HubName, R: Wait + Clock, C: Now>(
         &self,
         purger: &mut Purger<'_, D, N, R, C>,
+        pace: &mut Pace,
     ) -> bool {
         let mut waiter = UntilEnd {
             server: self,
@@ -66,7 +71,9 @@ impl<L: Listener + Drop, V: Verifier, O: Reports> Server<'_, L, V, O> {
         };
         match purger.purge(&mut waiter) {
             Ok(receipt) => {
-                self.replies.count_outcome(receipt.outcome());
+                let outcome = receipt.outcome();
+                pace.note(outcome.purged);
+                self.replies.count_outcome(outcome);
                 self.note_purge();
             }
             Err(HubError::NotAwaited) => return false,

@@ -1,0 +1,58 @@
+//! How soon a server purges again.
+
+ghost use Rattle.std.specs.Prelude.{◌≡◌, ◌/◌, ◌<◌};
+ghost use Rattle.std.specs.Duration.{as_nanos};
+ghost use Rattle.path_server.specs.Pacing.{parts_after};
+
+use std::time::Duration;
+
+/// The most rows that a purge drops where the next one comes after as long a time. A row takes some
+/// 15 µs at a million rows, and commands wait for it.
+const MANY: u64 = 250;
+
+/// The time from one purge to the next: a part of a period, which is shorter while purges drop many
+/// rows, and a second at least where the period is.
+#[derive(Drop)]
+pub(crate) struct Pace {
+    period: Duration,
+    most: u32,
+    parts: u32,
+}
+
+impl Pace {
+    /// The whole of a period. Its parts are no more than its seconds.
+    pub(crate) fn new(period: Duration) -> Pace
+        ensures { (result.period ≡ period) × (result.parts ≡ 1) }
+    {
+        Pace {
+            period,
+            most: u32::try_from(period.as_secs()).unwrap_or(u32::MAX).max(1),
+            parts: 1,
+        }
+    }
+
+    /// The time until the next purge.
+    pub(crate) fn rest(&self) -> Duration
+        ensures { 0 < self.now.parts → as_nanos result ≡ as_nanos self.now.period / self.now.parts }
+    {
+        self.period.checked_div(self.parts).unwrap_or(self.period)
+    }
+
+    /// Notes the number of rows that a purge has dropped. After more than 250 the rest is shorter, so
+    /// that about 250 expire within it. After 125 and fewer it is twice as long, up to the period.
+    #[tactic(auto, unfolding(crate::specs::Pacing::parts_after))]
+    pub(crate) fn note(&mut self, dropped: u32)
+        ensures parts { self.new.parts ≡ parts_after dropped self.old.most self.old.parts }
+        ensures same { (self.new.period ≡ self.old.period) × (self.new.most ≡ self.old.most) }
+    {
+        let (dropped, parts) = (u64::from(dropped), u64::from(self.parts));
+        let wanted = if dropped > MANY {
+            (parts * (dropped / MANY + 1)).min(u64::from(self.most))
+        } else if dropped > MANY / 2 {
+            parts
+        } else {
+            (parts / 2).max(1)
+        };
+        self.parts = wanted as u32;
+    }
+}
