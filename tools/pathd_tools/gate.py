@@ -8,10 +8,9 @@ build them.
 The proofs of the tests take as long as those of most libraries, and say nothing of the program.
 `tools/pathd-tools test` runs the tests without proofs. The copy is in a temporary folder. What
 `rt ci` builds of the program `pathd` comes to crates/pathd/out/, so the program there is the one
-that was proved. Where the variable RT_JOBS is not set, three crates are proved at a time: with more,
-a crate that others wait for has less of the processors than it can use. `rt` makes millions of sums
-of sources here, and `gate_hook` has it make each once. The output and the status are those of
-`rt ci`.
+that was proved. Where the variable RT_JOBS is not set, three crates are proved at a time, each library
+by three processes. `rt` makes millions of sums of sources here, and `gate_hook` has it make each
+once. The output and the status are those of `rt ci`.
 """
 from __future__ import annotations
 

@@ -1,9 +1,12 @@
 """Python reads this module before a program where its folder is in PYTHONPATH. It changes `rt ci` in
-two ways, neither of which changes what is proved.
+three ways, none of which changes what is proved.
 
 The sum of a crate's sources is made of the sums of the crates below it. `rt` makes it for each
 library twice, and reads a crate anew for each way that leads down to it, which here are millions.
 Within one such sum each crate is read once. The list of the crates below one is made once, too.
+
+Each library is proved by three processes, as the crates wait for one another: the longest chain of
+them is most of the time. A proof that ran out of memory is tried once more, by one process.
 
 Where PATHD_GATE_TIME is set, to the folder of its notes, the processor's seconds are noted of each
 program that is started, and what the prover says of each edit. `tools/pathd-tools gate-time` sets
@@ -17,6 +20,8 @@ import time
 from importlib.machinery import SourceFileLoader
 
 FOLDER = os.environ.get("PATHD_GATE_TIME")
+# How many processes prove a library.
+PROCESSES = "3"
 LOCK = threading.Lock()
 
 
@@ -83,6 +88,7 @@ def run_and_change(loader, module):
     if module.__name__ == "rtlib":
         sum_once(module.Crate)
         list_once(module.Crate)
+        prove_by_several(module.Crate)
 
 
 def sum_once(crate):
@@ -114,6 +120,19 @@ def list_once(crate):
         return list(self.kept_below)
 
     crate.below = below
+
+
+def prove_by_several(crate):
+    """Has the first proof of a library be made by several processes, where `rt` gives it one."""
+    plain, tried = crate.build_rlib, set()
+
+    def build_rlib(self, flags, anew):
+        with LOCK:
+            is_first = anew and self.folder not in tried
+            tried.add(self.folder)
+        return plain(self, ["--jobs", PROCESSES] if is_first and flags == ["--jobs", "1"] else flags, anew)
+
+    crate.build_rlib = build_rlib
 
 
 EXEC = SourceFileLoader.exec_module
