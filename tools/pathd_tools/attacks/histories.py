@@ -69,8 +69,8 @@ LAYOUT = model.Layout(64, 4096)
 # of the reply.
 RECORD = struct.Struct("<QQIB24s")
 NEVER = (1 << 64) - 1
-# How many choices of the commands without a reply are tried.
-MOST_TRIES = 1000
+# How many choices of the commands without a reply are tried, and how many of one of them.
+MOST_TRIES, MOST_STEPS = 1000, 20_000
 LOOKUPS = 1 << 31
 # The first bytes of the replies to lookups and to lists, and to commands.
 LOOKS, ACKS = (0x82, 0x85), (0x81, 0x83, 0x84)
@@ -163,6 +163,44 @@ class Round:
     printed: tuple[int, bytes, bytes]
     begun: float
     ended: float
+
+
+class Fold:
+    """The rows of a round while the commands without an acknowledgement are chosen, one place after the other."""
+
+    def __init__(self, pool: list[tuple], rows: dict, commands: dict[int, tuple], counts: dict[int, tuple], missing: list[int], end: int) -> None:
+        """The commands of a round by place, but for those of missing places, and what those that were acknowledged have counted."""
+        self._pool, self._commands, self._counts = pool, commands, counts
+        self._ends = [*missing, end]
+        self._steps = 0
+        # The rows before each missing place, as far as the commands are chosen; none where the first ones count something else.
+        first = min([*commands, end])
+        before = self._after(dict(rows), range(first, self._ends[0]))
+        self._rows = [] if before is None else [before]
+
+    def _after(self, rows: dict, places: range) -> dict | None:
+        """The rows after the commands of these places; None where one has counted something else."""
+        for place in places:
+            outcome = model.apply(rows, self._commands[place])
+            if self._counts.get(place, outcome) != outcome:
+                return None
+        return rows
+
+    def push(self, asked: Asked) -> bool:
+        """Takes a request as that of the next missing place; whether all acknowledged ones up to the next one then count what they did."""
+        at, self._steps = len(self._rows), self._steps + 1
+        if not self._rows or self._steps > MOST_STEPS:
+            return False
+        rows = dict(self._rows[-1])
+        model.apply(rows, self._pool[asked.request])
+        after = self._after(rows, range(self._ends[at - 1] + 1, self._ends[at]))
+        if after is not None:
+            self._rows.append(after)
+        return after is not None
+
+    def pop(self) -> None:
+        """Takes the last request back."""
+        self._rows.pop()
 
 
 class Checker:
@@ -259,8 +297,11 @@ class Checker:
             [it for it in session if it.kind == 0 and it.request < LOOKUPS and not is_for_lookups(number, self.for_lookups)]
             for number, session in enumerate(sessions)
         ]
-        tried = islice(self._senders(wanted, limits, unanswered), MOST_TRIES)
-        found = next((it for it in tried if self._explains({**placed, **dict(zip(missing, it))}, own, None in wanted, opened, start)), None)
+        found = None
+        for fold in ([self._fold(placed, own, missing, end)] if None in wanted else []) + [None]:
+            tried = islice(self._senders(wanted, limits, unanswered, fold), MOST_TRIES)
+            explains = (it for it in tried if self._explains({**placed, **dict(zip(missing, it))}, own, None in wanted, opened, start))
+            found = found or next(explains, None)
         if found is None:
             self.fault(f"nobody sent the commands of the places {missing}")
             return None, [], []
@@ -288,9 +329,15 @@ class Checker:
             model.apply(rows, own[place] if place in own else self.pool[by_place[place].request])
         return rows == opened.rows
 
-    def _senders(self, wanted: list[tuple | None], limits: list[int], unanswered: list[list[Asked]]) -> Iterator[list[Asked]]:
+    def _fold(self, placed: dict[int, Asked], own: dict[int, tuple], missing: list[int], end: int) -> Fold:
+        """The rows of a round while the commands of the missing places are chosen."""
+        commands = {**{place: self.pool[asked.request] for place, asked in placed.items()}, **own}
+        counts = {place: struct.unpack(">IIII", asked.reply[8:]) for place, asked in placed.items()}
+        return Fold(self.pool, self.db, commands, counts, missing, end)
+
+    def _senders(self, wanted: list[tuple | None], limits: list[int], unanswered: list[list[Asked]], fold: Fold | None) -> Iterator[list[Asked]]:
         """Each choice of requests without a reply whose commands these may be: each session's in its order, and each sent
-        before a limit. Any command may be one that is None."""
+        before a limit. Any command may be one that is None. With a fold all acknowledged commands count what they did."""
         found: list[Asked] = []
         taken = [0] * len(unanswered)
         before: list[int] = []
@@ -307,6 +354,8 @@ class Checker:
                 tried.append(sorted(able, key=lambda it: (unanswered[it[0]][it[1]].sent, it[1]), reverse=True))
             if not is_whole and tried[-1]:
                 session, at = tried[-1].pop()
+                if fold and not fold.push(unanswered[session][at]):
+                    continue
                 before.append(taken[session])
                 found.append(replace(unanswered[session][at], kind=session))
                 taken[session] = at + 1
@@ -314,6 +363,8 @@ class Checker:
                 # No session goes on from here: the one before was another's.
                 del tried[len(found) :]
                 taken[found.pop().kind] = before.pop()
+                if fold:
+                    fold.pop()
             else:
                 return
 
