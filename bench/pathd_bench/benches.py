@@ -15,6 +15,7 @@ SERVING = [
     Tool("run", "run.sh", "`pathd once`, beside Google's protobuf"),
     Tool("lookups", "lookups.sh", "lookups that show 1, 8 and 64 segments"),
     Tool("waits", "waits", "the longest waits beside purges, wildcards and checkpoints"),
+    Tool("day", "day", "a day of an ISD: segments that are renewed, failures, lookups and a kill, as a table of hours"),
     Tool("profile", "profile.sh", "where the program's instructions go"),
 ]
 
