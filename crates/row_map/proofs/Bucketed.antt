@@ -1,5 +1,5 @@
 -- The buckets of keys: for `expiry_bounds` and `bucket_walk`.
-use Rattle.std.proofs.Common.{rules, ◌≡◌, inl, inr, ℕ, ◌+◌, ◌-◌, ◌*◌, ◌/◌, ◌%◌, ◌<◌, ◌≤◌, Bool, true, false, not, ◌&&◌, List, [], ◌∷◌, length, get_or, replicate, if◌then◌else◌, refl, sym, ap, ◌∙◌, subst, arith}
+use Rattle.std.proofs.Common.{rules, ◌≡◌, ℕ, ◌+◌, ◌-◌, ◌*◌, ◌/◌, ◌%◌, ◌<◌, ◌≤◌, Bool, true, false, not, ◌&&◌, List, [], ◌∷◌, length, get_or, replicate, if◌then◌else◌, refl, sym, ap, ◌∙◌, subst, arith}
 use Rattle.std.specs.List.{AllByRecursion}
 use Rattle.std.specs.Ordering.{nat_cmp, is_lt, is_le, ordering_then, ordering_reverse, MatchOrdering}
 use Rattle.std.specs.Cmp.{ranks}
@@ -7,7 +7,7 @@ use Rattle.std.specs.Cmp.Lexicographic.{slice_cmp}
 use Rattle.std.specs.declared.cmp.Ordering.{Ordering}
 use Rattle.std.specs.declared.cmp.Ordering.TheVariants.{Less, Equal, Greater}
 use Rattle.std.proofs.Math.Nat.{div-div-eq-div-mul}
-use Rattle.std.proofs.lemmas.Bool.{false≢true, and_parts, cases_lt}
+use Rattle.std.proofs.lemmas.Bool.{false≢true, and_parts}
 use Rattle.std.proofs.lemmas.Cmp.{nat_list_cmp_total}
 use Rattle.std.proofs.lemmas.Nat.{div-add-mod', mod_below}
 use Rattle.end_index.proofs.Exports.{zeros, zeros_first}
@@ -142,26 +142,10 @@ below_stop k row stop below above = by_order (key_order row stop) refl
 no_bounds : (row : RowView) → IsBounded [] row
 no_bounds row n within among = absurd (omega (arith, within))
 
-pub then_is : {X : Type 0} (b : Bool) (x y z : X) → z ≡ (if b then x else y) → b ≡ true → z ≡ x
-then_is b x y z e so = e ∙ ap (λ b. if b then x else y) so
-
-pub else_is : {X : Type 0} (b : Bool) (x y z : X) → z ≡ (if b then x else y) → b ≡ false → z ≡ y
-else_is b x y z e so = e ∙ ap (λ b. if b then x else y) so
-
 -- bounds that were copied, or none
 pub copied_bounded : (b : Bool) (from copy : List ℕ) (row : RowView) → copy ≡ (if b then from else []) → IsBounded from row → IsBounded copy row
 copied_bounded true from copy row e all = subst (λ l. IsBounded l row) (sym e) all
 copied_bounded false from copy row e all = subst (λ l. IsBounded l row) (sym e) (no_bounds row)
-
--- bounds to which the bound of all rows was appended, or the same ones
-pub split_bounded : (b : Bool) (count least : ℕ) (old new : List ℕ) (row : RowView) → (b ≡ false → new ≡ old) → (b ≡ true → length new ≡ count)
-    → ((k : ℕ) → k < count → k < length old → get_or new k 0 ≡ get_or old k 0) → ((k : ℕ) → b ≡ true → length old ≤ k → k < count → get_or new k 0 ≡ least)
-    → least ≤ expiry_of row.1 → IsBounded old row → IsBounded new row
-split_bounded false count least old new row kept filled below above le all n within among = subst (λ l. IsBounded l row) (sym (kept refl)) all n within among
-split_bounded true count least old new row kept filled below above le all n within among = elim (cases_lt n (length old)) [
-  | inl first ↦ omega (arith, below n (omega (arith, within, filled refl)) first, all n first among)
-  | inr later ↦ omega (arith, above n refl later (omega (arith, within, filled refl)), le)
-]
 
 -- the rows below a bucket, and those from it up to another one
 pub passed_more : (P : RowView → Type 0) (low high : ℕ) (row : RowView) → (is_before (first_key low) row ≡ true → P row) → (is_among low high row ≡ true → P row) → is_before (first_key high) row ≡ true → P row

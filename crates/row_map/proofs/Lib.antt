@@ -15,4 +15,5 @@ mod PutRow
 mod Appended
 mod Bucketed
 mod Purged
+mod Lowered
 pub mod Exports

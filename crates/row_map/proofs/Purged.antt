@@ -123,7 +123,7 @@ outlast_lowered : (moment least lower : ℕ) (rows : List RowView) → lower ≤
 outlast_lowered moment least lower [] le all = tt
 outlast_lowered moment least lower (row ∷ rows) le all = ((all.0.0, omega (arith, le, all.0.1)), outlast_lowered moment least lower rows le all.1)
 
-last_good : (P : RowView → Type 0) (front : List RowView) (row : RowView) → AllByRecursion P front → P row → AllByRecursion P (front ++ row ∷ [])
+pub last_good : (P : RowView → Type 0) (front : List RowView) (row : RowView) → AllByRecursion P front → P row → AllByRecursion P (front ++ row ∷ [])
 last_good P [] row all one = (one, tt)
 last_good P (r ∷ front) row all one = (all.0, last_good P front row all.1 one)
 
@@ -134,7 +134,7 @@ walk_goes_on all left row moment least lower le one valid walked = record {
   good = last_good (Outlasts moment lower) walked.front row (outlast_lowered moment least lower walked.front le walked.good) (valid, one);
 }
 
-append_none : {X : Type 0} (xs : List X) → xs ++ [] ≡ xs
+pub append_none : {X : Type 0} (xs : List X) → xs ++ [] ≡ xs
 append_none [] = refl
 append_none (x ∷ xs) = ap (λ l. x ∷ l) (append_none xs)
 

@@ -1,15 +1,21 @@
 //! Lower bounds of the moments at which the rows of a map expire.
 
-ghost use Rattle.std.specs.Prelude.{◌≡◌, ℕ, ◌<◌, ◌≤◌, ◌+◌, true};
+ghost use Rattle.std.specs.Prelude.{◌≡◌, ℕ, ◌<◌, ◌≤◌, ◌+◌, true, false};
+ghost use Rattle.std.specs.List.{AllByRecursion};
 ghost use Rattle.seg_check.specs.Expiry.{expiry_of};
 ghost use Rattle.row_map.specs.Database.{RowView, key_of};
-ghost use Rattle.row_map.specs.RowMap.{bytes_of};
+ghost use Rattle.row_map.specs.RowMap.{bytes_of, views_of};
 ghost use Rattle.row_map.specs.Buckets.{bucket_count, first_key, is_among, IsBoundedBy};
 ghost use Rattle.row_map.specs.Purge.{OutlastsBefore};
 
 use crate::bucket_walk::BucketWalk;
+use crate::row::Row;
 use crate::row_key::RowKey;
+use crate::row_list::Rows;
+use crate::row_map::key_of_row;
+use seg_check::expiry;
 use std::alloc::Global;
+use std::collections::BTreeMap;
 
 /// The number of buckets. A bucket is a type and the first two bytes of an id, and buckets are in
 /// the order of their keys.
@@ -39,14 +45,45 @@ impl ExpiryBounds {
         }
     }
 
-    /// Makes a bound for each bucket, that of all rows, for a map of this number of rows that has a
-    /// new one, where the number is large enough and there are no such bounds. Where memory is
-    /// refused nothing changes.
-    pub(crate) fn split_for(&mut self, rows: usize, has_new: bool)
-        ensures { (row : RowView) → IsBoundedBy self.old row → IsBoundedBy self.new row }
+    /// Whether there is no bound of each bucket, and a map of this number of rows has one.
+    pub(crate) fn is_to_be_split(&self, rows: usize) -> bool {
+        rows >= ROWS_OF_BUCKETS && self.by_bucket.is_empty()
+    }
+
+    /// Makes a bound for each bucket, that of no rows. Where memory is refused nothing changes, and
+    /// the result is `false`.
+    pub(crate) fn split(&mut self) -> bool
+        ensures least { self.new.least ≡ self.old.least }
+        ensures kept { result ≡ false → self.new.by_bucket.items ≡ self.old.by_bucket.items }
     {
-        if has_new && rows >= ROWS_OF_BUCKETS && self.by_bucket.is_empty() {
-            let _ = self.by_bucket.resize(BUCKETS, self.least);
+        self.by_bucket.resize(BUCKETS, u64::MAX).is_ok()
+    }
+
+    /// Makes a bound for each bucket of these rows, if there are enough, where one of them is new and
+    /// there are no such bounds. Where memory is refused nothing changes.
+    pub(crate) fn split_for(&mut self, rows: &BTreeMap<RowKey, Row>, has_new: bool)
+        ensures { AllByRecursion (IsBoundedBy self.old) (views_of rows.now.entries) → AllByRecursion (IsBoundedBy self.new) (views_of rows.now.entries) }
+    {
+        if has_new && self.is_to_be_split(rows.len()) {
+            self.split_by(Rows::of(rows.values()));
+        }
+    }
+
+    /// Makes a bound for each bucket of these rows. Where memory is refused nothing changes.
+    fn split_by(&mut self, rows: Rows<'_>)
+        ensures { AllByRecursion (IsBoundedBy self.old) rows.entry → AllByRecursion (IsBoundedBy self.new) rows.entry }
+    {
+        if self.split() {
+            self.lower_for(rows);
+        }
+    }
+
+    /// Lowers the bounds for rows.
+    fn lower_for(&mut self, rows: Rows<'_>)
+        ensures { AllByRecursion (IsBoundedBy self.new) rows.entry }
+    {
+        for row in rows {
+            self.lower(&key_of_row(row), expiry(&row.segment));
         }
     }
 

@@ -72,7 +72,9 @@ impl RowMap {
         ensures { result ≡ [] }
     {
         let mut bounds = ExpiryBounds::new(alloc);
-        bounds.split_for(rows, true);
+        if bounds.is_to_be_split(rows) {
+            bounds.split();
+        }
         RowMap {
             rows: BTreeMap::new(alloc),
             counts: TypeCounts::new(),
@@ -199,10 +201,10 @@ impl RowMap {
         let expires = expiry(&row.segment);
         let old = self.rows.insert(key, row)?;
         let is_new = old.is_none();
-        let count = self.rows.len();
+        let _count = self.rows.len();
         self.counts.add(kind, is_new);
         self.bounds.lower(&key, expires);
-        self.bounds.split_for(count, is_new);
+        self.bounds.split_for(&self.rows, is_new);
         Ok(old)
     }
 

@@ -34,17 +34,18 @@ invariant_of-self-2 c =
     let its = c.key_of_row-key.ensures in
     let row = row_view c.args.row in
     let es = c.self.inside.rows.entries in
-    let bounds = c.split_for.new.self in
+    let lowered = c.lower.new.self in
     let own = subst AreUnderTheirKeys (sym c.in_ok-old.ensures.entries) (own_set c.key_of_row-key.result c.args.row its es c.self.invariant.own) in
-    let one : IsBoundedBy bounds row = c.split_for.ensures row (c.lower.ensures.put row its (omega (arith, c.expiry-expires.ensures))) in
-    let others = all_implied (IsBoundedBy c.self.inside.bounds) (IsBoundedBy bounds) (views_of es) (λ r bounded. c.split_for.ensures r (c.lower.ensures.kept r bounded)) c.self.invariant.bounded in
+    let one : IsBoundedBy lowered row = c.lower.ensures.put row its (omega (arith, c.expiry-expires.ensures)) in
+    let others = all_implied (IsBoundedBy c.self.inside.bounds) (IsBoundedBy lowered) (views_of es) c.lower.ensures.kept c.self.invariant.bounded in
+    let all = subst (λ l. AllByRecursion (IsBoundedBy lowered) (views_of l)) (sym c.in_ok-old.ensures.entries) (all_set (IsBoundedBy lowered) c.key_of_row-key.result c.args.row es one others) in
     record {
       own = own;
       rising = rising_from c.insert.new.self.entries c.in_ok-old.ensures.ordered own;
       counted = subst (λ l. AreCounted c.add.new.self (views_of l)) (sym c.in_ok-old.ensures.entries)
           (added_counts c.key_of_row-key.result es c.self.invariant.own c.self.inside.counts c.self.invariant.counted c.args.row its c.in_ok-old.ensures.was_ordered c.add.new.self
           (λ other. c.add.ensures other ∙ ap (λ b. count_of c.self.inside.counts other + one_of b c.args.row.kind other) (not_back _ _ c.is_none-is_new.ensures ∙ ap (λ found. not (is_some found)) c.in_ok-old.ensures.old)));
-      bounded = subst (λ l. AllByRecursion (IsBoundedBy bounds) (views_of l)) (sym c.in_ok-old.ensures.entries) (all_set (IsBoundedBy bounds) c.key_of_row-key.result c.args.row es one others);
+      bounded = c.split_for.ensures all;
     }
 
 pub returns-clause-rising : goal.returns-clause-rising
