@@ -25,6 +25,7 @@ mod purging;
 mod reports;
 mod role;
 mod running;
+mod sample;
 mod seats;
 mod seldom;
 mod server;

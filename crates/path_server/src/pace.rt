@@ -1,6 +1,6 @@
 //! How soon a server purges again.
 
-ghost use Rattle.std.specs.Prelude.{◌≡◌, ◌/◌, ◌<◌};
+ghost use Rattle.std.specs.Prelude.{◌≡◌, ◌/◌, ◌<◌, true, nat_lt};
 ghost use Rattle.std.specs.Duration.{as_nanos};
 ghost use Rattle.path_server.specs.Pacing.{parts_after};
 
@@ -8,7 +8,7 @@ use std::time::Duration;
 
 /// The most rows that a purge drops where the next one comes after as long a time. A row takes some
 /// 15 µs at a million rows, and commands wait for it.
-const MANY: u64 = 250;
+pub(crate) const MANY: u64 = 250;
 
 /// The time from one purge to the next: a part of a period, which is shorter while purges drop many
 /// rows, and a second at least where the period is.
@@ -17,18 +17,28 @@ pub(crate) struct Pace {
     period: Duration,
     most: u32,
     parts: u32,
+    /// Whether the next purge may drop many rows: it is the first one, or the one before did.
+    expects_many: bool,
 }
 
 impl Pace {
     /// The whole of a period. Its parts are no more than its seconds.
     pub(crate) fn new(period: Duration) -> Pace
-        ensures { (result.period ≡ period) × (result.parts ≡ 1) }
+        ensures { (result.period ≡ period) × (result.parts ≡ 1) × (result.expects_many ≡ true) }
     {
         Pace {
             period,
             most: u32::try_from(period.as_secs()).unwrap_or(u32::MAX).max(1),
             parts: 1,
+            expects_many: true,
         }
+    }
+
+    /// Whether the next purge may drop many rows: it is the first one, or the one before did.
+    pub(crate) fn expects_many(&self) -> bool
+        ensures { result ≡ self.now.expects_many }
+    {
+        self.expects_many
     }
 
     /// The time until the next purge.
@@ -43,6 +53,7 @@ impl Pace {
     #[tactic(auto, unfolding(crate::specs::Pacing::parts_after))]
     pub(crate) fn note(&mut self, dropped: u32)
         ensures parts { self.new.parts ≡ parts_after dropped self.old.most self.old.parts }
+        ensures expects { self.new.expects_many ≡ nat_lt MANY dropped }
         ensures same { (self.new.period ≡ self.old.period) × (self.new.most ≡ self.old.most) }
     {
         let (dropped, parts) = (u64::from(dropped), u64::from(self.parts));
@@ -54,5 +65,6 @@ impl Pace {
             (parts / 2).max(1)
         };
         self.parts = wanted as u32;
+        self.expects_many = dropped > MANY;
     }
 }

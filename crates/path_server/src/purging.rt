@@ -6,6 +6,7 @@ use crate::listeners::Listener;
 use crate::pace::Pace;
 use crate::purger::Purger;
 use crate::reports::{Report, Reports};
+use crate::sample::Sample;
 use crate::server::Server;
 use paced_stream::Deadline;
 use path_hub::{Hub, HubError, HubName, Sender, Waiter};
@@ -39,8 +40,8 @@ impl<L: Listener + Drop, V: Verifier, O: Reports> Waiter for UntilEnd<'_, '_, L,
 }
 
 impl<L: Listener + Drop, V: Verifier, O: Reports> Server<'_, L, V, O> {
-    /// Hands in a purge of the clock's moment after each rest, until the server is at its end. A rest
-    /// is the period, or shorter while purges drop many rows.
+    /// Purges what has expired by the clock after each rest, until the server is at its end. A rest is
+    /// the period, or shorter while purges drop many rows.
     pub(crate) fn purge<D: Device, N: HubName, R: Wait + Clock>(
         &self,
         hub: &Hub<D, N, R>,
@@ -51,35 +52,82 @@ impl<L: Listener + Drop, V: Verifier, O: Reports> Server<'_, L, V, O> {
         let mut purger = Purger::new(hub, SystemNow::new(rt), sender);
         let mut pace = Pace::new(period);
         for _ in rt.forever() {
-            if !self.rest(rt, pace.rest()) || !self.purge_once(&mut purger, &mut pace) {
+            if !self.rest(rt, pace.rest()) {
                 break;
+            }
+            let sample = if pace.expects_many() {
+                self.sample(hub, purger.now())
+            } else {
+                None
+            };
+            match self.purge_in_steps(hub, &mut purger, sample) {
+                Some(dropped) => pace.note(dropped),
+                None => break,
             }
         }
         purger.end();
     }
 
-    /// Hands in a purge, waits until it is answered, and notes how many rows it dropped. Returns
-    /// whether the server goes on.
+    /// A sample of the rows, of which those have expired that expire at this moment or before. There
+    /// is none where no reader is free, or memory is refused.
+    fn sample<D: Device, N: HubName, R: Wait + Clock>(
+        &self,
+        hub: &Hub<D, N, R>,
+        until: u64,
+    ) -> Option<Sample> {
+        let mut reader = hub.reader().ok()?;
+        let sample = Sample::of(self.alloc, &mut reader, until);
+        hub.give_back(reader);
+        sample.ok()
+    }
+
+    /// Purges by moments of a sample, so that each purge drops about 250 rows, and then by the clock.
+    /// Returns how many rows were dropped, or `None` where the server does not go on.
+    fn purge_in_steps<D: Device, N: HubName, R: Wait + Clock, C: Now>(
+        &self,
+        hub: &Hub<D, N, R>,
+        purger: &mut Purger<'_, D, N, R, C>,
+        sample: Option<Sample>,
+    ) -> Option<u32> {
+        let mut dropped = 0u32;
+        if let Some(sample) = sample {
+            let stride = sample.stride(hub.numbers().0.rows);
+            let mut before = 0;
+            for moments in sample.moments().chunks_exact(stride) {
+                let last = moments.last().copied().unwrap_or(0);
+                if last > before {
+                    dropped = dropped.saturating_add(self.purge_once(purger, last)?);
+                    before = last;
+                }
+            }
+        }
+        Some(dropped.saturating_add(self.purge_once(purger, u64::MAX)?))
+    }
+
+    /// Hands in a purge of a moment, or of the clock's where that is before it, and waits until it is
+    /// answered. Returns how many rows it dropped, or `None` where the server does not go on.
     fn purge_once<D: Device, N: HubName, R: Wait + Clock, C: Now>(
         &self,
         purger: &mut Purger<'_, D, N, R, C>,
-        pace: &mut Pace,
-    ) -> bool {
+        most: u64,
+    ) -> Option<u32> {
         let mut waiter = UntilEnd {
             server: self,
             has_left: false,
         };
-        match purger.purge(&mut waiter) {
+        match purger.purge(most, &mut waiter) {
             Ok(receipt) => {
                 let outcome = receipt.outcome();
-                pace.note(outcome.purged);
                 self.replies.count_outcome(outcome);
                 self.note_purge();
+                Some(outcome.purged)
             }
-            Err(HubError::NotAwaited) => return false,
-            Err(error) => self.note_no_purge(error),
+            Err(HubError::NotAwaited) => None,
+            Err(error) => {
+                self.note_no_purge(error);
+                Some(0)
+            }
         }
-        true
     }
 
     /// Waits for a period. Returns at once whether the server goes on, as soon as it does not.

@@ -1,0 +1,103 @@
+//! When rows expire, by some of them.
+
+ghost use Rattle.std.specs.Prelude.{◌<◌};
+
+use crate::pace::MANY;
+use hub_readers::{HubReader, ReaderError};
+use isd_as::IsdAs;
+use path_hub::HubName;
+use seg_check::expiry;
+use seg_core::{SegType, Segment};
+use seg_lookup::Query;
+use std::alloc::Global;
+
+/// The most pages of a type that are read, of 64 rows each.
+const PAGES: u32 = 64;
+
+/// The most steps of a purge.
+const MOST_STEPS: u64 = 2_048;
+
+/// The first rows of each type by their ids, at most 4,096 of each. An id is a digest, so these are
+/// as good as rows by chance.
+#[derive(Drop)]
+pub(crate) struct Sample {
+    /// The number of these rows.
+    seen: u64,
+    /// When those of them expired that have expired, in half seconds since 1970, in this order.
+    moments: Vec<u64>,
+}
+
+impl Sample {
+    /// A sample of the rows that a reader is shown, of which those have expired that expire at this
+    /// moment or before, in half seconds since 1970.
+    pub(crate) fn of<N: HubName>(
+        alloc: Global,
+        reader: &mut HubReader<N>,
+        until: u64,
+    ) -> Result<Sample, ReaderError> {
+        let mut sample = Sample {
+            seen: 0,
+            moments: Vec::new(alloc),
+        };
+        for kind in [SegType::Up, SegType::Down, SegType::Core] {
+            sample.add_type(reader, kind, until)?;
+        }
+        sample.moments.sort_unstable();
+        Ok(sample)
+    }
+
+    /// Adds the first rows of a type.
+    fn add_type<N: HubName>(
+        &mut self,
+        reader: &mut HubReader<N>,
+        kind: SegType,
+        until: u64,
+    ) -> Result<(), ReaderError> {
+        let any = IsdAs::from_u64(0);
+        let query = Query {
+            kind,
+            start: any,
+            end: any,
+        };
+        let mut after = None;
+        for _ in 0..PAGES {
+            let page = reader.page(&query, after.as_ref(), 0)?;
+            for segment in &page.segments {
+                self.add(segment, until)?;
+            }
+            if !page.more {
+                break;
+            }
+            after = page.segments.last().map(|segment| *segment.digest());
+        }
+        Ok(())
+    }
+
+    /// Adds a row.
+    fn add(&mut self, segment: &Segment, until: u64) -> Result<(), ReaderError> {
+        self.seen = self.seen.saturating_add(1);
+        let moment = expiry(segment);
+        if moment <= until && self.moments.push(moment).is_err() {
+            return Err(ReaderError::NoMemory);
+        }
+        Ok(())
+    }
+
+    /// When rows of the sample expired, by rising moments.
+    pub(crate) fn moments(&self) -> &[u64] {
+        &self.moments
+    }
+
+    /// After how many of its moments each a purge drops about 250 rows of a store that has this many.
+    pub(crate) fn stride(&self, rows: u64) -> usize
+        ensures { 0 < result }
+    {
+        let part = self
+            .seen
+            .saturating_mul(MANY)
+            .checked_div(rows)
+            .unwrap_or(u64::MAX);
+        let least = self.moments.len() as u64 / MOST_STEPS + 1;
+        usize::try_from(part.max(least)).unwrap_or(usize::MAX)
+    }
+}
