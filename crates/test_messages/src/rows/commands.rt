@@ -6,7 +6,7 @@ use crate::host::Host;
 use crate::rows::records::{BAD, changed, put_row};
 use crate::rows::worked::SEGMENT;
 use path_db::Command;
-use path_records::{DbError, read_command, write_command};
+use path_records::{DbError, is_within_limits, read_command, write_command};
 use std::alloc::Global;
 use std::test::Fail;
 use store_layout::{JournalKind, allows};
@@ -82,8 +82,12 @@ fn read_again(alloc: Global, bytes: &[u8], removals: bool) -> Result<Command, Db
     }
 }
 
-/// Whether a command is written as these bytes. Where memory is refused, it is written again.
+/// Whether a command is within its limits and is written as these bytes. Where memory is refused, it
+/// is written again.
 fn is_written_as(alloc: Global, command: &Command, bytes: &[u8]) -> Result<bool, DbError> {
+    if !is_within_limits(command) {
+        return Ok(false);
+    }
     let mut written = Vec::new(alloc);
     if write_command(command, &mut written).is_err() {
         write_command(command, &mut written)?;

@@ -7,7 +7,9 @@ use crate::host::Host;
 use crate::rows::commands::registration;
 use crate::rows::records::{assert_written_as, changed, read_again, rows_of};
 use path_db::{Command, PathDb};
-use path_records::{DatabaseReader, DbError, read_command, read_rows, write_command, write_rows};
+use path_records::{
+    DatabaseReader, DbError, is_within_limits, read_command, read_rows, write_command, write_rows,
+};
 use std::alloc::{AllocError, Global};
 use std::test::Fail;
 use test_support::{TestHost, assert_same, assert_true};
@@ -163,6 +165,11 @@ fn assert_command_appended(
     bytes: &[u8],
 ) -> Result<(), Fail> {
     let mut out = Vec::from_slice(alloc, &FRONT)?;
+    assert_true(
+        rt,
+        is_within_limits(command),
+        "a command that is read is within its limits",
+    );
     if write_command(command, &mut out).is_err() {
         assert_behind_front(rt, &out, &[]);
         write_command(command, &mut out)?;

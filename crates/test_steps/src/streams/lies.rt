@@ -5,7 +5,7 @@ use crate::host::Host;
 use crate::streams::large_rows::{LARGE_CONTENTS, large_half};
 use crate::streams::sealed::{SECTORS, sectors_from};
 use crate::streams::watched::{Change, Watched};
-use group_core::{BeginError, Plan, StepError};
+use group_core::{BeginError, StepError};
 use sector_dev::{MemDevice, SECTOR};
 use std::alloc::Global;
 use std::process::Abort;
@@ -35,20 +35,19 @@ fn reads_of_begin(rt: &Host<impl Abort>, alloc: Global) -> u64 {
     reads
 }
 
-/// A checkpoint that is begun.
-fn plan_of(rt: &Host<impl Abort>, work: &mut Work<Watched<MemDevice>>) -> Plan {
-    match work.state.begin() {
-        Ok(plan) => plan,
-        Err(_refused) => rt.fail("no checkpoint was begun"),
-    }
-}
-
-/// Sees that what is read after the first chunk is refused, and that the state has stopped.
-fn assert_damaged(rt: &Host<impl Abort>, work: &mut Work<Watched<MemDevice>>, plan: Plan) {
+/// Begins a checkpoint, and sees that what is read after its first chunk is refused.
+fn assert_damaged(rt: &Host<impl Abort>, work: &mut Work<Watched<MemDevice>>) {
+    let Ok(plan) = work.state.begin() else {
+        rt.fail("no checkpoint was begun");
+    };
     match work.state.write_chunk(plan) {
         Err(StepError::Damaged) => {}
         _ => rt.fail("the lie was not noticed"),
     }
+}
+
+/// Sees that the state has stopped.
+fn assert_stopped(rt: &Host<impl Abort>, work: &mut Work<Watched<MemDevice>>) {
     match work.state.begin() {
         Err(BeginError::Stopped) => {}
         _ => rt.fail("the state goes on"),
@@ -72,8 +71,8 @@ fn bytes_of(rt: &Host<impl Abort>, alloc: Global, memory: MemDevice) -> Vec<u8> 
 fn bytes_after_a_lie(rt: &Host<impl Abort>, alloc: Global, honest: u64) -> Vec<u8> {
     let store = opened(rt, alloc, watched(rt, alloc, honest));
     let mut work = work_of(rt, alloc, store);
-    let plan = plan_of(rt, &mut work);
-    assert_damaged(rt, &mut work, plan);
+    assert_damaged(rt, &mut work);
+    assert_stopped(rt, &mut work);
     let (changes, memory) = work.device(rt).into_parts();
     assert_changes(rt, &changes);
     bytes_of(rt, alloc, memory)
