@@ -8,9 +8,10 @@ build them.
 The proofs of the tests take as long as those of most libraries, and say nothing of the program.
 `tools/pathd-tools test` runs the tests without proofs. The copy is in a temporary folder. What
 `rt ci` builds of the program `pathd` comes to crates/pathd/out/, so the program there is the one
-that was proved. Where the variable RT_JOBS is not set, three crates are proved at a time, each library
-by three processes. `rt` makes millions of sums of sources here, and `gate_hook` has it make each
-once. The output and the status are those of `rt ci`.
+that was proved. Where the variable RT_JOBS is not set, three crates are proved at a time. `gate_hook` has
+`rt` prove a library by two processes where few are being proved, and has it read each crate's
+sources once for each sum of them, and not once for each way that leads down to it. The output and
+the status are those of `rt ci`.
 """
 from __future__ import annotations
 

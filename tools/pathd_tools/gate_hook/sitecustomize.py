@@ -5,8 +5,9 @@ The sum of a crate's sources is made of the sums of the crates below it. `rt` ma
 library twice, and reads a crate anew for each way that leads down to it, which here are millions.
 Within one such sum each crate is read once. The list of the crates below one is made once, too.
 
-Each library is proved by three processes, as the crates wait for one another: the longest chain of
-them is most of the time. A proof that ran out of memory is tried once more, by one process.
+A library is proved by two processes where at most one more is being proved. The crates wait for one
+another, and the longest chain of them, one at a time, is most of the gate's time. More processes
+take more of the processors in all. A proof that ran out of memory is tried again by one process.
 
 Where PATHD_GATE_TIME is set, to the folder of its notes, the processor's seconds are noted of each
 program that is started, and what the prover says of each edit. `tools/pathd-tools gate-time` sets
@@ -20,8 +21,6 @@ import time
 from importlib.machinery import SourceFileLoader
 
 FOLDER = os.environ.get("PATHD_GATE_TIME")
-# How many processes prove a library.
-PROCESSES = "3"
 LOCK = threading.Lock()
 
 
@@ -88,7 +87,7 @@ def run_and_change(loader, module):
     if module.__name__ == "rtlib":
         sum_once(module.Crate)
         list_once(module.Crate)
-        prove_by_several(module.Crate)
+        prove_by_two(module.Crate)
 
 
 def sum_once(crate):
@@ -122,15 +121,20 @@ def list_once(crate):
     crate.below = below
 
 
-def prove_by_several(crate):
-    """Has the first proof of a library be made by several processes, where `rt` gives it one."""
-    plain, tried = crate.build_rlib, set()
+def prove_by_two(crate):
+    """Has two processes make the first proof of a library where `rt` gives it one, and at most one more library is being proved."""
+    plain, tried, proving = crate.build_rlib, set(), []
 
     def build_rlib(self, flags, anew):
         with LOCK:
-            is_first = anew and self.folder not in tried
+            proving.append(self.folder)
+            by_two = anew and flags == ["--jobs", "1"] and self.folder not in tried and len(proving) <= 2
             tried.add(self.folder)
-        return plain(self, ["--jobs", PROCESSES] if is_first and flags == ["--jobs", "1"] else flags, anew)
+        try:
+            return plain(self, ["--jobs", "2"] if by_two else flags, anew)
+        finally:
+            with LOCK:
+                proving.remove(self.folder)
 
     crate.build_rlib = build_rlib
 
