@@ -119,20 +119,20 @@ fn a_copy_has_these_bytes(rt: HostRuntime) {
 #[derive(Clone, Copy)]
 struct Refused {
     geometry: Geometry,
-    sectors: u64,
+    sectors: u32,
     worked: Worked,
     error: CopyError,
 }
 
 #[rattlefmt::skip]
 const REFUSED: [Refused; 4] = [
-    Refused { geometry: Geometry { checkpoint: 1, journal: 516 }, sectors: SECTORS,
+    Refused { geometry: Geometry { checkpoint: 1, journal: 516 }, sectors: SECTORS as u32,
         worked: PLAIN, error: CopyError::BadGeometry },
-    Refused { geometry: Geometry { checkpoint: 2, journal: 515 }, sectors: SECTORS,
+    Refused { geometry: Geometry { checkpoint: 2, journal: 515 }, sectors: SECTORS as u32,
         worked: PLAIN, error: CopyError::BadGeometry },
     Refused { geometry: LEAST, sectors: 1038,
         worked: Worked { twelve: true, ..PLAIN }, error: CopyError::TooSmall },
-    Refused { geometry: LEAST, sectors: SECTORS,
+    Refused { geometry: LEAST, sectors: SECTORS as u32,
         worked: Worked { twelve: true, ..PLAIN }, error: CopyError::Unfit },
 ];
 
@@ -143,7 +143,7 @@ fn assert_refused(
     rows: &PathDb,
     row: &Refused,
 ) -> Result<(), Fail> {
-    let mut device = MemDevice::new(alloc, row.sectors)?;
+    let mut device = MemDevice::new(alloc, u64::from(row.sectors))?;
     let refused = format_with(alloc, &mut device, row.geometry, rows, 260);
     assert_same(rt, &refused, &Err(row.error), &row.error);
     assert_zero(rt, &mut device, 0);
