@@ -59,6 +59,8 @@ CORES, ISDS, LINKS, ONE_OF_CORE = 16, 20, 2_000, 25
 FAILURES, TOGETHER = 20, 4
 DOWN, CORE = 2, 3
 IN_A_REGISTRATION, AT_ONCE = 8, 32
+# The most sectors of a checkpoint area.
+MOST_SECTORS = 1_048_576
 # The seconds of which the lifetime of a hop field is a multiple.
 LIFETIMES = 337.5
 SIGNATURE = bytes(71)
@@ -273,7 +275,7 @@ class Played:
     def __init__(self, pathd: Path, folder: Path, journal: int, day: Day) -> None:
         self._folder, self.port, self._numbers = folder, free_port(), free_port()
         store = folder / "store"
-        sectors = max(65_536, day.rows * 900 // 512)
+        sectors = min(MOST_SECTORS, max(65_536, 2 * day.rows))
         subprocess.run([pathd, "format", store, "--checkpoint", str(sectors), "--journal", str(journal)], check=True, stdout=subprocess.DEVNULL)
         cores = ",".join(f"1-ff00:0:{number:x}" for number in range(CORES))
         self._words = [pathd, "run", store, "--listen", f"127.0.0.1:{self.port}", "--status", f"127.0.0.1:{self._numbers}", "--cores", cores, "--purge", "5"]
