@@ -4,6 +4,7 @@ from __future__ import annotations
 import asyncio
 import ssl
 from collections import deque
+from contextlib import suppress
 from dataclasses import dataclass
 
 from .addresses import Address
@@ -17,6 +18,10 @@ from .replies import Refused, Reply, read_reply
 from .requests import Request
 from .retries import DEFAULT_RETRY, Retry
 from .sessions import Session
+
+
+# The seconds that the end of a context waits for the end of its connection at most.
+CLOSING = 1.0
 
 
 @dataclass
@@ -69,6 +74,12 @@ class Line:
         self._writer.close()
         while self._waiting:
             self._settle(self._fault_of(self._waiting[0].request, fault))
+
+    async def wait_closed(self) -> None:
+        """Waits until the connection, which was ended, is closed, but not for long."""
+        with suppress(OSError, TimeoutError):
+            async with asyncio.timeout(CLOSING):
+                await self._writer.wait_closed()
 
     def _fault_of(self, request: Request, fault: SessionError) -> SessionError:
         """The fault of one request. What was sent may have been carried out."""
@@ -155,6 +166,8 @@ class AsyncSession(AsyncCalls):
 
     async def __aexit__(self, *_ended: object) -> None:
         self.close()
+        if self._line is not None:
+            await self._line.wait_closed()
 
     def close(self) -> None:
         """Ends the connection, and each call that is under way. A later call makes a new one."""
