@@ -1,5 +1,7 @@
 //! Runs of lists of events: each event's reply, lists that are cut in two, and the ends of runs.
 
+ghost use Rattle.std.specs.Prelude.{◌≡◌, false};
+
 use crate::host::Host;
 use group_core::{
     BeginError, FollowError, PlainShow, Plan, Redeemed, StageError, Staged, State, StepError,
@@ -363,8 +365,10 @@ fn group_of(rt: &Host<impl Abort>, state: &mut State<MemDevice, PlainShow>) -> S
     }
 }
 
-/// A checkpoint that is begun.
-fn plan_of(rt: &Host<impl Abort>, state: &mut State<MemDevice, PlainShow>) -> Plan {
+/// A checkpoint that is begun, of which a chunk is left to be written.
+fn plan_of(rt: &Host<impl Abort>, state: &mut State<MemDevice, PlainShow>) -> Plan
+    ensures { result.phase.done ≡ false }
+{
     match state.begin() {
         Ok(plan) => plan,
         Err(_refused) => rt.fail("not begun"),
@@ -380,7 +384,9 @@ fn assert_no_group(rt: &Host<impl Abort>, state: &mut State<MemDevice, PlainShow
 }
 
 /// Sees that it writes no chunk of a checkpoint.
-fn assert_no_chunk(rt: &Host<impl Abort>, state: &mut State<MemDevice, PlainShow>, plan: Plan) {
+fn assert_no_chunk(rt: &Host<impl Abort>, state: &mut State<MemDevice, PlainShow>, plan: Plan)
+    requires { plan.phase.done ≡ false }
+{
     match state.write_chunk(plan) {
         Err(StepError::Stopped) => {}
         _other => rt.fail("written"),
