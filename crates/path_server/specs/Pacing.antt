@@ -1,17 +1,25 @@
 -- By what a server purges, and how soon again.
-use Rattle.std.specs.Prelude.{ℕ, ◌+◌, ◌*◌, ◌/◌, if◌then◌else◌, nat_lt, min, max}
+use Rattle.std.specs.Prelude.{ℕ, ◌+◌, ◌-◌, ◌*◌, ◌/◌, ◌^◌, if◌then◌else◌, nat_eq, nat_lt, min, max}
 use Rattle.path_db.specs.declared.command.Command.{Command}
 use Rattle.path_db.specs.declared.command.Command.TheVariants.{Purge}
 use Rattle.path_server.specs.declared.pace.TheConstants.{MANY}
+use Rattle.path_server.specs.declared.sample.TheConstants.{MOST_STEPS}
 
 -- A purge by a moment, or by the clock's where that is before it.
 abbrev pub purge_by : ℕ → ℕ → Command
 purge_by most clock = Purge (min most clock)
 
--- Into how many parts the period is cut after a purge that dropped this number of rows, of which there are at most so many,
--- where it was cut into these before.
+-- Into how many parts the period is cut after a purge that dropped this number of rows: at most
+-- `most` parts, where it was cut into these parts before.
 unfoldable pub parts_after : ℕ → ℕ → ℕ → ℕ
 parts_after dropped most parts =
     if nat_lt MANY dropped then min (parts * (dropped / MANY + 1)) most
     else if nat_lt (MANY / 2) dropped then parts
     else max (parts / 2) 1
+
+-- After how many moments of a sample each a purge drops about `MANY` rows, where the sample has this
+-- number of rows and of moments, and the store this number of rows. There are at most `MOST_STEPS`
+-- such purges.
+unfoldable pub stride_of : ℕ → ℕ → ℕ → ℕ
+stride_of seen moments rows =
+    max (if nat_eq rows 0 then 2 ^ 64 - 1 else min (seen * MANY) (2 ^ 64 - 1) / rows) (moments / MOST_STEPS + 1)

@@ -28,7 +28,8 @@ pub struct Options {
     /// is one. At most `MOST_LOOKUP_SEATS` are.
     pub lookup_seats: u64,
     /// The time from one purge that the server makes by itself to the next, or `None` where it
-    /// makes none. Each one is of the moment of the machine's clock.
+    /// makes none. None is of a moment after that of the machine's clock. A purge of many rows is
+    /// several, by rising moments, and the next one comes sooner then.
     pub purge: Option<Duration>,
     /// How long the sessions that are open may go on once the server is to end.
     pub grace: Duration,

@@ -1,6 +1,7 @@
 //! When rows expire, by some of them.
 
-ghost use Rattle.std.specs.Prelude.{◌<◌};
+ghost use Rattle.std.specs.Prelude.{◌≡◌, ◌<◌, length};
+ghost use Rattle.path_server.specs.Pacing.{stride_of};
 
 use crate::pace::MANY;
 use hub_readers::{HubReader, ReaderError};
@@ -18,7 +19,8 @@ const PAGES: u32 = 64;
 const MOST_STEPS: u64 = 2_048;
 
 /// The first rows of each type by their ids, at most 4,096 of each. An id is a digest, so these are
-/// as good as rows by chance.
+/// as good as rows by chance. No clause says which rows they are: a purge by any moment is right
+/// that is not after the clock's, and the steps are a matter of time.
 #[derive(Drop)]
 pub(crate) struct Sample {
     /// The number of these rows.
@@ -84,13 +86,17 @@ impl Sample {
     }
 
     /// When rows of the sample expired, by rising moments.
-    pub(crate) fn moments(&self) -> &[u64] {
+    pub(crate) fn moments(&self) -> &[u64]
+        ensures { result.now ≡ self.now.moments.items }
+    {
         &self.moments
     }
 
     /// After how many of its moments each a purge drops about 250 rows of a store that has this many.
+    #[tactic(auto, unfolding(crate::specs::Pacing::stride_of))]
     pub(crate) fn stride(&self, rows: u64) -> usize
-        ensures { 0 < result }
+        ensures same { result ≡ stride_of self.now.seen (length self.now.moments.items) rows }
+        ensures some { 0 < result }
     {
         let part = self
             .seen
