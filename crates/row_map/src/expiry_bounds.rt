@@ -60,7 +60,8 @@ impl ExpiryBounds {
     }
 
     /// Makes a bound for each bucket of these rows, if there are enough, where one of them is new and
-    /// there are no such bounds. Where memory is refused nothing changes.
+    /// there are no such bounds. Where memory is refused nothing changes. No clause says that a bound
+    /// is the greatest one: a lower one costs a purge time, and changes nothing that it drops.
     pub(crate) fn split_for(&mut self, rows: &BTreeMap<RowKey, Row>, has_new: bool)
         ensures { AllByRecursion (IsBoundedBy self.old) (views_of rows.now.entries) → AllByRecursion (IsBoundedBy self.new) (views_of rows.now.entries) }
     {

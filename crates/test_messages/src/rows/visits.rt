@@ -64,6 +64,13 @@ fn fill_many(alloc: Global, database: &mut PathDb) -> Result<(), Fail> {
     fill(alloc, database, LEAST + ROWS + 100, 1, 61)
 }
 
+/// Registers the same rows, those that expire first before the others.
+fn fill_earliest_first(alloc: Global, database: &mut PathDb) -> Result<(), Fail> {
+    fill(alloc, database, LEAST + ROWS + 100, 1, 61)?;
+    fill(alloc, database, LEAST + ROWS, 100, 62)?;
+    fill(alloc, database, LEAST, ROWS, 63)
+}
+
 /// Purges, and checks how many rows are dropped and that few were visited: a bucket of 65,536 of a
 /// type has about two of these rows.
 fn assert_purge(
@@ -98,13 +105,8 @@ fn assert_purges(rt: &impl TestHost, database: &mut PathDb) -> Result<(), Fail> 
     Ok(())
 }
 
-/// Registers those rows in a database, makes a copy of it, and purges both.
-fn assert_both_purged(
-    rt: &impl TestHost,
-    alloc: Global,
-    database: &mut PathDb,
-) -> Result<(), Fail> {
-    fill_many(alloc, database)?;
+/// Makes a copy of a database of those rows, and purges both.
+fn assert_both_purged(rt: &impl TestHost, database: &mut PathDb) -> Result<(), Fail> {
     let mut copy = copy_of(database)?;
     assert_purges(rt, database)?;
     assert_purges(rt, &mut copy)
@@ -112,6 +114,15 @@ fn assert_both_purged(
 
 #[test]
 fn purges_visit_few_rows(rt: HostRuntime) {
-    let checked = assert_both_purged(&Host(&rt), rt.alloc(), &mut no_rows(rt.alloc()));
-    done(&rt, checked);
+    let mut database = no_rows(rt.alloc());
+    done(&rt, fill_many(rt.alloc(), &mut database));
+    done(&rt, assert_both_purged(&Host(&rt), &mut database));
+}
+
+// A row that expires early is there before the map has bounds of its buckets.
+#[test]
+fn purges_visit_few_rows_where_the_earliest_came_first(rt: HostRuntime) {
+    let mut database = no_rows(rt.alloc());
+    done(&rt, fill_earliest_first(rt.alloc(), &mut database));
+    done(&rt, assert_both_purged(&Host(&rt), &mut database));
 }
