@@ -1,4 +1,4 @@
-//! Checks of a test, each in one call. A macro is a branch in the body that it stands in, which the
+//! Checks of a test, each in one call. A macro is a branch in the body that has it, which the
 //! prover follows with all that lives there.
 ghost use Rattle.std.specs.Prelude.{◌≡◌, true};
 

@@ -246,7 +246,7 @@ fn stops_where_both_halves_are_open(rt: HostRuntime) -> Result<(), Fail> {
     assert_recovers(&host, rt.alloc(), BOTH)
 }
 
-/// Opens a device of which this call fails, which is told: the device.
+/// Opens a device of which this call fails, and sees that the error says so: the device.
 fn failed(rt: &impl TestHost, alloc: Global, device: MemDevice, number: u64) -> MemDevice {
     match open(alloc, FaultDevice::new(device, number)) {
         Ok(store) => {
