@@ -6,7 +6,7 @@ use std::process::Abort;
 use std::sync::atomic::{AtomicU64, Ordering};
 use std::sync::{Condvar, Wait};
 use std::thread::{Threads, yield_now};
-use std::time::Duration;
+use std::time::{Clock, Duration, Instant};
 use std::{array, thread};
 
 /// How many condition variables there are: the command of a number has the condition variable of
@@ -92,11 +92,20 @@ struct Desk {
     answered: AtomicU64,
 }
 
-/// The rounds of all threads that ask, and how many sleeps ended without a notification.
+/// The rounds of all threads that ask, and how many sleeps lasted to their end without a
+/// notification.
 #[derive(Drop)]
 struct Desks {
     desks: [Desk; SLEEPERS as usize],
     overslept: AtomicU64,
+}
+
+/// Whether the longest sleep has passed since this moment. It has not where there is no clock.
+fn is_over<R: Clock>(rt: &R, begun: Option<Instant>) -> bool {
+    match begun.map(|moment| moment.elapsed(rt)) {
+        Some(Ok(elapsed)) => elapsed.as_secs() >= LONGEST_SLEEP,
+        Some(Err(_)) | None => false,
+    }
 }
 
 /// The rounds of a thread that has asked nothing.
@@ -116,9 +125,8 @@ impl Desks {
         }
     }
 
-    /// The thread of this number asks, and waits for each answer as a session does over a hub. A
-    /// sleep that ends with an answer and without a notification is counted.
-    fn ask_all<R: Wait>(&self, rt: &R, waker: &Waker, number: u64) {
+    /// The thread of this number asks, and waits for each answer as a session does over a hub.
+    fn ask_all<R: Wait + Clock>(&self, rt: &R, waker: &Waker, number: u64) {
         for desk in self.desks.iter().skip(number as usize).take(1) {
             for round in 1..=ROUNDS {
                 desk.asked.store(round, Ordering::SeqCst);
@@ -134,15 +142,18 @@ impl Desks {
         }
     }
 
-    /// Waits for the answer of a round.
-    fn wait<R: Wait>(&self, rt: &R, condvar: &Condvar, desk: &Desk, round: u64) {
+    /// Waits for the answer of a round. A sleep that lasts to its end without a notification is
+    /// counted. A shorter one without a notification is not: a notification is a count and then a
+    /// wake, and the wake of the round before may come when this one sleeps.
+    fn wait<R: Wait + Clock>(&self, rt: &R, condvar: &Condvar, desk: &Desk, round: u64) {
         for _ in rt.forever() {
             let seen = condvar.notifications();
             if desk.answered.load(Ordering::SeqCst) >= round {
                 return;
             }
+            let begun = Instant::now(rt).ok();
             condvar.sleep(rt, seen, Duration::from_secs(LONGEST_SLEEP));
-            if condvar.notifications() == seen && desk.answered.load(Ordering::SeqCst) >= round {
+            if condvar.notifications() == seen && is_over(rt, begun) {
                 self.overslept.fetch_add(1, Ordering::SeqCst);
             }
         }
@@ -180,7 +191,7 @@ impl Desks {
 
 /// Runs the threads that ask and the waker's thread, and answers in this one. Rounds without a
 /// thread are answered at once. Returns whether each thread was given.
-fn ask_and_answer<R: Wait + Threads + Sync>(rt: &R, waker: &Waker, desks: &Desks) -> bool {
+fn ask_and_answer<R: Wait + Threads + Clock + Sync>(rt: &R, waker: &Waker, desks: &Desks) -> bool {
     thread::scope(thread::scope_env(), rt, |all| {
         if all.spawn(move || waker.run(rt)).is_err() {
             return false;
