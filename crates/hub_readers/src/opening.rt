@@ -15,13 +15,15 @@ use log_history::{LogHistory, PastLog};
 use path_db::PathDb;
 use std::alloc::{AllocError, Global};
 use std::sync::Wait;
+use std::thread::Threads;
 
 /// The number of readers of a hub.
 pub const READERS: usize = 64;
 
 /// Makes the showcase of the hub of this name, and all its readers, over rows at a place. The
-/// history is of what is shown. No group is published yet, and nothing is owed.
-pub fn open_readers<N: ReaderName, R: Wait + Drop>(
+/// history is of what is shown. No group is published yet, and nothing is owed. Up to four threads
+/// make the copies of the rows that are published.
+pub fn open_readers<N: ReaderName, R: Wait + Threads + Drop + Sync>(
     rt: R,
     alloc: Global,
     history: LogHistory,
@@ -35,7 +37,7 @@ pub fn open_readers<N: ReaderName, R: Wait + Drop>(
     ensures groups { IfOk result (λ made. made.0.groups ≡ []) }
 {
     let past = history.past();
-    let writer = new_writer::<N>(alloc, &past, db, place)?;
+    let writer = new_writer::<N, R>(&rt, alloc, &past, db, place)?;
     match new_readers(alloc, &past, &writer) {
         Ok(readers) => Ok((HubShow::over(rt, alloc, writer, history), readers)),
         Err(refused) => {
@@ -46,7 +48,8 @@ pub fn open_readers<N: ReaderName, R: Wait + Drop>(
 }
 
 /// The writer that publishes rows at a place. No group is published yet.
-fn new_writer<N: ReaderName>(
+fn new_writer<N: ReaderName, R: Threads + Sync>(
+    rt: &R,
     alloc: Global,
     past: &PastLog,
     db: &PathDb,
@@ -59,8 +62,9 @@ fn new_writer<N: ReaderName>(
     ensures groups { IfOk result (λ w. (view w.desk.place).groups ≡ []) }
     ensures idle { IfOk result (λ w. drop w.behind w.log.items ≡ []) }
 {
-    let first = Published::new(db.try_clone()?, place, past.again());
-    let second = Published::new(db.try_clone()?, place, past.again());
+    let (first, second) = db.indexed_pair(rt)?;
+    let first = Published::new(first, place, past.again());
+    let second = Published::new(second, place, past.again());
     Writer::new(alloc, first, second, READERS)
 }
 

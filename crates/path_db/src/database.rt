@@ -23,18 +23,20 @@ use crate::all_puts::{put_after, put_all};
 use crate::answers::Wanted;
 use crate::command::Command;
 use crate::error::ApplyError;
+use crate::indexing::{index_of_isds_and_copies, indexes_of_ends};
 use crate::outcome::Outcome;
 use crate::visits::Visits;
 use crate::ways::{Indexes, shown_by_index, shown_by_rows};
 use end_index::EndIndex;
 use isd_as::IsdAs;
 use row_map::{
-    BUCKETS, BucketWalk, By, End, PurgeWalk, Row, RowMap, Rows, add_all, index_key_of, index_of,
-    map_of, rows_of, saved_rows, sweep, touched_keys,
+    BUCKETS, BucketWalk, By, End, PurgeWalk, Row, RowMap, Rows, add_all, index_key_of, map_of,
+    rows_of, saved_rows, sweep, touched_keys,
 };
 use seg_core::{SegType, Segment};
 use std::alloc::{AllocError, Global};
 use std::marker::Model;
+use std::thread::{Threads, join};
 
 /// A finite map from keys to segments. A key is a type and an id, and keys are ordered by the
 /// type's number and then by the id's bytes. The database keeps the allocator with which it was
@@ -109,30 +111,72 @@ impl PathDb {
         }
     }
 
-    /// The database of these rows, whose keys rise. An error means that memory was refused. An
-    /// empty list takes no memory.
+    /// The database of these rows, whose keys rise. It keeps no index of its rows by their ends. An
+    /// error means that memory was refused. An empty list takes no memory.
     pub fn of_rows(alloc: Global, rows: Vec<Row>) -> Result<PathDb, AllocError>
         requires { IsDatabase (row_views rows.items) }
         ensures same { IfOk result (λ db. db ≡ row_views rows.items) }
         ensures memory { OnErr result (0 < length rows.items) }
     {
         if rows.is_empty() {
-            return Ok(PathDb::new(alloc));
+            return Ok(PathDb::new(alloc).without_indexes());
         }
-        let by_first = index_of(alloc, By::OneEnd(End::First), &rows)?;
-        let by_last = index_of(alloc, By::OneEnd(End::Last), &rows)?;
-        let by_isds = index_of(alloc, By::BothEnds, &rows)?;
         let (rows, bytes) = map_of(alloc, rows)?;
         Ok(PathDb {
             alloc,
             rows,
-            indexed: true,
-            by_first,
-            by_last,
-            by_isds,
+            indexed: false,
+            by_first: EndIndex::new(alloc),
+            by_last: EndIndex::new(alloc),
+            by_isds: EndIndex::new(alloc),
             bytes,
             visited: 0,
         })
+    }
+
+    /// Two equal databases that keep the indexes of their rows by their ends, and share the segments.
+    /// Up to four threads make them, the calling one among them. An error means that memory was
+    /// refused. Copies of an empty database take no memory.
+    pub fn indexed_pair<R: Threads + Sync>(&self, rt: &R) -> Result<(PathDb, PathDb), AllocError>
+        ensures first { IfOk result (λ pair. pair.0 ≡ self.now) }
+        ensures second { IfOk result (λ pair. pair.1 ≡ self.now) }
+        ensures memory { OnErr result (0 < length self.now) }
+        ensures whole { IfOk result (λ pair. IsDatabase pair.0) }
+    {
+        let alloc = self.alloc;
+        if self.rows.len() == 0 {
+            return Ok((PathDb::new(alloc), PathDb::new(alloc)));
+        }
+        let rows = &self.rows;
+        let ((by_first, by_last), (by_isds, rows)) = join(
+            rt,
+            || indexes_of_ends(rt, alloc, rows),
+            || index_of_isds_and_copies(rt, alloc, rows),
+        );
+        let (by_first, by_last, by_isds, rows) = (by_first?, by_last?, by_isds?, rows?);
+        let bytes = self.bytes;
+        Ok((
+            PathDb {
+                alloc,
+                rows: rows.0,
+                indexed: true,
+                by_first: by_first.0,
+                by_last: by_last.0,
+                by_isds: by_isds.0,
+                bytes,
+                visited: 0,
+            },
+            PathDb {
+                alloc,
+                rows: rows.1,
+                indexed: true,
+                by_first: by_first.1,
+                by_last: by_last.1,
+                by_isds: by_isds.1,
+                bytes,
+                visited: 0,
+            },
+        ))
     }
 
     /// Applies a command, or changes nothing where memory is refused. A purge, a removal and a
@@ -427,7 +471,8 @@ impl PathDb {
         now: u64,
         limit: usize,
     ) -> Result<Vec<Segment>, AllocError>
-        ensures same { IfOk result (λ found. found.items ≡ segments_of (answer_after limit self.now kind id.now (isd_as_number start) (isd_as_number end) now)) }
+        ensures same { IfOk result (λ found.
+            found.items ≡ segments_of (answer_after limit self.now kind id.now (isd_as_number start) (isd_as_number end) now)) }
         ensures memory { OnErr result (0 < length (answer_after limit self.now kind id.now (isd_as_number start) (isd_as_number end) now)) }
         ensures few { IfOk result (λ found. length found.items ≤ limit) }
         ensures whole { IfOk result (λ found. AllByRecursion IsSegment found.items) }

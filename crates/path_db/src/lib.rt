@@ -16,6 +16,7 @@ mod command;
 mod command_laws;
 mod database;
 mod error;
+mod indexing;
 mod outcome;
 mod outcome_laws;
 mod visits;

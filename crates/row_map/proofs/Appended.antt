@@ -1,20 +1,18 @@
--- A row whose key is above all others: for `put_last`, `map_of` and `index_of`.
-use Rattle.std.proofs.Common.{◌≡◌, ℕ, ◌+◌, ◌<◌, length, get_or, take, drop, Bool, true, false, ◌||◌, List, [], ◌∷◌, ◌++◌, if◌then◌else◌, Some, None, refl, sym, ap, ◌∙◌, subst}
+-- A row whose key is above all others: for `index_of`.
+use Rattle.std.proofs.Common.{◌≡◌, ℕ, Bool, true, false, ◌||◌, List, [], ◌∷◌, ◌++◌, if◌then◌else◌, Some, None, refl, sym, ap, ◌∙◌, subst}
 use Rattle.std.specs.Ordering.{is_eq}
 use Rattle.std.specs.declared.cmp.Ordering.TheVariants.{Less}
 use Rattle.std.proofs.lemmas.Bool.{false≢true}
-use Rattle.std.proofs.lemmas.List.{map-append, take-append-drop}
+use Rattle.std.proofs.lemmas.List.{append_assoc}
 use Rattle.end_index.specs.declared.index_key.IndexKey.{IndexKey}
 use Rattle.end_index.specs.IndexKey.{is_same, has}
-use Rattle.row_map.specs.declared.row.Row.{Row}
-use Rattle.row_map.specs.Row.{row_view, row_views}
 use Rattle.row_map.specs.Database.{RowView, key_of, key_order, IsRising, is_under, row_under}
-use Rattle.row_map.specs.RowMap.{HasRowPut, indexed_key}
+use Rattle.row_map.specs.RowMap.{indexed_key}
 use Rattle.row_map.specs.EndKeys.{is_of, is_index_key, ends_at, stands, IsEndIndex}
 use Rattle.row_map.proofs.Order.{AllAbove, turned_less}
 use Rattle.row_map.proofs.Keys.{its_key, under_first}
-use Rattle.row_map.proofs.Canon.{database_is_canonical}
-use Rattle.row_map.proofs.IndexKeys.{EndOf, same_if, same_from, one_index_key, index_key_same, views_more}
+use Rattle.row_map.proofs.Purged.{append_none}
+use Rattle.row_map.proofs.IndexKeys.{EndOf, same_if, same_from, one_index_key, index_key_same}
 
 -- ---- the first ones of rows
 
@@ -25,12 +23,6 @@ above_front low (row ∷ rows) more all = (all.0, above_front low rows more all.
 rising_front : (rows more : List RowView) → IsRising (rows ++ more) → IsRising rows
 rising_front [] more rising = tt
 rising_front (row ∷ rows) more rising = (above_front row rows more rising.0, rising_front rows more rising.1)
-
--- the rows before an index and the one at it
-pub rising_next : (rows : List Row) (i : ℕ) (row : Row) → i < length rows → row ≡ get_or rows i row → IsRising (row_views rows) → IsRising (row_views (take i rows) ++ row_view row ∷ [])
-rising_next rows i row lt is all =
-    let parts = sym (ap row_views (take-append-drop (i + 1) rows)) ∙ map-append row_view (take (i + 1) rows) (drop (i + 1) rows) in
-    subst IsRising (views_more rows i row lt is) (rising_front (row_views (take (i + 1) rows)) (row_views (drop (i + 1) rows)) (subst IsRising parts all))
 
 -- ---- the last one
 
@@ -57,9 +49,6 @@ under_last k [] row rising = refl
 under_last k (old ∷ rows) row rising =
     under_first_or_last k old row rows (is_under k old) (is_under k row) refl refl (last_above old rows row rising.0) (under_last k rows row rising.1)
 
-pub rows_last : (rows new : List RowView) (row : RowView) → IsRising (rows ++ row ∷ []) → IsRising new → HasRowPut rows row new → new ≡ rows ++ row ∷ []
-rows_last rows new row rising after holds = database_is_canonical new (rows ++ row ∷ []) after rising (λ k. holds k ∙ sym (under_last k rows row rising))
-
 -- ---- an index
 
 -- the tests of an index key and of a row's index key are the same
@@ -73,7 +62,7 @@ same_key end p q row its = both (is_same q p) (is_index_key end q row)
     both false true there back = back refl
     both false false there back = refl
 
-pub index_last : (end : EndOf) (rows : List RowView) (row : RowView) (p : IndexKey) (before after : List IndexKey) → IsRising (rows ++ row ∷ []) → IsEndIndex end rows before
+index_last : (end : EndOf) (rows : List RowView) (row : RowView) (p : IndexKey) (before after : List IndexKey) → IsRising (rows ++ row ∷ []) → IsEndIndex end rows before
     → is_index_key end p row ≡ true → ((q : IndexKey) → has after q ≡ (is_same q p || has before q)) → IsEndIndex end (rows ++ row ∷ []) after
 index_last end rows row p before after rising index its added q =
     added q ∙ ap (λ b. b || has before q) (same_key end p q row its) ∙ ap (λ b. is_index_key end q row || b) (index q) ∙ at_key (is_under (indexed_key q) row) refl
@@ -91,7 +80,7 @@ index_last end rows row p before after rising index its added q =
     at_key false e = rw e refl
 
 -- an index key more at the end
-pub has_push : (index_keys : List IndexKey) (p q : IndexKey) → has (index_keys ++ p ∷ []) q ≡ (is_same q p || has index_keys q)
+has_push : (index_keys : List IndexKey) (p q : IndexKey) → has (index_keys ++ p ∷ []) q ≡ (is_same q p || has index_keys q)
 has_push [] p q = refl
 has_push (first ∷ index_keys) p q = ap (λ b. is_same q first || b) (has_push index_keys p q) ∙ exchanged (is_same q first) (is_same q p) (has index_keys q)
   where
@@ -99,3 +88,28 @@ has_push (first ∷ index_keys) p q = ap (λ b. is_same q first || b) (has_push 
     exchanged true true c = refl
     exchanged true false c = refl
     exchanged false b c = refl
+
+-- ---- all rows, one after the other
+
+-- the index keys are those of the first ones of the rows, and the others are left
+pub record HasIndexed (end : EndOf) (all left : List RowView) (index_keys : List IndexKey) : Type 0 where
+  pub front : List RowView
+  pub split : all ≡ front ++ left
+  pub index : IsEndIndex end front index_keys
+
+pub indexing_begins : (end : EndOf) (all : List RowView) → HasIndexed end all all []
+indexing_begins end all = record { front = []; split = refl; index = λ q. refl }
+
+pub indexing_goes_on : (end : EndOf) (all left : List RowView) (row : RowView) (p : IndexKey) (index_keys : List IndexKey) → IsRising all → is_index_key end p row ≡ true
+    → HasIndexed end all (row ∷ left) index_keys → HasIndexed end all left (index_keys ++ p ∷ [])
+indexing_goes_on end all left row p index_keys rising its indexed =
+    let parts = indexed.split ∙ sym (append_assoc indexed.front (row ∷ []) left) in
+    record {
+      front = indexed.front ++ row ∷ [];
+      split = parts;
+      index = index_last end indexed.front row p index_keys (index_keys ++ p ∷ []) (rising_front (indexed.front ++ row ∷ []) left (subst IsRising parts rising)) indexed.index its (has_push index_keys p);
+    }
+
+pub indexing_ends : (end : EndOf) (all left : List RowView) (index_keys : List IndexKey) → left ≡ [] → HasIndexed end all left index_keys → IsEndIndex end all index_keys
+indexing_ends end all left index_keys none indexed =
+    subst (λ rows. IsEndIndex end rows index_keys) (sym (indexed.split ∙ ap (λ l. indexed.front ++ l) none ∙ append_none indexed.front)) indexed.index

@@ -132,7 +132,7 @@ pub copied_view : (found : Option (Bor Row)) → option_map (λ row. row_view ro
 copied_view None = refl
 copied_view (Some row) = refl
 
-key_cmp_total : IsTotalOrder key_cmp
+pub key_cmp_total : IsTotalOrder key_cmp
 key_cmp_total = on_total bytes_of nat_list_cmp_total
 
 -- ---- sums over the rows

@@ -16,4 +16,5 @@ mod Appended
 mod Bucketed
 mod Purged
 mod Lowered
+mod Collected
 pub mod Exports

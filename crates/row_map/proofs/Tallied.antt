@@ -56,7 +56,7 @@ one_itself Up = refl
 one_itself Core = refl
 one_itself Down = refl
 
-few_rows : (kind : SegType) (es : List (RowKey × Row)) → count_by (is_of_type kind) (views_of es) ≤ length es
+pub few_rows : (kind : SegType) (es : List (RowKey × Row)) → count_by (is_of_type kind) (views_of es) ≤ length es
 few_rows kind es = omega (arith, count_by-le-length (is_of_type kind) (views_of es), length-map (values_of es) row_view, length-values_of es)
 
 module _ (q : RowKey) (es : List (RowKey × Row)) (own : AreUnderTheirKeys es) (counts : TypeCounts) (counted : AreCounted counts (views_of es)) where

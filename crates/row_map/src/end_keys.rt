@@ -61,13 +61,12 @@ pub fn isds_number(first: u64, last: u64) -> u64
     first / AS_NUMBERS * (1 << 16) + last / AS_NUMBERS
 }
 
-/// The index of rows, whose keys rise, by this.
-pub fn index_of(alloc: Global, by: By, rows: &[Row]) -> Result<EndIndex, AllocError>
-    requires { IsRising (row_views rows.now) }
-    ensures { IfOk result (λ index. IsEndIndex (index_number by) (row_views rows.now) index) }
+/// The index of all rows of a map, by this.
+pub fn index_of(alloc: Global, by: By, rows: &RowMap) -> Result<EndIndex, AllocError>
+    ensures { IfOk result (λ index. IsEndIndex (index_number by) rows.now index) }
 {
     let mut index_keys = Vec::with_capacity(alloc, rows.len())?;
-    for row in rows {
+    for row in rows.rows() {
         index_keys.push(index_key_of(by, row))?;
     }
     EndIndex::of_keys(alloc, index_keys)

@@ -45,14 +45,24 @@ impl ExpiryBounds {
         }
     }
 
+    /// The bounds of no rows, for a map that this number of rows is put into. Where memory for a
+    /// bound of each bucket is refused, there is one bound of all rows.
+    pub(crate) fn for_rows(alloc: Global, rows: usize) -> ExpiryBounds {
+        let mut bounds = ExpiryBounds::new(alloc);
+        if bounds.is_to_be_split(rows) {
+            bounds.split();
+        }
+        bounds
+    }
+
     /// Whether there is no bound of each bucket, and a map of this number of rows has one.
-    pub(crate) fn is_to_be_split(&self, rows: usize) -> bool {
+    fn is_to_be_split(&self, rows: usize) -> bool {
         rows >= ROWS_OF_BUCKETS && self.by_bucket.is_empty()
     }
 
     /// Makes a bound for each bucket, that of no rows. Where memory is refused nothing changes, and
     /// the result is `false`.
-    pub(crate) fn split(&mut self) -> bool
+    fn split(&mut self) -> bool
         ensures least { self.new.least ≡ self.old.least }
         ensures kept { result ≡ false → self.new.by_bucket.items ≡ self.old.by_bucket.items }
     {

@@ -9,7 +9,7 @@ ghost use Rattle.row_map.specs.Ranges.{is_of_type, is_after};
 ghost use Rattle.row_map.specs.EndKeys.{index_number, IsSeenTo};
 ghost use Rattle.row_map.specs.Put.{database_after_put, change_of};
 ghost use Rattle.row_map.specs.Row.{row_view, row_views};
-ghost use Rattle.row_map.specs.RowMap.{HasRowPut, NoneExpiresBefore, bytes_of, len_if_any, indexed_key};
+ghost use Rattle.row_map.specs.RowMap.{AreUnderTheirKeys, HasRowPut, NoneExpiresBefore, bytes_of, views_of, len_if_any, indexed_key};
 ghost use Rattle.row_map.specs.Buckets.{bucket_count};
 ghost use Rattle.row_map.specs.Purge.{is_below, HasPassedBuckets, AllOutlast};
 
@@ -63,22 +63,6 @@ impl RowMap {
             rows: BTreeMap::new(alloc),
             counts: TypeCounts::new(),
             bounds: ExpiryBounds::new(alloc),
-        }
-    }
-
-    /// A map without rows, which this number of rows is put into. Where memory for the bounds of
-    /// their expiries is refused, it is a new map.
-    fn new_for(alloc: Global, rows: usize) -> RowMap
-        ensures { result ≡ [] }
-    {
-        let mut bounds = ExpiryBounds::new(alloc);
-        if bounds.is_to_be_split(rows) {
-            bounds.split();
-        }
-        RowMap {
-            rows: BTreeMap::new(alloc),
-            counts: TypeCounts::new(),
-            bounds,
         }
     }
 
@@ -208,15 +192,6 @@ impl RowMap {
         Ok(old)
     }
 
-    /// Puts a row whose key is above all others.
-    fn put_last(&mut self, row: Row) -> Result<(), AllocError>
-        requires { IsRising (self.old ++ row_view row ∷ []) }
-        ensures { OnOk result (self.new ≡ self.old ++ row_view row ∷ []) }
-    {
-        self.set(row)?;
-        Ok(())
-    }
-
     /// Replaces an older row under the same key and with the same ends, or keeps one that is as
     /// new, and returns which of both was done. This takes no memory. `None` means that there is no
     /// such row and nothing changed. `bytes` counts the bytes of all rows.
@@ -308,21 +283,44 @@ pub(crate) fn key_of_row(row: &Row) -> RowKey
     row_key(row.kind, row.id())
 }
 
-/// The map of rows, whose keys rise, and how many bytes their records have.
+/// The map of rows, whose keys rise, and how many bytes their records have. Each node of its tree is
+/// full but for the last ones.
 pub fn map_of(alloc: Global, rows: Vec<Row>) -> Result<(RowMap, u128), AllocError>
     requires { IsRising (row_views rows.items) }
     ensures rows { IfOk result (λ made. made.0 ≡ row_views rows.items) }
     ensures bytes { IfOk result (λ made. made.1 ≡ rows_len (row_views rows.items)) }
 {
-    let all = rows.len();
-    let mut map = RowMap::new_for(alloc, all);
+    let mut counts = TypeCounts::new();
+    let mut bounds = ExpiryBounds::for_rows(alloc, rows.len());
     let mut bytes = 0;
+    let mut entries = Vec::with_capacity(alloc, rows.len())?;
     for row in rows {
-        let _count = map.len();
+        let _count = entries.len();
+        let key = key_of_row(&row);
+        counts.add(row.kind, true);
+        bounds.lower(&key, expiry(&row.segment));
         bytes += u128::from(row.len());
-        map.put_last(row)?;
+        entries.push((key, row))?;
     }
-    Ok((map, bytes))
+    let rows = tree_of(alloc, entries)?;
+    Ok((
+        RowMap {
+            rows,
+            counts,
+            bounds,
+        },
+        bytes,
+    ))
+}
+
+/// The tree of rows by their keys, which rise.
+fn tree_of(alloc: Global, entries: Vec<(RowKey, Row)>) -> Result<BTreeMap<RowKey, Row>, AllocError>
+    requires own { AreUnderTheirKeys entries.items }
+    requires rising { IsRising (views_of entries.items) }
+    ensures own { IfOk result (λ tree. AreUnderTheirKeys tree.entries) }
+    ensures same { IfOk result (λ tree. views_of tree.entries ≡ views_of entries.items) }
+{
+    BTreeMap::from_iter(alloc, entries)
 }
 
 /// The key of a type and an id.

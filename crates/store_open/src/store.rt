@@ -150,7 +150,7 @@ impl<D: Device> Store<D> {
     }
 
     /// The device, and all rows, which keep no index by their ends: a caller that shows rows takes
-    /// a copy of `db` first.
+    /// copies of `db` with indexes first.
     pub fn into_parts(self) -> (D, PathDb)
         ensures device { D.disk result.0 ≡ self.disk }
         ensures rows { result.1 ≡ self.rows }

@@ -143,17 +143,32 @@ fn assert_look(rt: &impl TestHost, database: &PathDb, look: &Look) -> Result<(),
     Ok(())
 }
 
-/// Puts those rows into a database, and checks all looks.
-fn assert_looks(rt: &impl TestHost, alloc: Global, database: &mut PathDb) -> Result<(), Fail> {
-    fill(alloc, database)?;
+/// Checks all looks.
+fn assert_looks(rt: &impl TestHost, database: &PathDb) -> Result<(), Fail> {
     for look in &LOOKS {
         assert_look(rt, database, look)?;
     }
     Ok(())
 }
 
+/// A database of those rows.
+fn filled(alloc: Global) -> Result<PathDb, Fail> {
+    let mut database = no_rows(alloc);
+    fill(alloc, &mut database)?;
+    Ok(database)
+}
+
 #[test]
 fn short_ways_are_found(rt: HostRuntime) {
-    let checked = assert_looks(&Host(&rt), rt.alloc(), &mut no_rows(rt.alloc()));
-    done(&rt, checked);
+    let database = done(&rt, filled(rt.alloc()));
+    done(&rt, assert_looks(&Host(&rt), &database));
+}
+
+// Both copies keep the indexes that the database does not have.
+#[test]
+fn copies_with_indexes_find_short_ways(rt: HostRuntime) {
+    let database = done(&rt, filled(rt.alloc())).without_indexes();
+    let (first, second) = database.indexed_pair(&rt).expect(&rt, "copies");
+    done(&rt, assert_looks(&Host(&rt), &first));
+    done(&rt, assert_looks(&Host(&rt), &second));
 }

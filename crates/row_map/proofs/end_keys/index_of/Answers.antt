@@ -1,28 +1,24 @@
-use Rattle.std.proofs.Common.{◌≡◌, List, [], ◌∷◌, ◌++◌, take, ◌∙◌, subst, arith}
-use Rattle.std.proofs.lemmas.List.{take_all}
+use Rattle.std.proofs.Common.{rules, ◌≡◌, [], ◌∷◌, ◌∙◌, subst}
 use Rattle.std.proofs.lemmas.Result.{IfOk-weaker}
-use Rattle.row_map.specs.declared.row.Row.{Row}
-use Rattle.row_map.specs.Row.{row_view, row_views}
-use Rattle.row_map.specs.EndKeys.{index_number, IsEndIndex}
-use Rattle.row_map.proofs.IndexKeys.{views_more}
-use Rattle.row_map.proofs.Appended.{rising_next, index_last, has_push}
+use Rattle.row_map.specs.Row.{row_view}
+use Rattle.row_map.specs.EndKeys.{index_number}
+use Rattle.row_map.proofs.Appended.{HasIndexed, indexing_begins, indexing_goes_on, indexing_ends}
 use Rattle.row_map.proofs.end_keys.index_of.Goals as goal
+
+pub loop-row-init : goal.loop-row-init
+loop-row-init c = rw (c.into_iter-row-iterator.ensures.into_iter_gives, c.rows-row-items.ensures, c.in_ok-index_keys.ensures.items) (indexing_begins (index_number c.args.by) c.args.rows.now)
 
 pub loop-row-preserved : goal.loop-row-preserved
 loop-row-preserved c =
     let end = index_number c.args.by in
-    let rows = c.args.rows.now in
-    let i = c.loop-row.row-index in
-    let row = c.row-item.result in
-    let p = c.index_key_of.result in
-    let before = c.loop-row.index_keys.items in
-    let rising = rising_next rows i row (omega arith) c.row-item.is c.requires in
-    rw (c.in_ok-push.ensures.items, views_more rows i row (omega arith) c.row-item.is)
-    (index_last end (row_views (take i rows)) (row_view row) p before (before ++ p ∷ []) rising c.loop-row.invariant c.index_key_of.ensures (has_push before p))
+    let row = row_view c.in-Some.row.now in
+    let left = c.next.new.self in
+    let is : c.loop-row.row-iterator ≡ row ∷ left = search (rules, c.in-Some) in
+    rw c.in_ok-push.ensures.items
+    (indexing_goes_on end c.args.rows.now left row c.index_key_of.result c.loop-row.index_keys.items c.len.ensures.rising c.index_key_of.ensures (subst (λ l. HasIndexed end c.args.rows.now l c.loop-row.index_keys.items) is c.loop-row.invariant))
 
 pub returns : goal.returns
 returns c =
-    let rows = c.args.rows.now in
-    let all : take c.loop-row.row-index rows ≡ rows = take_all c.loop-row.row-index rows (omega arith) in
-    let index = subst (λ (some : List Row). IsEndIndex (index_number c.args.by) (row_views some) c.loop-row.index_keys.items) all c.loop-row.invariant in
+    let none : c.loop-row.row-iterator ≡ [] = search (rules, c.in-None) in
+    let index = indexing_ends (index_number c.args.by) c.args.rows.now c.loop-row.row-iterator c.loop-row.index_keys.items none c.loop-row.invariant in
     IfOk-weaker c.of_keys.result _ _ (λ made holds q. holds q ∙ index q) c.of_keys.ensures
