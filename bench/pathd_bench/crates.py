@@ -14,7 +14,7 @@ from pathlib import Path
 from pathd_tools import TOP, toolbox
 from pathd_tools.pages.source import uses
 
-HUB = "path_hub hub_readers store_open sector_dev seg_lookup path_db seg_core isd_as"
+HUB = "path_hub hub_claims hub_readers store_open sector_dev seg_lookup path_db seg_core isd_as"
 # The crates that each program of bench/*.rattle uses.
 PROGRAMS = {
     "checkpoints": "group_core store_open sector_dev",
