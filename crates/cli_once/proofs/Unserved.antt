@@ -1,14 +1,11 @@
 -- A session for which there is no memory from the start: nothing is read, answered or written. For
 -- once and answer_in_lines.
-use Rattle.std.proofs.Common.{◌≡◌, ℕ, List, [], ◌++◌, Option, Some, None, Err, refl, sym, arith}
-use Rattle.std.specs.List.{concat}
-use Rattle.std.specs.Io.KnownBytes.{Appends}
+use Rattle.std.proofs.Common.{ℕ, List, [], Option, Err, refl, arith}
 use Rattle.std.proofs.KnownBytes.{Appends-nil}
 use Rattle.session_core.specs.declared.error.FrameError.TheVariants as error
 use Rattle.session_core.specs.declared.reply.Form.{Form}
 use Rattle.session_core.specs.Frames.{AreWholeFrames}
 use Rattle.session_core.specs.Session.{TellsAllBefore, IsPrompt, AreAhead}
-use Rattle.session_core.specs.Source.{AreReads}
 use Rattle.cli_once.specs.Memory.{Served}
 use Rattle.cli_once.specs.Session.{IsSession}
 use Rattle.cli_once.specs.HexSession.{AreAnsweredInLines}

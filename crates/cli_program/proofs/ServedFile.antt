@@ -1,13 +1,12 @@
 -- What serving leaves of the file of a store: for `serve_site`.
 use Rattle.std.proofs.Common.{◌≡◌, ℕ, List, Bool, IsTrue, Option, Some, IfSome, sym, subst}
-use Rattle.row_map.specs.Database.{RowView}
 use Rattle.sector_dev.specs.Disk.{Disk, IsHonest, reads_of}
 use Rattle.sector_dev.specs.FileDevice.{front, CoversImages}
 use Rattle.sector_dev.specs.Image.{EveryImage, IsFromImage}
-use Rattle.sector_dev.specs.PositionedFile.{FileState, IsHonestFile}
+use Rattle.sector_dev.specs.PositionedFile.{FileState}
 use Rattle.sector_dev.specs.Stretch.{Stretch}
 use Rattle.sector_dev.proofs.Stretches.{honest_after}
-use Rattle.store_layout.specs.Opening.{StoreValue, OpensTo}
+use Rattle.store_layout.specs.Opening.{OpensTo}
 use Rattle.store_layout.specs.Limits.{latest}
 use Rattle.store_open.specs.Open.{IsOpened, OpensAlike}
 use Rattle.store_open.specs.PathStores.{store_format}

@@ -1,4 +1,3 @@
-pub mod Ending
 pub mod Failures
 pub mod Options
 pub mod Priorities

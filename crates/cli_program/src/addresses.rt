@@ -1,9 +1,9 @@
 //! Where a server listens.
 
-use crate::failure::Failure;
 use clap::ArgMatches;
+use cli_lines::Failure;
 use cli_words::{LISTEN, LOOKUPS, STATUS_LISTEN};
-use path_server::{Listeners, raised_listener, set_accept_timeout};
+use server_listeners::{Listeners, raised_listener, set_accept_timeout};
 use std::net::{Net, SocketAddr, TcpListener, TcpStream};
 
 /// An address of the words, and its text.

@@ -3,12 +3,11 @@
 ghost use Rattle.std.specs.Prelude.{◌≡◌};
 
 use crate::input::read_to_the_end;
-use crate::lines::Lines;
-use crate::priority::Priority;
+use crate::server_line::ServerLine;
 use crate::signals::Signals;
 use crate::system::Host;
 use crate::usage::UsageFiles;
-use crate::waiting::Line;
+use cli_lines::{Lines, Priority};
 use path_server::{Report, Reports, Usage};
 use sector_dev::LastFault;
 use std::alloc::{AllocError, Global};
@@ -19,7 +18,7 @@ use std::thread;
 /// What the threads of the program and those of its server share.
 #[derive(Drop)]
 struct Shared {
-    lines: Lines,
+    lines: Lines<ServerLine>,
     signals: Signals,
     /// What failed last in the store's file.
     last_fault: Arc<LastFault>,
@@ -87,7 +86,8 @@ impl<R: Host> Notices<R> {
         if let Ok(text) = line
             && !self.is_quiet
         {
-            self.shared.lines.push(&self.rt, Line::Text(priority, text));
+            let line = ServerLine::Text(priority, text);
+            self.shared.lines.push(&self.rt, line);
         }
     }
 
@@ -149,14 +149,14 @@ impl<R: Wait> Notices<R> {
         if let Some(fault) = self.shared.last_fault.get()
             && !self.is_quiet
         {
-            self.shared.lines.push(&self.rt, Line::Fault(fault));
+            self.shared.lines.push(&self.rt, ServerLine::Fault(fault));
         }
     }
 
     /// Has a report printed, unless the program should be quiet.
     fn push(&self, report: Report) {
         if !self.is_quiet {
-            self.shared.lines.push(&self.rt, Line::Report(report));
+            self.shared.lines.push(&self.rt, ServerLine::Report(report));
         }
     }
 }

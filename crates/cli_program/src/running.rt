@@ -2,18 +2,15 @@
 
 ghost use Rattle.std.specs.Prelude.{◌≤◌};
 
-use crate::asking::ask_server;
-use crate::ending::{Done, Ended, Failed, status_of};
-use crate::failure::Failure;
 use crate::output::Output;
-use crate::priority::Priority;
-use crate::reasons::more_of;
 use crate::serving::serve_file;
-use crate::session::answer;
-use crate::stores::{copy_file, format_file, show_file, status_of_file, upgrade_file};
 use crate::system::System;
 use clap::Error;
 use clap::error::ErrorKind;
+use cli_commands::{
+    answer, ask_server, copy_file, format_file, more_of, show_file, status_of_file, upgrade_file,
+};
+use cli_lines::{Done, Ended, Failed, Failure, Priority, status_of};
 use cli_once::SessionFault;
 use cli_words::{CommandLine, LOG_PRIORITY, Subcommand, read};
 use std::env;
@@ -30,7 +27,8 @@ pub fn carry_out<
 {
     let outcome = run(rt, input, output);
     if let Err(failed) = &outcome {
-        let _ = eprintln!(rt; "{}{}", mark_where(failed.is_marked), failed.ended);
+        let mark = Priority::Error.mark_where(failed.is_marked);
+        let _ = eprintln!(rt; "{mark}{}", failed.ended);
     }
     status_of(&outcome)
 }
@@ -97,7 +95,7 @@ fn dispatch<'a, R: System, I: Read + Drop + Send + 'static, O: Write>(
 /// Prints a line that says why the words are not carried out. A line that cannot be printed is left
 /// out.
 fn explain<R: System, O>(rt: &R, failure: &Failure<'_>, output: &Output<O>, is_marked: bool) {
-    let mark = mark_where(is_marked);
+    let mark = Priority::Error.mark_where(is_marked);
     if let (Failure::Output, Some(error)) = (failure, output.error()) {
         let _ = eprintln!(rt; "{mark}pathd: {}: {error}", *failure);
         return;
@@ -106,15 +104,6 @@ fn explain<R: System, O>(rt: &R, failure: &Failure<'_>, output: &Output<O>, is_m
         Some(more) => eprintln!(rt; "{mark}pathd: {}{more}", *failure),
         None => eprintln!(rt; "{mark}pathd: {}", *failure),
     };
-}
-
-/// What a line of why the program ends begins with, where it has its priority.
-fn mark_where(is_marked: bool) -> &'static str {
-    if is_marked {
-        Priority::Error.mark()
-    } else {
-        ""
-    }
 }
 
 /// What `clap` says of a number that has something else than digits.

@@ -3,12 +3,14 @@
 ghost use Rattle.std.specs.Prelude.{◌≡◌, ℕ, ◌*◌, codes, option_map, IfOk};
 ghost use Rattle.std.specs.Duration.{as_nanos};
 ghost use Rattle.clap.specs.Words.{first_value, found_of};
-ghost use Rattle.cli_program.specs.Options.{IsKeyOf, IsNumberOf, limit_of, bound_of};
+ghost use Rattle.cli_commands.specs.Options.{IsKeyOf, IsNumberOf};
+ghost use Rattle.cli_program.specs.Options.{limit_of, bound_of};
 
-use crate::failure::Failure;
-use crate::options::{core_ases_in, key_in, u32_in, u64_in};
 use clap::ArgMatches;
-use cli_words::{FUTURE, GRACE, IDLE, LOOKUP_SEATS, PEER_SESSIONS, PURGE, SESSIONS, SPARE};
+use cli_commands::{cores_in, key_in, u32_in};
+use cli_lines::Failure;
+use cli_words::{CORES, FUTURE, GRACE, IDLE, LOOKUP_SEATS, PEER_SESSIONS, PURGE, SESSIONS, SPARE};
+use isd_as::{IsdAs, parse};
 use path_server::Options;
 use seg_lookup::Roster;
 use std::alloc::Global;
@@ -57,6 +59,38 @@ pub(crate) fn options_of<'a>(alloc: Global, words: &ArgMatches<'a>) -> Result<Op
         purge: limit(u32_in(words, PURGE, 0)),
         grace: seconds(u32_in(words, GRACE, GRACE_SECONDS)),
     })
+}
+
+/// The core ASes of the words for a server, none of which has a part that is 0: such a text names
+/// no AS, and would only silence the line that says that there is no core AS.
+fn core_ases_in<'a>(alloc: Global, words: &ArgMatches<'a>) -> Result<Vec<IsdAs>, Failure<'a>> {
+    let cores = cores_in(alloc, words)?;
+    match words.get_str(CORES) {
+        Some(list) => match wildcard_in(list) {
+            Some(text) => Err(Failure::AnyCore(text)),
+            None => Ok(cores),
+        },
+        None => Ok(cores),
+    }
+}
+
+/// The first text of a list with a part that is 0, which means more than one AS.
+fn wildcard_in(list: &str) -> Option<&str> {
+    for text in list.split(',') {
+        if let Ok(core) = parse(text) {
+            if core.has_zero_part() {
+                return Some(text);
+            }
+        }
+    }
+    None
+}
+
+/// The number of an option, or 0 where the option is left out.
+fn u64_in(words: &ArgMatches<'_>, name: &str) -> u64
+    ensures { IsNumberOf (found_of words.now) name.now 64 0 result }
+{
+    words.get_one::<u64>(name).unwrap_or(0)
 }
 
 /// The time of this number of seconds, of which 0 is none.

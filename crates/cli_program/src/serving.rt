@@ -1,26 +1,27 @@
 //! The command that serves sessions over TCP.
 
-ghost use Rattle.std.specs.Prelude.{IfOk, IfSome, IsSome, IsOk, IsErr, OnOk, OnErr};
+ghost use Rattle.std.specs.Prelude.{◌≡◌, IfOk, IfSome, IsSome, IsOk, IsErr, OnOk, OnErr};
 ghost use Rattle.sector_dev.specs.Disk.{IsHonest, reads_of};
 ghost use Rattle.sector_dev.specs.FileDevice.{file_disk, file_state};
 ghost use Rattle.sector_dev.specs.Image.{IsFromImage};
 ghost use Rattle.sector_dev.specs.Stretch.{Stretch};
 ghost use Rattle.store_open.specs.Open.{IsOpened, OpensAlike};
+ghost use Rattle.cli_program.specs.Failures.{failure_of};
 ghost use Rattle.cli_program.specs.Serving.{ServesFile};
 
 use crate::addresses::{addresses_of, listen};
-use crate::failure::Failure;
 use crate::notices::Notices;
 use crate::server_options::options_of;
 use crate::starting::{say_addresses, say_opened, say_overfull, say_without_cores};
-use crate::stores::{device_over, path_of};
 use crate::system::{Host, System};
 use crate::usage::UsageFiles;
 use clap::ArgMatches;
-use cli_words::{CORES, LOG_PRIORITY, QUIET, STOP_ON_END_OF_INPUT};
+use cli_lines::Failure;
+use cli_words::{CORES, DEVICE, LOG_PRIORITY, QUIET, STOP_ON_END_OF_INPUT};
 use path_hub::HubLeft;
-use path_server::{Listeners, Options, RunError, serve_store};
+use path_server::{Options, RunError, serve_store};
 use sector_dev::{Device, FileDevice, LastFault, PositionedFile, SystemFile};
+use server_listeners::Listeners;
 use std::io::{Read, Write};
 use std::net::TcpListener;
 use std::sync::Arc;
@@ -83,12 +84,13 @@ fn site_of<'a, R: System>(
     words: &ArgMatches<'a>,
 ) -> Result<Site<'a, SystemFile>, Failure<'a>> {
     let addresses = addresses_of(words)?;
-    let path = path_of(words);
-    let file = device_files::open(rt, path).map_err(|error| Failure::File(path, error))?;
+    let path = words.get_str(DEVICE).unwrap_or("");
+    let no_file = |error| Failure::File(path, error);
+    let file = device_files::open(rt, path).map_err(no_file)?;
     let Ok(last_fault) = file.last_fault() else {
         return Err(Failure::Memory);
     };
-    let device = device_over(path, Ok(file))?;
+    let device = FileDevice::new(file).map_err(no_file)?;
     let listeners = listen(rt, &addresses)?;
     Ok(Site {
         path,
@@ -179,7 +181,17 @@ fn after_serving<'a, R: Host>(
             notices.say("ended".to_string(notices.host().alloc()));
             Ok(count)
         }
-        Err(error) => Err(Failure::Server(error)),
+        Err(error) => Err(failure_of(error)),
+    }
+}
+
+/// Why a server ended early.
+fn failure_of<'a>(error: RunError) -> Failure<'a>
+    ensures { result ≡ failure_of error }
+{
+    match error {
+        RunError::NoMemory => Failure::ServerMemory,
+        RunError::Net => Failure::BrokenListener,
     }
 }
 

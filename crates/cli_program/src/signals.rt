@@ -14,7 +14,7 @@ struct Stage {
 #[derive(Drop)]
 pub(crate) struct Signals {
     stage: Mutex<Stage>,
-    /// Rung when the stage changes.
+    /// Notified when the stage changes.
     changed: Condvar,
     wants_end: AtomicBool,
     /// The rows of the server's store did not fit when it was opened.

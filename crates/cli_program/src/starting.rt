@@ -1,11 +1,11 @@
 //! The lines of a server that starts.
 
 use crate::notices::Notices;
-use crate::priority::Priority;
 use crate::system::Host;
 use ckpt_pair::area_room;
-use path_server::Listeners;
+use cli_lines::Priority;
 use sector_dev::Device;
+use server_listeners::Listeners;
 use std::alloc::{AllocError, Global};
 use std::net::TcpListener;
 use std::time::{Clock, Instant};

@@ -1,5 +1,5 @@
 -- A store is copied: what a stop leaves of the copy, and what is answered.
-use Rattle.std.proofs.Common.{◌≡◌, inl, inr, ℕ, List, [], length, Option, Result, Ok, Err, OnOk, IfErr, IsErrAnd, refl, sym, ap, subst}
+use Rattle.std.proofs.Common.{◌≡◌, inl, inr, ℕ, List, [], length, Option, Result, Ok, Err, OnOk, IfErr, IsErrAnd, refl, sym, subst}
 use Rattle.std.specs.Io.KnownBytes.{Appends}
 use Rattle.sector_dev.specs.Disk.{Disk, IsHonest, reads_of}
 use Rattle.sector_dev.specs.Stretch.{Stretch}
@@ -16,7 +16,7 @@ use Rattle.whole_writes.specs.Written.{IsWrittenInPart}
 use Rattle.cli_store.specs.Text.{copied_line}
 use Rattle.cli_store.specs.Writing.{TextWriteFails}
 use Rattle.cli_store.specs.Fault.{fault_of_copy}
-use Rattle.cli_store.specs.Copying.{IsCopied, IsNotCopied, FailsToCopy, IsBeingCopied}
+use Rattle.cli_store.specs.Copying.{IsCopied, FailsToCopy, IsBeingCopied}
 use Rattle.cli_store.specs.declared.error.Fault.{Fault}
 use Rattle.cli_store.specs.declared.error.Fault.TheVariants.{Output}
 

@@ -15,7 +15,7 @@ use Rattle.store_open.specs.Store.{counted_len}
 use Rattle.store_open.specs.declared.folded.Folded.{Folded}
 use Rattle.store_open.specs.Folded.{TellsOnAny, IsSeenOn}
 use Rattle.cli_store.specs.FoldedStatus.{folded_status}
-use Rattle.cli_store.specs.Status.{Status, status_of, status_text, IsReported, IsReportedInPart, ReportsSo}
+use Rattle.cli_store.specs.Status.{Status, status_of, status_text, ReportsSo}
 use Rattle.cli_store.specs.Writing.{TextWriteFails}
 use Rattle.cli_store.specs.declared.error.Fault.{Fault}
 use Rattle.cli_store.specs.declared.error.Fault.TheVariants.{Output}

@@ -27,8 +27,10 @@ pub fn copy<A: Device, B: Device, W: Write>(
     writer: &mut W,
 ) -> Result<(), Fault>
     ensures leaves { LeavesDevice (A.disk from.old) (A.disk from.new) }
-    ensures copied { OnOk result (IsCopied (geometry_view geometry) (A.disk from.old) (B.disk to.new) (Appends (W.contents writer.old) (W.contents writer.new))) }
-    ensures refused { IfErr result (λ fault. FailsToCopy fault (geometry_view geometry) (A.disk from.old) (B.disk to.old) (B.disk to.new) (W.contents writer.old) (W.contents writer.new)) }
+    ensures copied { OnOk result (IsCopied (geometry_view geometry) (A.disk from.old) (B.disk to.new)
+        (Appends (W.contents writer.old) (W.contents writer.new))) }
+    ensures refused { IfErr result (λ fault. FailsToCopy fault (geometry_view geometry) (A.disk from.old) (B.disk to.old) (B.disk to.new)
+        (W.contents writer.old) (W.contents writer.new)) }
 
     // At every moment the bytes after the copy are unchanged. On a device of zeros, an image that a
     // stop leaves at any moment does not open, or opens to the rows and the place of the other one.

@@ -18,6 +18,7 @@ use clap::{Arg, ArgAction, Command, value_parser};
 pub use command_line::{CommandLine, Subcommand};
 pub use reading::{read, request_in, words_in};
 pub use request::Request;
+use server_seats::MOST_LOOKUP_SEATS;
 use std::alloc::{AllocError, Global};
 use store_layout::{LEAST_CHECKPOINT, LEAST_JOURNAL, MOST_SECTORS};
 
@@ -65,9 +66,6 @@ pub const LOOKUPS: &str = "lookups";
 
 /// The name of its option with the number of their seats.
 pub const LOOKUP_SEATS: &str = "lookup-seats";
-
-/// The most such seats: eight of a server's 64 are for sessions with commands.
-const MOST_LOOKUP_SEATS: i64 = 56;
 
 /// The name of its option with the number of sessions.
 pub const SESSIONS: &str = "sessions";
@@ -430,7 +428,7 @@ fn with_lookups<'a>(
     let seats = "The number of the 64 seats that are for these sessions, 1 to 56 [default: 16]";
     let seats = option(alloc, LOOKUP_SEATS, "SEATS", seats);
     let command = with_arg(command, RUN, option(alloc, LOOKUPS, "ADDR", lookups));
-    with_arg(command, RUN, within(seats, 1, MOST_LOOKUP_SEATS))
+    with_arg(command, RUN, within(seats, 1, MOST_LOOKUP_SEATS as i64))
 }
 
 /// Gives the command that serves sessions the options for how many and how long.

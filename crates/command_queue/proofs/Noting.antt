@@ -1,5 +1,5 @@
 -- The desk knows the commands of the history, and as many.
-use Rattle.std.proofs.Common.{◌≡◌, ℕ, List, [], ◌∷◌, ◌++◌, length, map, sym, ap, ◌∙◌}
+use Rattle.std.proofs.Common.{◌≡◌, ℕ, List, [], ◌∷◌, ◌++◌, length, sym, ap, ◌∙◌}
 use Rattle.std.proofs.lemmas.List.{map-append, length-map}
 use Rattle.path_db.specs.declared.command.Command.{Command}
 use Rattle.command_queue.specs.declared.rule.SentCommand.{SentCommand}

@@ -1,7 +1,7 @@
 //! What a queue knows of all commands that were handed in. It exists in proofs alone, but for the
 //! table that it is about, which is a word.
 
-ghost use Rattle.std.specs.Prelude.{◌≡◌, ◌-◌, ◌^◌, ◌<◌, ℕ, [], length};
+ghost use Rattle.std.specs.Prelude.{◌≡◌, ◌-◌, ◌^◌, ◌<◌, [], length};
 ghost use Rattle.std.specs.Arc.{arc_value};
 ghost use Rattle.command_queue.specs.Handed.{handed_with};
 ghost use Rattle.command_queue.specs.Orders.{commands_of, IsWithin, AreAllOf};

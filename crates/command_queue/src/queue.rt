@@ -1,6 +1,6 @@
 //! The queue: commands that were handed in and not taken yet.
 
-ghost use Rattle.std.specs.Prelude.{◌≡◌, ◌==◌, if◌then◌else◌, ◌+◌, ◌-◌, ◌^◌, ◌<◌, ◌≤◌, ◌++◌, ◌∷◌, [], length, map, min, true, false, Option, Some, None, unwrap_or, IfOk, IfErr, IfSome, OnOk, OnErr, MatchOption, IfNone};
+ghost use Rattle.std.specs.Prelude.{◌≡◌, ◌==◌, ◌+◌, ◌-◌, ◌^◌, ◌<◌, ◌≤◌, ◌++◌, ◌∷◌, [], length, map, min, true, false, Option, Some, None, unwrap_or, IfOk, IfErr, IfSome, OnOk, OnErr, MatchOption, IfNone};
 ghost use Rattle.std.specs.VecDeque.{deque_len, deque_capacity};
 ghost use Rattle.group_core.specs.declared.submit_error.SubmitError.{SubmitError};
 ghost use Rattle.command_queue.specs.Handed.{handed_with};

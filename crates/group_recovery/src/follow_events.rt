@@ -1,6 +1,5 @@
 //! The flusher's events of a run with a group that follows the group in flight.
 
-ghost use Rattle.std.specs.Prelude.{◌≡◌};
 ghost use Rattle.group_phases.specs.declared.phases.Flush.TheVariants.{Following as following, Followed as followed, DurableFollowed as durable_followed};
 ghost use Rattle.group_core.specs.Stops.{StepLeaves};
 ghost use Rattle.group_recovery.specs.Holding.{HoldsGroup};

@@ -1,6 +1,6 @@
 //! The checkpointer's events of a run.
 
-ghost use Rattle.std.specs.Prelude.{◌≡◌, true, false};
+ghost use Rattle.std.specs.Prelude.{true};
 ghost use Rattle.group_phases.specs.declared.phases.Check.TheVariants.{Planned as planned, Laid as laid, Switched as switched};
 ghost use Rattle.group_phases.specs.declared.phases.Check.TheVariants.{SwitchFailed as switch_failed, Live as live};
 ghost use Rattle.group_phases.specs.declared.phases.Check.TheVariants.{Closing as closing, CloseFailed as close_failed};

@@ -1,5 +1,5 @@
 -- What the showcase has of the next group.
-use Rattle.std.proofs.Common.{◌≡◌, ◌≢◌, ℕ, ◌+◌, ◌<◌, ◌≤◌, List, [], ◌∷◌, ◌++◌, length, get_or, take, drop, refl, sym, ap, ◌∙◌, subst, arith, append_assoc}
+use Rattle.std.proofs.Common.{◌≡◌, ◌≢◌, ℕ, ◌+◌, ◌<◌, ◌≤◌, List, [], ◌∷◌, ◌++◌, length, get_or, take, drop, sym, ap, ◌∙◌, arith, append_assoc}
 use Rattle.std.proofs.lemmas.List.{take-take, take_more, take_all, length-take, length-take-le, append-nil}
 use Rattle.std.proofs.Math.Seq.{drop-append_seam}
 use Rattle.logbook.specs.Pages.{Book}
@@ -7,9 +7,9 @@ use Rattle.log_history.specs.Entries.{LogMoment, log_accepting}
 use Rattle.path_db.specs.declared.command.Command.{Command}
 use Rattle.hub_readers.specs.declared.published.ShownCommand.{ShownCommand}
 use Rattle.hub_readers.specs.declared.show.Progress.{Progress}
-use Rattle.hub_readers.specs.Shown.{shown_log, shown_as, commands_of}
+use Rattle.hub_readers.specs.Shown.{shown_log, shown_as}
 use Rattle.hub_readers.specs.Showcase.{IsHanded}
-use Rattle.hub_readers.proofs.Groups.{shown_as_more, commands_back}
+use Rattle.hub_readers.proofs.Groups.{shown_as_more}
 
 module _ (book : Book) (before group : List Command) where
   -- nothing is noted yet

@@ -9,11 +9,9 @@ use Rattle.logbook.specs.Pages.{Book}
 use Rattle.row_map.specs.Database.{RowView}
 use Rattle.path_db.specs.declared.command.Command.{Command}
 use Rattle.store_layout.specs.Opening.{StoreValue}
-use Rattle.store_layout.specs.StoreValues.{value_after}
-use Rattle.store_open.specs.PathStores.{store_format}
 use Rattle.hub_readers.specs.declared.published.ShownCommand.{ShownCommand}
 use Rattle.hub_readers.specs.declared.rule.SeenGroups.{SeenGroups}
-use Rattle.hub_readers.specs.Shown.{PublishedView, shown_log, published_with, commands_of, newcomer, shown_after, IsShownAfter, KeepsRule, IsSeen, HasSeenGroup}
+use Rattle.hub_readers.specs.Shown.{PublishedView, published_with, commands_of, newcomer, shown_after, IsShownAfter, KeepsRule, IsSeen, HasSeenGroup}
 use Rattle.hub_readers.specs.Showcase.{AreNext, Publishes}
 use Rattle.hub_readers.proofs.Groups.{prefix_whole, prefix_more, commands_long, same_groups, shown_more, next_is}
 

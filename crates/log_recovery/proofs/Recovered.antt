@@ -1,5 +1,5 @@
 -- What is opened after a stop of a server.
-use Rattle.std.proofs.Common.{◌≡◌, ℕ, zero, suc, ◌+◌, ◌-◌, ◌<◌, ◌≤◌, Bool, true, false, cond, leb, List, [], ◌∷◌, ◌++◌, length, take, drop, get_or, filter, Some, slice_get, refl, sym, ◌∙◌, ap, subst, arith, All, Contains}
+use Rattle.std.proofs.Common.{◌≡◌, ℕ, zero, suc, ◌+◌, ◌-◌, ◌<◌, ◌≤◌, Bool, true, false, cond, leb, List, [], ◌∷◌, ◌++◌, length, take, drop, get_or, filter, Some, slice_get, refl, sym, ◌∙◌, ap, subst, arith, Contains}
 use Rattle.std.specs.List.{AllByRecursion}
 use mathlib.Core.List.{IsPrefix}
 use Rattle.std.proofs.lemmas.Bool.{leb-true}

@@ -7,9 +7,10 @@ ghost use Rattle.seg_core.specs.Encoding.{IsSegment};
 ghost use Rattle.path_db.specs.Answer.{segments_of};
 ghost use Rattle.path_records.specs.CommandRecord.{IsWithinLimits};
 ghost use Rattle.seg_lookup.specs.Answer.{answer_to};
-ghost use Rattle.seg_lookup.specs.Page.{answer_after, has_more};
+ghost use Rattle.seg_lookup.specs.Page.{has_more};
 ghost use Rattle.seg_lookup.specs.Query.{query_view};
 ghost use Rattle.seg_lookup.specs.declared.answers.TheConstants.{ANSWER_LIMIT};
+ghost use Rattle.group_core.specs.Reading.{IsPageOf};
 ghost use Rattle.once_store.specs.OnceView.{no_rows};
 ghost use Rattle.once_store.specs.Taking.{MayTake};
 
@@ -102,7 +103,7 @@ impl OnceStore {
         after: Option<&[u8; 32]>,
         now: u64,
     ) -> Result<Page, AllocError>
-        ensures answer { IfOk result (λ page. page.segments.items ≡ segments_of (answer_after self.old.rows (query_view query.now) (option_copied after.entry) now)) }
+        ensures answer { IfOk result (IsPageOf self.old.rows (query_view query.now) (option_copied after.entry) now) }
         ensures more { IfOk result (λ page. page.more ≡ has_more self.old.rows (query_view query.now) (option_copied after.entry) now) }
         ensures few { IfOk result (λ page. length page.segments.items ≤ ANSWER_LIMIT) }
         ensures whole { IfOk result (λ page. AllByRecursion IsSegment page.segments.items) }

@@ -3,7 +3,7 @@ use denote.RattleType.{RattleType}
 use denote.Param.Send.{IsSend, IsSync, sendable, recorded_send, recorded_sync, struct_send, struct_sync, enum_send, view_send}
 use denote.Struct.Declared.{shape}
 use denote.Enum.Declared.{shape as enum_shape}
-use Rattle.std.proofs.Crossing.{crosses, Deque-send, Arc-send}
+use Rattle.std.proofs.Crossing.{crosses, Deque-send}
 use Rattle.std.specs.contracts.sync.Mutex as Mutex
 use Rattle.std.specs.contracts.sync.Arc as Arc
 use Rattle.std.specs.contracts.collections.VecDeque as VecDeque
@@ -29,9 +29,9 @@ use Rattle.logged_state.specs.contracts.state.LoggedState as LoggedState
 use Rattle.hub_readers.specs.declared.name.ReaderName as reader
 use Rattle.hub_readers.specs.contracts.look.Looks as Looks
 use Rattle.hub_readers.specs.contracts.reader.HubReader as HubReader
-use Rattle.hub_readers.proofs.Sent.{row_send, db_send, command_send, receipt_send, looks_send, reader_send, show_send}
-use Rattle.path_hub.specs.contracts.answer.Answer as Answer
-use Rattle.path_hub.specs.contracts.answer.Slot as Slot
+use Rattle.hub_readers.proofs.Sent.{row_send, db_send, command_send, looks_send, reader_send, show_send}
+use Rattle.hub_claims.specs.contracts.answer.Slot as Slot
+use Rattle.hub_claims.proofs.Sent.{slots_send}
 use Rattle.path_hub.specs.contracts.guarded.Locked as Locked
 use Rattle.path_hub.specs.contracts.handing.UnderWay as UnderWay
 use Rattle.rising_map.specs.contracts.map.RisingMap as RisingMap
@@ -65,26 +65,14 @@ acknowledged_sync : (N : RattleType) (l : named.Ghosts N.Denot) → IsSend N →
 acknowledged_sync N l n = search (crosses, list_send) depth 12
 
 module _ (N : RattleType) (b : reader.Ghosts N.Denot) (s : opened.Ghosts N.Denot) (l : named.Ghosts N.Denot) (q : queue.Ghosts N.Denot) (n : IsSend N) where
-  answer_send : IsSend (Answer.the_row N b s l q)
-  answer_send = recorded_send _ _ _ (Answer.the_type N b s l q).to_one (struct_send (shape (Answer.the_type N b s l q)) (claim_send N q n, (search (sendable, crosses, receipt_send) depth 30 fits 20000, tt)))
-
-  slot_send : IsSend (Slot.the_row N b s l q)
-  slot_send = recorded_send _ _ _ (Slot.the_type N b s l q).to_one (struct_send (shape (Slot.the_type N b s l q)) (search (sendable, crosses, answer_send) depth 12, tt))
-
-  slot_sync : IsSync (Slot.the_row N b s l q)
-  slot_sync = recorded_sync _ _ _ (Slot.the_type N b s l q).to_one (struct_sync (shape (Slot.the_type N b s l q)) (search (sendable, crosses, answer_send) depth 12, tt))
-
-  slots_send : IsSend (Arc.the_row (Slot.the_row N b s l q) Global.the_row heap.ghosts)
-  slots_send = Arc-send (Slot.the_row N b s l q) slot_send slot_sync
-
   under_way_send : IsSend (UnderWay.the_row N b s l q)
   under_way_send =
-      recorded_send _ _ _ (UnderWay.the_type N b s l q).to_one (struct_send (shape (UnderWay.the_type N b s l q)) (search (sendable, crosses) depth 30 fits 20000, (claim_send N q n, (accepted_send N l n, (slots_send, tt)))))
+      recorded_send _ _ _ (UnderWay.the_type N b s l q).to_one (struct_send (shape (UnderWay.the_type N b s l q)) (search (sendable, crosses) depth 30 fits 20000, (claim_send N q n, (accepted_send N l n, (slots_send N b s l q n, tt)))))
 
   pub queue_sync : IsSync (Mutex.the_row (CommandQueue.the_row N (Arc.the_row (Slot.the_row N b s l q) Global.the_row heap.ghosts) q))
   queue_sync =
       let slots = Arc.the_row (Slot.the_row N b s l q) Global.the_row heap.ghosts in
-      let queue : IsSend (CommandQueue.the_row N slots q) = recorded_send _ _ _ (CommandQueue.the_type N slots q).to_one (queue_send N slots q n slots_send) in search crosses
+      let queue : IsSend (CommandQueue.the_row N slots q) = recorded_send _ _ _ (CommandQueue.the_type N slots q).to_one (queue_send N slots q n (slots_send N b s l q n)) in search crosses
 
   all_under_way_send : IsSend (VecDeque.the_row (UnderWay.the_row N b s l q) Global.the_row heap.ghosts)
   all_under_way_send = Deque-send (UnderWay.the_row N b s l q) under_way_send

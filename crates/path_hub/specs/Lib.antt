@@ -1,2 +1,2 @@
-pub mod Committed
 pub mod HubLeftView
+pub mod Sending

@@ -1,13 +1,12 @@
 //! The guarded calls over a hub's state: each takes the lock for one call, copies the
 //! state's numbers to the status, and then wakes the threads that wait for what it changed.
 
-ghost use Rattle.std.specs.Prelude.{◌≡◌, true, false};
-ghost use Rattle.path_hub.specs.Committed.{NotesTaken};
-ghost use Rattle.store_loops.specs.Receipts.{IsTicketOrCommand, IsRedeemed, LeadsOn, LeadsOut, IsHandedIn, IsFollowedOrBack, IsPassedOn};
+ghost use Rattle.std.specs.Prelude.{◌≡◌, true};
+ghost use Rattle.path_hub.specs.Sending.{NotesTaken};
+ghost use Rattle.store_loops.specs.Receipts.{IsTicketOrCommand};
 
 use crate::handing::{AllUnderWay, MOST_TAKEN};
 use crate::hub::Hub;
-use crate::name::HubName;
 use command_queue::{Sender, Submitted};
 use group_core::{
     AtClosing, AtDurable, AtDurableFollowed, AtFollowed, AtFollowing, AtLaid, AtLive, AtOpened,
@@ -16,6 +15,7 @@ use group_core::{
     PublishError, Redeemed, Stable, StageError, Staged, StepError, SubmitError, Switched, Ticket,
     Written,
 };
+use hub_claims::HubName;
 use hub_readers::{HubNote, HubShow};
 use hub_status::Done;
 use logged_state::LoggedState;

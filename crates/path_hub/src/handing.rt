@@ -4,15 +4,14 @@
 ghost use Rattle.std.specs.Prelude.{◌≡◌, ◌+◌, ◌<◌, ◌≤◌, true, Option};
 ghost use Rattle.std.specs.VecDeque.{deque_len, deque_capacity};
 ghost use Rattle.group_core.specs.declared.submit_error.SubmitError.{SubmitError};
-ghost use Rattle.path_hub.specs.Committed.{NotesTaken};
+ghost use Rattle.path_hub.specs.Sending.{NotesTaken};
 ghost use Rattle.store_loops.specs.Receipts.{IsTicketOrCommand};
 
-use crate::answer::{Answer, NotCommitted, Slot};
 use crate::guarded::{HubState, Locked};
 use crate::hub::Hub;
-use crate::name::HubName;
 use command_queue::{Claim, HandedIn, MOST_WAITING, NotQueued, Sender};
 use group_core::{SubmitError, Ticket};
+use hub_claims::{Answer, HubName, NotCommitted, Slot};
 use hub_status::Done;
 use logged_state::{Accepted, LoggedRedeemed};
 use path_db::Command;

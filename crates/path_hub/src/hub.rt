@@ -3,19 +3,16 @@
 ghost use Rattle.std.specs.Prelude.{◌≡◌, ◌⊎◌, true, Option, IfOk, IfErr, OnOk, OnErr};
 ghost use Rattle.group_core.specs.declared.submit_error.SubmitError.{SubmitError as Why};
 ghost use Rattle.command_queue.specs.Handed.{handed_with};
-ghost use Rattle.path_hub.specs.declared.error.HubError.TheVariants.{NoReader};
-ghost use Rattle.path_hub.specs.Committed.{ReceiptShows, RefusesCommand, RefusesHandingIn, EndsWaiting, NotesTaken};
+ghost use Rattle.hub_claims.specs.declared.error.HubError.TheVariants.{NoReader};
+ghost use Rattle.hub_claims.specs.Committed.{ReceiptShows, RefusesCommand, RefusesHandingIn, EndsWaiting};
+ghost use Rattle.path_hub.specs.Sending.{NotesTaken};
 ghost use Rattle.hub_status.specs.Numbers.{AreNumbers};
 
-use crate::answer::Slot;
-use crate::claim::HubClaim;
-use crate::error::HubError;
 use crate::guarded::Locked;
 use crate::handing::submit_error;
-use crate::name::HubName;
-use crate::waiter::{Patient, Waiter};
 use command_queue::{CommandQueue, EndedSenders, NotQueued, Sender, Senders};
 use group_core::{Numbers, SubmitError};
+use hub_claims::{HubClaim, HubError, HubName, Patient, Slot, Waiter};
 use hub_readers::{HubReader, HubReceipt, Look, Looks};
 use hub_status::{Changes, Completed, HubStatus, LONGEST_REST};
 use logged_state::{ClaimCollector, LoggedList};

@@ -18,22 +18,16 @@
 //! is a part of these, in the same order and each once.
 #![tactic(auto)]
 
-mod answer;
-mod claim;
-mod error;
 mod guarded;
 mod handing;
 mod hub;
 mod left;
 mod making;
-mod name;
+mod new_name;
 mod pause;
-mod waiter;
 mod workload;
 
-pub use claim::HubClaim;
 pub use command_queue::{Sender, Senders};
-pub use error::HubError;
 pub use hub::Hub;
 pub use hub_status::Completed;
 pub use left::HubLeft;
@@ -41,10 +35,8 @@ pub use logged_state::{
     ClaimCollector, Left, Logged, LoggedList, LoggedReceipt, UnnamedClaim, UnnamedList,
 };
 pub use making::{HubJob, with_hub};
-pub use name::HubName;
 pub use store_loops::{
     Actor, Awaited, BUCKETS, Bucket, CommitTimes, DeviceCall, Notice, Silent, Steps, Watch,
     checkpointer_loop, flusher_loop,
 };
-pub use waiter::{Patient, Waiter};
 pub use workload::{Workload, with_workload};

@@ -6,20 +6,20 @@ ghost use Rattle.sector_dev.specs.Image.{EveryImage};
 ghost use Rattle.group_core.specs.Starting.{value_of_store};
 ghost use Rattle.group_core.specs.declared.submit_error.SubmitError.{SubmitError};
 ghost use Rattle.path_db.specs.declared.command.Command.{Command};
-ghost use Rattle.path_hub.specs.declared.error.HubError.TheVariants.{NoMemory, NoReader};
+ghost use Rattle.hub_claims.specs.declared.error.HubError.TheVariants.{NoMemory, NoReader};
 ghost use Rattle.sector_dev.specs.Stretch.{Stretch};
 ghost use Rattle.logged_state.specs.Left.{OpensToFrontOf, OpensToLog, OpensWithAll};
 ghost use Rattle.logged_state.specs.Kept.{AllClaimsKept, AllShownKept};
 ghost use Rattle.command_queue.specs.Orders.{commands_of, IsWithin, AreAllOf};
 
-use crate::error::HubError;
 use crate::guarded::{HubState, Locked};
 use crate::handing::{AllUnderWay, MOST_UNDER_WAY, give_up_all};
 use crate::hub::Hub;
 use crate::left::HubLeft;
-use crate::name::{HubName, NewName};
+use crate::new_name::NewName;
 use command_queue::{CommandQueue, NewQueue, Senders};
 use group_core::State;
+use hub_claims::{HubError, HubName};
 use hub_readers::{Looks, ReaderError, open_readers};
 use hub_status::{Changes, HubStatus};
 use logged_state::{Left, LoggedList, LoggedState};
@@ -28,6 +28,7 @@ use std::alloc::Global;
 use std::marker::Brand;
 use std::sync::atomic::AtomicBool;
 use std::sync::{Mutex, Wait};
+use std::thread::Threads;
 use std::time::Clock;
 use store_open::Store;
 
@@ -52,7 +53,7 @@ pub trait HubJob<D: Device, R: Wait + Clock> {
 /// to that log, with each command at its place whose claim was handed in as acknowledged. The
 /// caller gives each state of a process a home number of its own. Where the hub cannot be made, the
 /// store is returned unchanged, with the job.
-pub fn with_hub<D: Device, J: HubJob<D, R>, R: Wait + Clock + Copy>(
+pub fn with_hub<D: Device, J: HubJob<D, R>, R: Wait + Clock + Threads + Copy + Sync>(
     rt: R,
     alloc: Global,
     store: Store<D>,
@@ -81,7 +82,12 @@ pub fn with_hub<D: Device, J: HubJob<D, R>, R: Wait + Clock + Copy>(
 }
 
 /// `with_hub` for one brand `N`, which ties readers and claims to this hub.
-fn do_with<N: HubName + Send + Sync, D: Device, J: HubJob<D, R>, R: Wait + Clock + Copy>(
+fn do_with<
+    N: HubName + Send + Sync,
+    D: Device,
+    J: HubJob<D, R>,
+    R: Wait + Clock + Threads + Copy + Sync,
+>(
     rt: R,
     alloc: Global,
     name: NewName,
@@ -131,7 +137,7 @@ impl<D: Device, N: HubName, R: Wait + Clock> Hub<D, N, R> {
         home: u64,
     ) -> Result<Hub<D, N, R>, (Store<D>, HubError)>
     where
-        R: Copy,
+        R: Threads + Copy + Sync,
         requires opening { value_of_store store ≡ N.opening }
         requires start { store.disk ≡ N.start }
         requires log { name.log.table ≡ N.table }

@@ -2,7 +2,7 @@
 
 use crate::handing::MOST_TAKEN;
 use crate::hub::Hub;
-use crate::name::HubName;
+use hub_claims::HubName;
 use sector_dev::Device;
 use std::sync::Wait;
 use std::time::{Clock, Instant};

@@ -1,9 +1,9 @@
 -- A purge that is not handed in: for `Purger::purge`.
-use Rattle.std.proofs.Common.{◌≡◌, Bool, true, Option}
+use Rattle.std.proofs.Common.{Bool, Option}
 use Rattle.group_core.specs.declared.submit_error.SubmitError.{SubmitError}
-use Rattle.path_hub.specs.declared.error.HubError.{HubError}
-use Rattle.path_hub.specs.declared.error.HubError.TheVariants as hub
-use Rattle.path_hub.specs.Committed.{RefusesHandingIn, EndsWaiting}
+use Rattle.hub_claims.specs.declared.error.HubError.{HubError}
+use Rattle.hub_claims.specs.declared.error.HubError.TheVariants as hub
+use Rattle.hub_claims.specs.Committed.{RefusesHandingIn, EndsWaiting}
 
 -- a command that the hub did not take has no receipt, whoever waits for it
 pub ends_waiting : (refused : Option SubmitError → Bool) (left : Bool) (e : HubError) → RefusesHandingIn refused e → EndsWaiting refused left e

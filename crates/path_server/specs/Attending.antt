@@ -1,5 +1,5 @@
 -- What a session of a hub has read, answered and sent when it ends.
-use Rattle.std.specs.Prelude.{◌≡◌, ℕ, Bool, List, Option, Result}
+use Rattle.std.specs.Prelude.{◌≡◌, ◌&&◌, ℕ, Bool, List, Option, Result}
 use Rattle.path_db.specs.declared.command.Command.{Command}
 use Rattle.row_map.specs.Database.{RowView}
 use Rattle.store_layout.specs.Journal.{all_of}
@@ -9,12 +9,18 @@ use Rattle.command_log.specs.declared.rule.Claim.{Claim}
 use Rattle.seg_check.specs.Signatures.{Verdicts}
 use Rattle.seg_lookup.specs.Roster.{RosterView}
 use Rattle.session_core.specs.declared.error.FrameError.{FrameError}
+use Rattle.server_seats.specs.declared.role.Role.{Role}
+use Rattle.server_seats.specs.Roles.{takes_commands}
 use Rattle.hub_readers.specs.Sight.{Sight}
 use Rattle.path_session.specs.Serving.{Serving, beginning}
 use Rattle.path_session.specs.Answered.{HubAnswers}
 use Rattle.path_session.specs.Acknowledged.{AreClaimed}
 use Rattle.session_limits.specs.Limits.{LimitedView, LimitedAnswers}
 use Rattle.paced_stream.specs.Connection.{IsConnectionServed}
+
+-- The commands of a role's sessions need room, where room is shared.
+abbrev pub shares_room : Role → Bool → Bool
+shares_room role shared = takes_commands role && shared
 
 -- A limited service over a hub that has answered no message, by the bound of its times, whether its
 -- commands need room, and whether they are taken.

@@ -1,14 +1,11 @@
 //! Peers that arrive at a server.
 
-use crate::accepting::Arrival;
-use crate::listeners::Listener;
 use crate::reports::{Report, Reports};
-use crate::role::Role;
-use crate::seats::{NoSeat, Peer};
 use crate::server::Server;
 use crate::task::Seat;
-use crate::turning_away::turn_away;
 use seg_check::Verifier;
+use server_listeners::{Arrival, Listener, turn_away};
+use server_seats::{NoSeat, Peer, Role};
 use std::net::{SocketAddr, TcpStream};
 use std::sync::{Arc, Wait};
 use std::time::Clock;

@@ -1,24 +1,24 @@
 //! The session of one peer of a server.
 
 ghost use Rattle.std.specs.Prelude.{◌≡◌, false, [], IfSome, is_some};
-ghost use Rattle.path_server.specs.Attending.{IsHubServed};
-ghost use Rattle.path_server.specs.Roles.{shares_room, takes_commands};
+ghost use Rattle.server_seats.specs.Roles.{takes_commands};
+ghost use Rattle.path_server.specs.Attending.{IsHubServed, shares_room};
 
-use crate::ends::{Circumstances, cause_of};
-use crate::listeners::Listener;
 use crate::parting::end_early;
 use crate::peer_socket::PeerSocket;
 use crate::reports::{Report, Reports};
-use crate::role::Role;
 use crate::server::Server;
 use crate::task::Seat;
-use crate::turning_away::turn_away;
+use hub_claims::{HubName, Waiter};
 use hub_readers::Look;
 use paced_stream::{Ended, StreamCalls, SystemStream, serve_connection};
-use path_hub::{Hub, HubName, LoggedList, Sender, Waiter};
+use path_hub::{Hub, LoggedList, Sender};
 use path_session::{HubService, SystemNow};
 use sector_dev::Device;
 use seg_check::Verifier;
+use server_counts::{Circumstances, cause_of};
+use server_listeners::{Listener, turn_away};
+use server_seats::Role;
 use session_limits::Limited;
 use status_server::Counted;
 use std::net::{SocketAddr, TcpStream};
@@ -75,7 +75,8 @@ impl<L: Listener + Drop, V: Verifier, O: Reports> Server<'_, L, V, O> {
         output: T,
     ) -> Option<(Ended<T>, LoggedList<N>, Look<N>)>
         ensures served { IfSome result (λ served. IsHubServed N.opening N.refused T.given T.taken T.is_at_end
-            self.now.options.now.future (shares_room role (is_some self.now.rooms)) (takes_commands role) self.now.options.now.cores (V.verifies self.now.verifier.now) (P.has_left peer)
+            self.now.options.now.future (shares_room role (is_some self.now.rooms)) (takes_commands role)
+            self.now.options.now.cores (V.verifies self.now.verifier.now) (P.has_left peer)
             input served.0.input output served.0.output served.0.replies served.1 served.2) }
         ensures nothing { takes_commands role ≡ false → IfSome result (λ served. served.1 ≡ []) }
     {

@@ -1,10 +1,10 @@
 //! The end of a server.
 
-use crate::listeners::Listener;
 use crate::reports::Reports;
 use crate::server::Server;
 use paced_stream::Deadline;
 use seg_check::Verifier;
+use server_listeners::Listener;
 use std::sync::Wait;
 use std::sync::atomic::Ordering;
 use std::thread::sleep;

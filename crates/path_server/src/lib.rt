@@ -7,15 +7,10 @@
 //! for peers that ask for the server's numbers.
 #![tactic(auto)]
 
-mod accepting;
 mod arriving;
 mod attending;
-mod descriptors;
-mod door;
 mod ending;
-mod ends;
 mod error;
-mod listeners;
 mod options;
 mod pace;
 mod parting;
@@ -23,27 +18,14 @@ mod peer_socket;
 mod purger;
 mod purging;
 mod reports;
-mod role;
 mod running;
 mod sample;
-mod seats;
-mod seldom;
 mod server;
-mod status_listener;
-mod stopwatch;
 mod task;
-mod turning_away;
-mod two_listeners;
-mod visitors;
-mod waiting;
 mod watching;
 
-pub use accepting::{AcceptFailure, after_failure};
-pub use descriptors::raised_listener;
 pub use error::RunError;
-pub use listeners::{Listener, Listeners, set_accept_timeout};
 pub use options::Options;
 pub use reports::{Report, Reports};
 pub use running::{System, serve_store};
-pub use seats::{MOST_LOOKUP_SEATS, MOST_SESSIONS};
 pub use status_page::Usage;

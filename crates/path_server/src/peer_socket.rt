@@ -2,10 +2,10 @@
 
 ghost use Rattle.std.specs.Prelude.{◌≡◌, false};
 
+use hub_claims::Waiter;
 use libc::net::{POLLERR, POLLHUP, POLLNVAL, POLLRDHUP, poll};
 use libc::types::pollfd;
 use paced_stream::Deadline;
-use path_hub::Waiter;
 use std::net::TcpStream;
 use std::os::fd::AsRawFd;
 use std::time::{Clock, Duration};

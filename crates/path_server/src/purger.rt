@@ -3,11 +3,13 @@
 ghost use Rattle.std.specs.Prelude.{◌≡◌, ◌⊎◌, min, IfOk, IfErr, OnOk, OnErr};
 ghost use Rattle.command_queue.specs.Handed.{handed_with};
 ghost use Rattle.path_server.specs.Pacing.{purge_by};
-ghost use Rattle.path_hub.specs.Committed.{ReceiptShows, RefusesHandingIn, EndsWaiting, NotesTaken};
+ghost use Rattle.hub_claims.specs.Committed.{ReceiptShows, RefusesHandingIn, EndsWaiting};
+ghost use Rattle.path_hub.specs.Sending.{NotesTaken};
 
+use hub_claims::{HubClaim, HubError, HubName, Waiter};
 use hub_readers::HubReceipt;
 use path_db::Command;
-use path_hub::{Hub, HubClaim, HubError, HubName, Sender, Waiter};
+use path_hub::{Hub, Sender};
 use path_session::Now;
 use sector_dev::Device;
 use std::sync::Wait;

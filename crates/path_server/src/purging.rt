@@ -1,18 +1,19 @@
 //! Purges that a server makes by itself.
 
-ghost use Rattle.std.specs.Prelude.{◌≡◌, false};
+ghost use Rattle.std.specs.Prelude.{false};
 
-use crate::listeners::Listener;
 use crate::pace::Pace;
 use crate::purger::Purger;
 use crate::reports::{Report, Reports};
 use crate::sample::Sample;
 use crate::server::Server;
+use hub_claims::{HubError, HubName, Waiter};
 use paced_stream::Deadline;
-use path_hub::{Hub, HubError, HubName, Sender, Waiter};
+use path_hub::{Hub, Sender};
 use path_session::{Now, SystemNow};
 use sector_dev::Device;
 use seg_check::Verifier;
+use server_listeners::Listener;
 use std::sync::Wait;
 use std::sync::atomic::Ordering;
 use std::thread::sleep;

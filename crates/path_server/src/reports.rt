@@ -1,6 +1,7 @@
 //! The reports of a server while it runs.
 
-use path_hub::{Actor, HubError};
+use hub_claims::HubError;
+use path_hub::Actor;
 use session_core::FrameError;
 use status_page::Usage;
 use std::fmt;

@@ -10,13 +10,13 @@ ghost use Rattle.logged_state.specs.Kept.{AllClaimsKept, AllShownKept};
 ghost use Rattle.command_queue.specs.Orders.{commands_of, IsWithin, AreAllOf};
 
 use crate::error::RunError;
-use crate::listeners::{Listener, Listeners};
 use crate::options::Options;
 use crate::reports::Reports;
 use crate::server::Server;
 use path_hub::{HubLeft, with_workload};
 use sector_dev::Device;
 use seg_check::{TrustAll, Verifier};
+use server_listeners::{Listener, Listeners};
 use std::alloc::Global;
 use std::sync::Wait;
 use std::thread::Threads;

@@ -4,9 +4,9 @@ ghost use Rattle.std.specs.Prelude.{◌≡◌, ◌<◌, length};
 ghost use Rattle.path_server.specs.Pacing.{stride_of};
 
 use crate::pace::MANY;
+use hub_claims::HubName;
 use hub_readers::{HubReader, ReaderError};
 use isd_as::IsdAs;
-use path_hub::HubName;
 use seg_check::expiry;
 use seg_core::{SegType, Segment};
 use seg_lookup::Query;

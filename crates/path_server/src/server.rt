@@ -1,31 +1,30 @@
 //! A server's work with a hub: it attends to each connection in a thread of its own.
 
 ghost use Rattle.std.specs.Prelude.{◌≡◌, false, is_some};
-ghost use Rattle.path_server.specs.Roles.{shares_room, takes_commands};
+ghost use Rattle.server_seats.specs.Roles.{takes_commands};
+ghost use Rattle.path_server.specs.Attending.{shares_room};
 
-use crate::door::Door;
-use crate::ends::Ends;
 use crate::error::RunError;
-use crate::listeners::{Listener, Listeners};
 use crate::options::Options;
 use crate::reports::{Report, Reports};
-use crate::role::Role;
-use crate::seats::{Seats, shares_of};
-use crate::seldom::Seldom;
-use crate::status_listener::StatusListener;
-use crate::stopwatch::Stopwatch;
 use crate::task::{Seat, Task};
-use crate::two_listeners::Entrances;
-use crate::waiting::Waiting;
-use path_hub::{Hub, HubName, Notice, Senders, Workload};
+use hub_claims::HubName;
+use hub_readers::READERS;
+use path_hub::{Hub, Notice, Senders, Workload};
 use sector_dev::Device;
 use seg_check::Verifier;
+use server_counts::{Ends, Seldom, Stopwatch, Waiting};
+use server_listeners::{Door, Entrances, Listener, Listeners, StatusListener};
+use server_seats::{MOST_SESSIONS, Role, Seats, shares_of};
 use session_limits::{Limits, Rooms};
 use status_server::Replies;
 use std::alloc::Global;
 use std::sync::Wait;
 use std::sync::atomic::{AtomicBool, AtomicU64, Ordering};
 use std::time::{Clock, Duration, Instant};
+
+// Each session at one time has a reader of the hub.
+const _: () = prove!(MOST_SESSIONS == READERS as u64);
 
 /// A server: where its peers arrive, the seats that they take, what each session is answered by,
 /// and what is counted of it.

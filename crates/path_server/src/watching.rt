@@ -3,15 +3,15 @@
 ghost use Rattle.std.specs.Prelude.{◌≡◌};
 ghost use Rattle.status_server.specs.LookupTimes.{AreLookupTimes};
 
-use crate::ends::Cause;
-use crate::listeners::Listener;
 use crate::reports::Reports;
-use crate::seats::MOST_SESSIONS;
 use crate::server::Server;
-use crate::visitors::{Visitor, next_visitor};
-use path_hub::{Completed, Hub, HubName};
+use hub_claims::HubName;
+use path_hub::{Completed, Hub};
 use sector_dev::Device;
 use seg_check::Verifier;
+use server_counts::Cause;
+use server_listeners::{Listener, Visitor, next_visitor};
+use server_seats::MOST_SESSIONS;
 use status_page::{Asked, CallTime, Counts, EndCounts, RefusedCounts};
 use status_server::{ReplyKind, Visits, answer};
 use std::alloc::AllocError;

@@ -1,5 +1,5 @@
 -- Each acknowledgement of a session is of the command that its claim names.
-use Rattle.std.proofs.Common.{◌≡◌, ◌⊎◌, inl, inr, ℕ, Bool, List, [], ◌∷◌, ◌++◌, Option, Some, None, Result, Ok, Err, refl, sym, ap, ◌∙◌, subst}
+use Rattle.std.proofs.Common.{◌≡◌, inl, inr, ℕ, Bool, List, [], ◌∷◌, ◌++◌, Option, Some, None, Result, Ok, Err, refl, sym, ap, ◌∙◌, subst}
 use Rattle.std.proofs.lemmas.List.{append-nil, append_assoc}
 use Rattle.seg_slots.specs.declared.error.SegError.{SegError}
 use Rattle.seg_core.specs.declared.seg_type.SegType.{SegType}
@@ -21,7 +21,7 @@ use Rattle.session_core.specs.declared.message.Message.TheVariants.{Register, Lo
 use Rattle.session_core.specs.declared.message.Message.TheVariants as message
 use Rattle.session_core.specs.declared.service.Ack.{Ack}
 use Rattle.session_core.specs.Frames.{MessageView}
-use Rattle.session_core.specs.Reply.{ReplyView, Registered, Purged, Removed, Refused}
+use Rattle.session_core.specs.Reply.{ReplyView, Registered, Purged, Removed}
 use Rattle.session_core.specs.Service.{Exchange, AreAnswered}
 use Rattle.reply_codes.specs.Codes.{memory_code, stopped_code, not_awaited_code, seg_code, check_code, lookup_code, submit_code}
 use Rattle.path_session.specs.Serving.{Serving, at_moment, with_left}

@@ -1,5 +1,5 @@
 -- What is handed in for a message is its command: for the calls that take and answer a message.
-use Rattle.std.proofs.Common.{◌≡◌, ◌⊎◌, inl, inr, ℕ, Bool, List, Option, Some, None, Result, Ok, Err}
+use Rattle.std.proofs.Common.{inl, inr, ℕ, Bool, List, Option, Some, None, Result, Ok, Err}
 use Rattle.seg_check.specs.Signatures.{Verdicts}
 use Rattle.path_db.specs.declared.command.Command.{Command}
 use Rattle.group_core.specs.declared.submit_error.SubmitError.{SubmitError}

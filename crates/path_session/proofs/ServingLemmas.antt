@@ -1,6 +1,6 @@
 -- From what is known of a message that was taken, and what the hub answers to its command, to what
 -- the message is answered: for `settle`.
-use Rattle.std.proofs.Common.{◌≡◌, ◌≢◌, ◌⊎◌, ℕ, Bool, true, List, Option, Some, None, Result, Ok, Err, inl, inr, refl, sym, ap, subst}
+use Rattle.std.proofs.Common.{◌≡◌, ◌≢◌, ◌⊎◌, ℕ, Bool, List, Option, Some, None, Result, Ok, Err, inl, inr, refl, sym, ap, subst}
 use Rattle.seg_slots.specs.declared.error.SegError.{SegError}
 use Rattle.seg_slots.specs.declared.error.SegError.TheVariants as seg
 use Rattle.seg_core.specs.declared.seg_type.SegType.{SegType}
@@ -25,9 +25,9 @@ use Rattle.reply_codes.specs.declared.refusal.Refusal.{Refusal}
 use Rattle.reply_codes.specs.declared.refusal.Refusal.TheVariants as refusal
 use Rattle.reply_codes.specs.Codes.{seg_code}
 use Rattle.reply_codes.specs.Replies.{reply_to_command}
-use Rattle.path_hub.specs.declared.error.HubError.{HubError}
-use Rattle.path_hub.specs.declared.error.HubError.TheVariants as hub
-use Rattle.path_hub.specs.Committed.{EndsWaiting}
+use Rattle.hub_claims.specs.declared.error.HubError.{HubError}
+use Rattle.hub_claims.specs.declared.error.HubError.TheVariants as hub
+use Rattle.hub_claims.specs.Committed.{EndsWaiting}
 use Rattle.path_session.specs.Serving.{Serving, at_moment, with_left}
 use Rattle.path_session.specs.Refused.{hub_refusal}
 use Rattle.path_session.specs.Answered.{AnswersCommand, AnswersChecked, AnswersRegistration, AnswersRemoval, IsAnswered, HubAnswers}

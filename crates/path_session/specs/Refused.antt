@@ -1,8 +1,8 @@
 -- The refusals of messages that a hub or its reader refused.
 use Rattle.hub_readers.specs.declared.error.ReaderError.{ReaderError}
 use Rattle.hub_readers.specs.declared.error.ReaderError.TheVariants as reader
-use Rattle.path_hub.specs.declared.error.HubError.{HubError}
-use Rattle.path_hub.specs.declared.error.HubError.TheVariants as hub
+use Rattle.hub_claims.specs.declared.error.HubError.{HubError}
+use Rattle.hub_claims.specs.declared.error.HubError.TheVariants as hub
 use Rattle.reply_codes.specs.declared.refusal.Refusal.{Refusal}
 use Rattle.reply_codes.specs.declared.refusal.Refusal.TheVariants.{NoMemory, Submit, NoReader, Stopped, NotAwaited}
 

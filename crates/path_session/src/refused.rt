@@ -7,8 +7,8 @@ ghost use Rattle.session_core.specs.declared.command_kind.CommandKind.{CommandKi
 ghost use Rattle.path_session.specs.Refused.{hub_refusal, reader_refusal};
 ghost use Rattle.path_session.specs.UnderWay.{reply_with};
 
+use hub_claims::HubError;
 use hub_readers::ReaderError;
-use path_hub::HubError;
 use reply_codes::Refusal;
 use session_core::{Ack, Code};
 

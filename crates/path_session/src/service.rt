@@ -22,10 +22,11 @@ ghost use Rattle.path_session.specs.Sending.{HandsIn, HandsInAtMost};
 
 use crate::refused::{coded, reader_refusal_of, refusal_of};
 use crate::under_way::HubUnderWay;
+use hub_claims::{HubClaim, HubName, Waiter};
 use hub_readers::{HubReader, HubReceipt, Look};
 use isd_as::IsdAs;
 use path_db::{Command, Registration};
-use path_hub::{Hub, HubClaim, HubName, LoggedList, Sender, Waiter};
+use path_hub::{Hub, LoggedList, Sender};
 use reply_codes::Refusal;
 use sector_dev::Device;
 use seg_check::{Verifier, check_all};
@@ -260,7 +261,8 @@ impl<'a, D: Device, N: HubName, R: Wait + Clock, V: Verifier, C: Now, P: Waiter>
     /// it, with its claim.
     #[tactic(auto, using(crate::proofs::ServingLemmas::wait_ended))]
     fn commit(&mut self, claim: HubClaim<N>) -> Result<Ack, Refusal>
-        ensures answered { IsCommandAnswered N.opening N.refused (serving V.verifies P.has_left self.old) claim result (serving V.verifies P.has_left self.new) }
+        ensures answered { IsCommandAnswered N.opening N.refused (serving V.verifies P.has_left self.old)
+            claim result (serving V.verifies P.has_left self.new) }
         ensures sent { self.new.sender ≡ self.old.sender }
     {
         let settled = self.hub.settle_for(claim, &mut self.peer);
@@ -343,7 +345,8 @@ impl<D: Device, N: HubName, R: Wait + Clock, V: Verifier, C: Now, P: Waiter> Ser
     ghost is_for = { λ service under_way message. IsFor N.refused service.verifies under_way message };
 
     fn register(&mut self, alloc: Global, message: &[u8]) -> Result<Ack, Code>
-        ensures answers { HubAnswers N.opening N.refused (serving V.verifies P.has_left self.old) (Register message.now) (reply_to_register result) (serving V.verifies P.has_left self.new) }
+        ensures answers { HubAnswers N.opening N.refused (serving V.verifies P.has_left self.old)
+            (Register message.now) (reply_to_register result) (serving V.verifies P.has_left self.new) }
         ensures sent { HandsInAtMost (Register message.now) self.old.sender self.new.sender }
     {
         let under_way = self.take_registration(alloc, message);
@@ -351,7 +354,8 @@ impl<D: Device, N: HubName, R: Wait + Clock, V: Verifier, C: Now, P: Waiter> Ser
     }
 
     fn lookup(&mut self, _alloc: Global, message: &[u8]) -> Result<(SegType, Vec<Segment>), Code>
-        ensures answers { HubAnswers N.opening N.refused (serving V.verifies P.has_left self.old) (Lookup message.now) (reply_to_lookup result) (serving V.verifies P.has_left self.new) }
+        ensures answers { HubAnswers N.opening N.refused (serving V.verifies P.has_left self.old)
+            (Lookup message.now) (reply_to_lookup result) (serving V.verifies P.has_left self.new) }
         ensures few { IfOk result (λ found. length found.1.items ≤ MOST_SEGMENTS) }
         ensures whole { IfOk result (λ found. AllByRecursion IsSegment found.1.items) }
         ensures sent { self.new.sender ≡ self.old.sender }
@@ -360,7 +364,8 @@ impl<D: Device, N: HubName, R: Wait + Clock, V: Verifier, C: Now, P: Waiter> Ser
     }
 
     fn list(&mut self, _alloc: Global, request: &ListRequest) -> Result<Listing, Code>
-        ensures answers { HubAnswers N.opening N.refused (serving V.verifies P.has_left self.old) (List request.now) (reply_to_list result) (serving V.verifies P.has_left self.new) }
+        ensures answers { HubAnswers N.opening N.refused (serving V.verifies P.has_left self.old)
+            (List request.now) (reply_to_list result) (serving V.verifies P.has_left self.new) }
         ensures few { IfOk result (λ listing. length listing.segments.items ≤ MOST_SEGMENTS) }
         ensures whole { IfOk result (λ listing. AllByRecursion IsSegment listing.segments.items) }
         ensures sent { self.new.sender ≡ self.old.sender }
@@ -369,7 +374,8 @@ impl<D: Device, N: HubName, R: Wait + Clock, V: Verifier, C: Now, P: Waiter> Ser
     }
 
     fn purge(&mut self, moment: u64) -> Result<Ack, Code>
-        ensures answers { HubAnswers N.opening N.refused (serving V.verifies P.has_left self.old) (Purge moment) (reply_to_purge result) (serving V.verifies P.has_left self.new) }
+        ensures answers { HubAnswers N.opening N.refused (serving V.verifies P.has_left self.old)
+            (Purge moment) (reply_to_purge result) (serving V.verifies P.has_left self.new) }
         ensures sent { HandsInAtMost (Purge moment) self.old.sender self.new.sender }
     {
         let under_way = self.take_purge(moment);
@@ -377,7 +383,8 @@ impl<D: Device, N: HubName, R: Wait + Clock, V: Verifier, C: Now, P: Waiter> Ser
     }
 
     fn remove(&mut self, kind: u8, id: &[u8; 32]) -> Result<Ack, Code>
-        ensures answers { HubAnswers N.opening N.refused (serving V.verifies P.has_left self.old) (Remove kind id.now) (reply_to_remove result) (serving V.verifies P.has_left self.new) }
+        ensures answers { HubAnswers N.opening N.refused (serving V.verifies P.has_left self.old)
+            (Remove kind id.now) (reply_to_remove result) (serving V.verifies P.has_left self.new) }
         ensures sent { HandsInAtMost (Remove kind id.now) self.old.sender self.new.sender }
     {
         let under_way = self.take_removal(kind, id);
@@ -401,8 +408,10 @@ impl<D: Device, N: HubName, R: Wait + Clock, V: Verifier, C: Now, P: Waiter> Ser
     }
 
     fn settle(&mut self, under_way: HubUnderWay<N>) -> Result<Ack, Code>
-        ensures answers { (message : MessageView) (kind : CommandKind) → IsFor N.refused (serving V.verifies P.has_left self.old).verifies under_way message → command_kind message ≡ Some kind
-            → HubAnswers N.opening N.refused (serving V.verifies P.has_left self.old) message (reply_to_kind kind result) (serving V.verifies P.has_left self.new) }
+        ensures answers { (message : MessageView) (kind : CommandKind) → IsFor N.refused (serving V.verifies P.has_left self.old).verifies under_way message
+            → command_kind message ≡ Some kind
+            → HubAnswers N.opening N.refused (serving V.verifies P.has_left self.old)
+            message (reply_to_kind kind result) (serving V.verifies P.has_left self.new) }
         ensures others { (other : UnderWayValue N) (message : MessageView) → IsFor N.refused (serving V.verifies P.has_left self.old).verifies other message
             → IsFor N.refused (serving V.verifies P.has_left self.new).verifies other message }
         ensures sent { self.new.sender ≡ self.old.sender }

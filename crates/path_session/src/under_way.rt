@@ -1,6 +1,6 @@
 //! Commands that a service has taken and not answered yet.
 
-use path_hub::{HubClaim, HubName};
+use hub_claims::{HubClaim, HubName};
 use reply_codes::Refusal;
 
 /// A command that a service over a hub has taken and not answered yet, or a message that will be

@@ -11,7 +11,8 @@ use Rattle.row_edits.specs.declared.settling.Settled.TheVariants.{More, Done}
 use Rattle.row_edits.specs.Merging.{keys_named_by, KeysRise, Includes, outlives}
 use Rattle.row_edits.specs.Edits.{views_if_any, bytes_put, count_rows}
 use Rattle.row_edits.specs.Planning.{is_beyond, keys_left, MakesAll}
-use Rattle.row_edits.specs.Planner.{IsPlanOf}
+use Rattle.row_edits.specs.declared.planner.Planner.{Planner}
+use Rattle.row_edits.specs.Planner.{HasSeen, IsPlanOf}
 use Rattle.row_edits.specs.Laws.{left_of}
 
 -- The commands that are not applied yet.
@@ -46,6 +47,11 @@ pub record Settles (rows : List RowView) (commands : List Command) (settling : S
   -- The bytes and the number of the rows that are listed.
   pub size : settling.size ≡ min (bytes_put (views_if_any settling.rows.items)) (2 ^ 64 - 1)
   pub count : settling.count ≡ min (count_rows (views_if_any settling.rows.items)) (2 ^ 64 - 1)
+
+-- For each database whose rows the planner has seen for the commands, it is settled in part what the
+-- commands leave under keys.
+abbrev pub SettlesSeen : Planner → List Command → Settling → Type 0
+SettlesSeen planner commands settling = (rows : List RowView) → HasSeen commands rows planner → IsDatabase rows → Settles rows commands settling
 
 -- The result of settling on: what the commands leave is settled further, or the plan is there.
 abbrev pub SettlesOn : List RowView → List Command → Settled → Type 0

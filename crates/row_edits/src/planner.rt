@@ -2,11 +2,11 @@
 
 ghost use Rattle.std.specs.Prelude.{◌≡◌, ◌^◌, ◌<◌, ◌∷◌, ◌++◌, [], List, true, false, IfOk, OnOk};
 ghost use Rattle.path_db.specs.declared.command.Command.{Command};
-ghost use Rattle.row_map.specs.Database.{RowView, IsDatabase, row_len};
+ghost use Rattle.row_map.specs.Database.{RowView, row_len};
 ghost use Rattle.row_map.specs.Row.{row_view};
 ghost use Rattle.row_edits.specs.Planning.{is_beyond};
 ghost use Rattle.row_edits.specs.Planner.{HasSeen, IsFresh, PlansOn};
-ghost use Rattle.row_edits.specs.Settling.{Settles, steps_to_settle};
+ghost use Rattle.row_edits.specs.Settling.{SettlesSeen, steps_to_settle};
 
 use crate::edit::Edit;
 use crate::putting::{push_edit, put_rest, put_up_to};
@@ -91,7 +91,7 @@ impl Planner {
     /// Begins to settle what the commands leave, once all rows were seen. The commands are those for
     /// which the planner was made.
     pub fn settle(self, commands: Vec<Command>) -> Result<Settling, AllocError>
-        ensures settles { IfOk result (λ settling. (rows : List RowView) → HasSeen commands.items rows self → IsDatabase rows → Settles rows commands.items settling) }
+        ensures settles { IfOk result (SettlesSeen self commands.items) }
         ensures few { IfOk result (λ settling. steps_to_settle settling < 2 ^ 65) }
     {
         keys_are_separate();

@@ -1,6 +1,6 @@
 //! Replies, and their frames.
 
-ghost use Rattle.std.specs.Prelude.{◌≡◌, ◌+◌, ◌≤◌, ◌<◌, ◌++◌, ◌∷◌, ℕ, List, length, IfOk};
+ghost use Rattle.std.specs.Prelude.{◌≡◌, ◌+◌, ◌<◌, ◌++◌, ◌∷◌, ℕ, List, length, IfOk};
 ghost use Rattle.session_core.specs.Commands.{reply_to_kind};
 ghost use Rattle.session_core.specs.Frames.{frame_encoding};
 ghost use Rattle.session_core.specs.Reply.{ack_encoding, more_byte, reply_frame, HasReplySize, Found, Listed, Refused};

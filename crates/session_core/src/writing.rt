@@ -2,7 +2,7 @@
 
 ghost use Rattle.std.specs.Prelude.{◌≡◌, ◌++◌, OnOk, IfOk, IfErr, string_bytes};
 ghost use Rattle.std.specs.Io.KnownBytes.{Appends};
-ghost use Rattle.session_core.specs.Reply.{HasReplySize, Found, Listed, reply_frame, told_as};
+ghost use Rattle.session_core.specs.Reply.{HasReplySize, Found, reply_frame, told_as};
 ghost use Rattle.session_core.specs.ReplyViews.{reply_view};
 ghost use Rattle.session_core.specs.Answered.{FailsToWrite, ReplyWriteFails};
 
@@ -99,9 +99,9 @@ fn write_found<W: Sink>(
 /// Writes the frame of a page.
 #[tactic(auto, unfolding(crate::specs::Reply::reply_frame))]
 fn write_listed<W: Sink>(alloc: Global, writer: &mut W, listing: &Listing) -> Result<(), FrameError>
-    requires { HasReplySize (Listed listing.now.more listing.now.kind listing.now.segments.items) }
-    ensures ok { OnOk result (Appends (W.contents writer.old) (W.contents writer.new) (reply_frame (Listed listing.now.more listing.now.kind listing.now.segments.items))) }
-    ensures err { IfErr result (FailsToWrite (W.contents writer.old) (W.contents writer.new) (reply_frame (Listed listing.now.more listing.now.kind listing.now.segments.items))) }
+    requires { HasReplySize (reply_view (Reply.Listed listing.now)) }
+    ensures ok { OnOk result (Appends (W.contents writer.old) (W.contents writer.new) (reply_frame (reply_view (Reply.Listed listing.now)))) }
+    ensures err { IfErr result (FailsToWrite (W.contents writer.old) (W.contents writer.new) (reply_frame (reply_view (Reply.Listed listing.now)))) }
 {
     let Ok(response) = write_response_of_type(alloc, listing.kind, &listing.segments) else {
         return Err(FrameError::NoMemory);

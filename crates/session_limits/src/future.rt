@@ -1,6 +1,6 @@
 //! Times that lie too far in the future.
 
-ghost use Rattle.std.specs.Prelude.{◌≡◌, ◌↔◌, ◌<◌, ◌^◌, IsTrue, nat_lt};
+ghost use Rattle.std.specs.Prelude.{◌≡◌, ◌<◌, nat_lt};
 ghost use Rattle.std.specs.List.{list_any};
 ghost use Rattle.session_limits.specs.Future.{is_row_after, last_moment};
 

@@ -83,8 +83,13 @@ impl<'a, S: Service, C: Now, R: Clock> Limited<'a, S, C, R> {
     /// Limits a service that has no command under way.
     pub fn new(inner: S, clock: C, limits: Limits<'a>, rt: &'a R) -> Limited<'a, S, C, R>
         ensures inner { result.inner ≡ inner }
-        ensures view { limited S.state result
-            ≡ record { future = limits.entry.future; shares = is_some limits.entry.rooms; commands = limits.entry.commands; moment = 0; inner = S.state inner } }
+        ensures view { limited S.state result ≡ record {
+          future = limits.entry.future;
+          shares = is_some limits.entry.rooms;
+          commands = limits.entry.commands;
+          moment = 0;
+          inner = S.state inner;
+        } }
     {
         Limited {
             inner,

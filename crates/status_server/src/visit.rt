@@ -1,6 +1,6 @@
 //! The visit of a peer that asks for the numbers of a server. No call waits for the peer.
 
-ghost use Rattle.std.specs.Prelude.{◌≡◌, ◌≢◌, ◌≤◌, ◌<◌, ◌++◌, ℕ, length, Ok, IfSome, IfOk, OnOk, OnErr, string_bytes};
+ghost use Rattle.std.specs.Prelude.{◌≡◌, ◌≢◌, ◌<◌, ◌++◌, length, Ok, IfSome, IfOk, OnOk, OnErr, string_bytes};
 ghost use Rattle.status_page.specs.Request.{IsAsked};
 ghost use Rattle.status_server.specs.Requests.{IsPieceTaken};
 ghost use Rattle.status_server.specs.VisitSteps.{IfAsks, IsReadOn, IsSentOn};

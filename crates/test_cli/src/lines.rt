@@ -3,10 +3,9 @@
 //! has to fail for them.
 
 use cli_ask::AskFault;
+use cli_lines::{Ended, Failed, status_of};
 use cli_once::SessionFault;
-use cli_program::{Ended, Failed, status_of};
 use cli_store::Fault as StoreFault;
-use path_server::RunError;
 use session_core::FrameError;
 use std::alloc::Global;
 use std::process::Abort;
@@ -43,8 +42,7 @@ fn lines_of_ends(rt: HostRuntime) {
     }
     let turns = Ended::from(SessionFault::from(FrameError::Turns));
     assert_line(&rt, rt.alloc(), turns, "error: frame 5");
-    let net = Ended::from(RunError::Net);
-    assert_line(&rt, rt.alloc(), net, "error: net");
+    assert_line(&rt, rt.alloc(), Ended::Net, "error: net");
     let refused = Ended::Ask(AskFault::Refused(0x5a));
     assert_line(&rt, rt.alloc(), refused, "error: refused 0x5a");
 }
@@ -67,7 +65,6 @@ fn lines_of_refused_memory(rt: HostRuntime) {
         Ended::from(SessionFault::from(FrameError::NoMemory)),
         Ended::from(StoreFault::from(OpenError::NoMemory)),
         Ended::from(StoreFault::from(StoreError::NoMemory)),
-        Ended::from(RunError::NoMemory),
     ] {
         assert_line(&rt, rt.alloc(), ended, "error: memory");
     }

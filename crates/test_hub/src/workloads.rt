@@ -2,7 +2,8 @@
 //! limit.
 
 use crate::checks::assert_same;
-use path_hub::{Hub, HubError, HubName, Notice, Senders, Workload, with_workload};
+use hub_claims::{HubError, HubName};
+use path_hub::{Hub, Notice, Senders, Workload, with_workload};
 use sector_dev::Device;
 use std::alloc::Global;
 use std::process::Abort;

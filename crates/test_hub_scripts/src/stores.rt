@@ -1,9 +1,10 @@
 //! Stores on devices in memory, commands, and queries.
 
 use group_core::{Receipt, Redeemed, Ticket};
+use hub_claims::HubError;
 use isd_as::IsdAs;
 use path_db::{Command, Registration};
-use path_hub::{Awaited, HubError, HubLeft, Steps};
+use path_hub::{Awaited, HubLeft, Steps};
 use sector_dev::{Device, MemDevice, SECTOR};
 use seg_core::{SegType, read_segment};
 use seg_lookup::Query;

@@ -3,8 +3,9 @@
 ghost use Rattle.std.specs.Prelude.{◌≡◌};
 
 use crate::host::Host;
+use hub_claims::{HubClaim, HubName};
 use path_db::Command;
-use path_hub::{Hub, HubClaim, HubJob, HubName, Senders, UnnamedClaim, with_hub};
+use path_hub::{Hub, HubJob, Senders, UnnamedClaim, with_hub};
 use sector_dev::Device;
 use std::process::Abort;
 use std::sync::Wait;

@@ -3,8 +3,9 @@
 use crate::checks::{assert_same, assert_true};
 use crate::host::Host;
 use crate::workloads::{Errand, Tasks, with_tasks};
+use hub_claims::HubName;
 use path_db::Command;
-use path_hub::{Hub, HubName, Senders};
+use path_hub::{Hub, Senders};
 use sector_dev::Device;
 use std::process::Abort;
 use std::sync::Wait;

@@ -2,8 +2,9 @@
 
 use crate::checks::assert_same;
 use crate::host::Host;
+use hub_claims::{HubError, HubName};
 use hub_readers::HubReader;
-use path_hub::{Hub, HubError, HubJob, HubName, Senders, with_hub};
+use path_hub::{Hub, HubJob, Senders, with_hub};
 use sector_dev::Device;
 use std::alloc::Global;
 use std::sync::Wait;

@@ -5,9 +5,10 @@ use crate::checks::assert_same;
 use crate::host::Host;
 use crate::workloads::{Errand, Tasks, attended};
 use group_core::{Durable, PublishError, StageError, Staged, StepError, SubmitError, Ticket};
+use hub_claims::{HubError, HubName};
 use hub_readers::{HubNote, HubReader, ReaderError};
 use path_db::Command;
-use path_hub::{Hub, HubError, HubJob, HubName, Senders, Steps, with_hub};
+use path_hub::{Hub, HubJob, Senders, Steps, with_hub};
 use sector_dev::{Device, MemDevice};
 use std::alloc::Global;
 use std::process::Abort;
@@ -229,7 +230,7 @@ fn assert_kept<D: Device>(
 type Refused = (Store<MemDevice>, Adds, HubError);
 
 /// The places of both segments, where a hub is made over a store.
-fn added<R: Wait + Clock + Abort + Copy>(
+fn added<R: Wait + Clock + Threads + Abort + Copy + Sync>(
     rt: R,
     alloc: Global,
     store: Store<MemDevice>,
@@ -242,7 +243,7 @@ fn added<R: Wait + Clock + Abort + Copy>(
 }
 
 /// The places of both segments, where a hub was refused for want of memory.
-fn added_again<R: Wait + Clock + Abort + Copy + Drop>(
+fn added_again<R: Wait + Clock + Threads + Abort + Copy + Drop + Sync>(
     rt: R,
     alloc: Global,
     (store, adds, e): Refused,

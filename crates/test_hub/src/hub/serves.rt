@@ -3,8 +3,9 @@
 use crate::checks::assert_same;
 use crate::host::Host;
 use crate::workloads::{Errand, Tasks, with_tasks};
+use hub_claims::HubName;
 use hub_readers::HubReader;
-use path_hub::{Hub, HubName, Senders};
+use path_hub::{Hub, Senders};
 use sector_dev::Device;
 use std::alloc::Global;
 use std::process::Abort;

@@ -3,12 +3,14 @@
 use crate::checks::{assert_same, assert_true};
 use crate::host::Host;
 use group_core::{Redeemed, SubmitError, Ticket};
+use hub_claims::{HubError, HubName};
 use path_db::Command;
-use path_hub::{Hub, HubError, HubJob, HubName, Senders, Steps, with_hub};
+use path_hub::{Hub, HubJob, Senders, Steps, with_hub};
 use sector_dev::Device;
 use std::alloc::Global;
 use std::process::Abort;
 use std::sync::Wait;
+use std::thread::Threads;
 use std::time::Clock;
 use test_hub_scripts::acts::{Unwatched, keep, spend, submit};
 use test_hub_scripts::stores::{ended, new_store};
@@ -51,7 +53,11 @@ struct Visits {
 }
 
 /// Has a ticket redeemed at a hub of another home.
-fn visited<R: Wait + Clock + Abort + Copy>(rt: R, alloc: Global, ticket: Ticket) -> Ticket {
+fn visited<R: Wait + Clock + Threads + Abort + Copy + Sync>(
+    rt: R,
+    alloc: Global,
+    ticket: Ticket,
+) -> Ticket {
     let store = new_store(&Host(&rt), alloc);
     match with_hub(rt, alloc, store, 2, Redeems { ticket }) {
         Ok((ticket, _device, _left)) => ticket,
@@ -59,7 +65,7 @@ fn visited<R: Wait + Clock + Abort + Copy>(rt: R, alloc: Global, ticket: Ticket)
     }
 }
 
-impl<D: Device, R: Wait + Clock + Abort + Copy> HubJob<D, R> for Visits {
+impl<D: Device, R: Wait + Clock + Threads + Abort + Copy + Sync> HubJob<D, R> for Visits {
     type Out = ();
 
     fn run<N: HubName>(self, hub: &Hub<D, N, R>, senders: &Senders<N>) {

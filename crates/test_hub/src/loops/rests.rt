@@ -2,7 +2,8 @@
 
 use crate::checks::assert_same;
 use crate::host::Host;
-use path_hub::{Awaited, Hub, HubJob, HubName, Senders, Steps, with_hub};
+use hub_claims::HubName;
+use path_hub::{Awaited, Hub, HubJob, Senders, Steps, with_hub};
 use sector_dev::Device;
 use std::alloc::Global;
 use std::process::Abort;

@@ -5,13 +5,15 @@ use crate::checks::assert_same;
 use crate::host::Host;
 use group_core::StageError;
 use group_recovery::{Event, Reply, Run, run};
+use hub_claims::HubName;
 use path_db::Command;
-use path_hub::{Hub, HubJob, HubName, Senders, Steps, with_hub};
+use path_hub::{Hub, HubJob, Senders, Steps, with_hub};
 use sector_dev::{Device, MemDevice};
 use std::alloc::Global;
 use std::process::Abort;
 use std::sync::Wait;
 use std::sync::atomic::{AtomicU64, Ordering};
+use std::thread::Threads;
 use std::time::Clock;
 use store_open::Store;
 use test_fault_devices::{Gate, HeldDevice};
@@ -295,7 +297,7 @@ fn wind_up(rt: &Host<impl Abort>, alloc: Global, held: Run<Counted<'_>>) {
 }
 
 /// Makes the script's calls at a hub: what is seen of them.
-fn played<R: Wait + Clock + Abort + Copy>(rt: R, alloc: Global) -> Vec<Seen> {
+fn played<R: Wait + Clock + Threads + Abort + Copy + Sync>(rt: R, alloc: Global) -> Vec<Seen> {
     let host = Host(rt);
     let syncs = AtomicU64::new(0);
     let store = counted_store(&host, alloc, &syncs);

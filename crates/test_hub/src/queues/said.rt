@@ -2,8 +2,9 @@
 
 use crate::checks::assert_true;
 use group_core::SubmitError;
+use hub_claims::{HubClaim, HubError, HubName};
 use path_db::{Command, Outcome};
-use path_hub::{Hub, HubClaim, HubError, HubName, Senders};
+use path_hub::{Hub, Senders};
 use sector_dev::Device;
 use std::alloc::Global;
 use std::process::Abort;

@@ -3,7 +3,8 @@
 use crate::server::checks::assert_same;
 use crate::server::stores::{LEAST, assert_opens_to, formatted};
 use crate::server::worlds::{Counts, options, serve};
-use path_server::{AcceptFailure, Listener, Listeners, RunError, after_failure};
+use path_server::RunError;
+use server_listeners::{AcceptFailure, Listener, Listeners, after_failure};
 use std::io;
 use std::net::{OpenListener, SocketAddr, TcpStream};
 use std::sync::atomic::{AtomicUsize, Ordering};

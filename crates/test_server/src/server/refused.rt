@@ -5,8 +5,9 @@
 use crate::server::checks::{assert_same, assert_true};
 use crate::server::stores::{LEAST, assert_opens_to, formatted};
 use crate::server::worlds::{Counts, World, serve};
-use path_server::{Listener, Listeners, Options, RunError};
+use path_server::{Options, RunError};
 use seg_lookup::Roster;
+use server_listeners::{Listener, Listeners};
 use std::alloc::Global;
 use std::io;
 use std::net::{OpenListener, SocketAddr, TcpStream};

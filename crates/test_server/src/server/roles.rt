@@ -7,7 +7,8 @@ use crate::server::stores::{LEAST, assert_opens_to, formatted};
 use crate::server::worlds::{
     Clients, Counts, Others, Outside, World, listen, options, serve_beside,
 };
-use path_server::{MOST_LOOKUP_SEATS, MOST_SESSIONS, Options};
+use path_server::Options;
+use server_seats::{MOST_LOOKUP_SEATS, MOST_SESSIONS};
 use std::alloc::Global;
 use std::io;
 use std::net::{SocketAddr, TcpListener};

@@ -3,11 +3,10 @@
 use crate::server::checks::assert_same;
 use crate::server::stores::{LEAST, assert_opens_to, failing, formatted, opened};
 use isd_as::IsdAs;
-use path_server::{
-    Listener, Listeners, Options, Report, Reports, RunError, serve_store, set_accept_timeout,
-};
+use path_server::{Options, Report, Reports, RunError, serve_store};
 use sector_dev::Device;
 use seg_lookup::Roster;
+use server_listeners::{Listener, Listeners, set_accept_timeout};
 use std::alloc::Global;
 use std::net::{Net, Shutdown, SocketAddr, TcpListener, TcpStream};
 use std::os::fd::OwnedFd;

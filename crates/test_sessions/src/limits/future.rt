@@ -9,7 +9,8 @@ use crate::service::frames::{
 };
 use crate::service::stores::{assert_opens_to, cores, new_store};
 use crate::service::tasks::{Talk, talked};
-use path_hub::{Hub, HubName, Patient, Senders};
+use hub_claims::{HubName, Patient};
+use path_hub::{Hub, Senders};
 use path_session::{Ack, Code, HubService, Service};
 use sector_dev::Device;
 use seg_check::TrustAll;

@@ -7,7 +7,8 @@ use crate::service::frames::{
 };
 use crate::service::stores::{assert_opens_to, new_store};
 use crate::service::tasks::{Talk, talked};
-use path_hub::{Hub, HubName, Patient, Senders};
+use hub_claims::{HubName, Patient};
+use path_hub::{Hub, Senders};
 use sector_dev::Device;
 use session_limits::Limits;
 use std::alloc::Global;

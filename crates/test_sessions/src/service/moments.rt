@@ -7,7 +7,8 @@ use crate::service::frames::{
 };
 use crate::service::stores::{cores, new_store};
 use crate::service::tasks::{Talk, session, talked};
-use path_hub::{Hub, HubName, Senders};
+use hub_claims::HubName;
+use path_hub::{Hub, Senders};
 use sector_dev::Device;
 use std::alloc::Global;
 use std::process::Abort;

@@ -6,8 +6,9 @@ use crate::service::frames::{FOUND, INSERTED, PURGE, REMOVE, assert_replied, joi
 use crate::service::stores::{assert_opens_to, cores, failing_store, new_store, old_store};
 use crate::service::tasks::{Talk, nap, session, talked};
 use group_core::{Redeemed, Ticket};
+use hub_claims::HubName;
 use path_db::Command;
-use path_hub::{Hub, HubJob, HubName, Senders, Steps, with_hub};
+use path_hub::{Hub, HubJob, Senders, Steps, with_hub};
 use sector_dev::Device;
 use seg_lookup::Roster;
 use std::alloc::Global;

@@ -7,7 +7,8 @@ use crate::service::frames::{
 };
 use crate::service::stores::{assert_opens_to, cores, new_store};
 use crate::service::tasks::{TURNS, Talk, session, talked};
-use path_hub::{Hub, HubName, Patient, Senders};
+use hub_claims::{HubName, Patient};
+use path_hub::{Hub, Senders};
 use path_session::{HubService, Service, serve};
 use sector_dev::Device;
 use seg_check::TrustAll;

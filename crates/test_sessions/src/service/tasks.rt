@@ -4,7 +4,8 @@
 use crate::checks::assert_same;
 use crate::service::clocks::Counts;
 use crate::service::stores::opened;
-use path_hub::{Hub, HubError, HubName, Patient, Senders, Workload, with_workload};
+use hub_claims::{HubError, HubName, Patient};
+use path_hub::{Hub, Senders, Workload, with_workload};
 use path_session::{FrameError, HubService, Service, serve};
 use sector_dev::Device;
 use seg_check::TrustAll;

@@ -1,5 +1,5 @@
 -- The bytes that came and those that are left are the wanted number.
-use Rattle.std.proofs.Common.{◌≡◌, ℕ, ◌+◌, length}
+use Rattle.std.proofs.Common.{◌≡◌, ◌+◌, length}
 use Rattle.cli_ask.proofs.answers.content_of.Given as goal
 
 abbrev pub invariant-loop-left : goal.invariant-loop-left

@@ -10,7 +10,7 @@ use Rattle.store_layout.specs.Opening.{StoreValue}
 use Rattle.command_log.specs.Log.{Log}
 use Rattle.logged_state.specs.Left.{OpensToLog, OpensWithAll}
 use Rattle.logged_state.specs.LeftView.{LeftView}
-use Rattle.logged_state.specs.Kept.{AllKept, AllClaimsKept, AllShownKept}
+use Rattle.logged_state.specs.Kept.{AllKept, AllClaimsKept}
 use Rattle.path_hub.proofs.making.close_state.Goals as goal
 
 -- an image that opens to the log opens with the commands of all claims

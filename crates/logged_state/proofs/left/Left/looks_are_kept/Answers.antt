@@ -1,8 +1,3 @@
-use Rattle.std.proofs.Common.{List, take, subst}
-use Rattle.std.specs.List.{AllByRecursion}
-use mathlib.Core.List.{IsPrefix}
-use Rattle.logged_state.specs.LeftView.{LeftView}
-use Rattle.logged_state.specs.Kept.{AllKept, AllShownKept}
 use Rattle.logged_state.proofs.LooksKept.{all_shown_kept}
 use Rattle.logged_state.proofs.left.Left.looks_are_kept.Goals as goal
 

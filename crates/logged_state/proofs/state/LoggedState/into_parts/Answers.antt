@@ -1,8 +1,7 @@
-use Rattle.std.proofs.Common.{◌≡◌, ℕ, List, ◌++◌, take, ap, sym, ◌∙◌, subst}
+use Rattle.std.proofs.Common.{◌≡◌, ℕ, ◌++◌, take, ap, sym, ◌∙◌, subst}
 use mathlib.Core.List.{IsPrefix}
 use Rattle.sector_dev.specs.Disk.{Disk}
 use Rattle.command_log.specs.Log.{Log, with_committed}
-use Rattle.group_core.specs.Ending.{durable_of}
 use Rattle.logged_state.specs.LoggedView.{LoggedView, log_at_end, moment_number}
 use Rattle.logged_state.proofs.LogEnds.{shown_at_end, left_at_end, all_kept_at_end}
 use Rattle.logged_state.proofs.state.LoggedState.into_parts.Goals as goal

@@ -1,5 +1,4 @@
-use Rattle.std.proofs.Common.{refl, sym, ap, subst, ◌∙◌, List}
-use Rattle.command_log.specs.declared.rule.Claim.{Claim}
+use Rattle.std.proofs.Common.{refl, sym, ap, subst, ◌∙◌}
 use Rattle.store_layout.specs.Journal.{all_of}
 use Rattle.path_session.specs.Answered.{HubAnswers}
 use Rattle.path_session.specs.Acknowledged.{AreClaimed}

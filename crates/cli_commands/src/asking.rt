@@ -1,0 +1,154 @@
+//! The command that asks a server.
+
+use crate::options::u32_in;
+use crate::stores::form_in;
+use clap::ArgMatches;
+use cli_ask::{
+    AskError, Asked, NamedCode, Question, Refusals, TcpLink, WordError, ask, asked_of, register,
+};
+use cli_lines::Failure;
+use cli_words::{Request, SERVER, TIMEOUT, request_in, words_in};
+use row_lines::RowForm;
+use session_clock::{Now, SystemNow};
+use std::fs::File;
+use std::io::{BufWriter, Read, Write};
+use std::net::{Net, SocketAddr, TcpListener, TcpStream};
+use std::rt::Files;
+use std::time::{Clock, Duration};
+
+/// The number of seconds that a connection or a reply may take where no option names it.
+const TIMEOUT_SECONDS: u32 = 10;
+
+/// The file that means standard input.
+const INPUT: &str = "-";
+
+/// Asks a server, and prints what it answers. The words are judged before anything is opened, and
+/// the file of a registration is opened before a connection is made. No clause says what is printed,
+/// since none says what a server replies.
+pub fn ask_server<
+    'a,
+    R: AllocGlobal
+        + Clock
+        + Eprint
+        + Files<File = File>
+        + Net<Listener = TcpListener, Stream = TcpStream>,
+    I: Read,
+    O: Write,
+>(rt: &R, options: &ArgMatches<'a>, input: &mut I, output: &mut O) -> Result<(), Failure<'a>> {
+    let wanted = asked_in(options)?;
+    let text = options.get_str(SERVER).unwrap_or("");
+    let Ok(address) = text.parse::<SocketAddr>() else {
+        return Err(Failure::Peer(text));
+    };
+    let limit = Duration::from_secs(u64::from(u32_in(options, TIMEOUT, TIMEOUT_SECONDS)));
+    let Ok(mut writer) = BufWriter::new(rt.alloc(), output) else {
+        return Err(Failure::Memory);
+    };
+    let way = Way { rt, address, limit };
+    let answered = match wanted {
+        Asked::Registration(INPUT) => way.register(input, form_in(options), &mut writer),
+        Asked::Registration(path) => way.register_file(path, form_in(options), &mut writer),
+        Asked::Question(question) => way.ask(&question, form_in(options), &mut writer),
+    };
+    let flushed = writer.flush();
+    match answered {
+        Err(AskError::Output) => Err(Failure::Output),
+        Err(error) => Err(Failure::Asked(text, error)),
+        Ok(()) => flushed.map_err(|_| Failure::Output),
+    }
+}
+
+/// What the words of a request ask for.
+fn asked_in<'a>(options: &ArgMatches<'a>) -> Result<Asked<'a>, Failure<'a>> {
+    let request = request_in(options).unwrap_or(Request::List);
+    match words_in(options) {
+        Some(words) => asked_of(request, words).map_err(|error| Failure::Word(
+            word_of(words, error),
+            error,
+        )),
+        None => asked_of(request, &[]).map_err(|error| Failure::Word("", error)),
+    }
+}
+
+/// The word that is not what it has to be.
+fn word_of<'a>(words: &[&'a str], error: WordError) -> &'a str {
+    let at = usize::from(error.number()).wrapping_sub(1);
+    words.get(at).copied().unwrap_or("")
+}
+
+/// The way to a server.
+#[derive(Drop)]
+struct Way<'r, R> {
+    rt: &'r R,
+    address: SocketAddr,
+    /// The time that the connection may take, and each reply.
+    limit: Duration,
+}
+
+impl<
+    R: AllocGlobal
+        + Clock
+        + Eprint
+        + Files<File = File>
+        + Net<Listener = TcpListener, Stream = TcpStream>,
+> Way<'_, R> {
+    /// Connects to the server.
+    fn connect(&self) -> Result<TcpLink<'_, R>, AskError> {
+        let stream = TcpStream::connect_timeout(self.rt, &self.address, self.limit);
+        TcpLink::new(self.rt, stream.map_err(AskError::Connect)?, self.limit)
+    }
+
+    /// Asks the server anything but to register.
+    fn ask<O: Write>(
+        &self,
+        question: &Question,
+        form: RowForm,
+        output: &mut O,
+    ) -> Result<(), AskError> {
+        let now = SystemNow::new(self.rt).now();
+        let mut link = self.connect()?;
+        ask(self.rt.alloc(), &mut link, question, now, form, output)
+    }
+
+    /// Has the server register the lines of a file.
+    fn register_file<O: Write>(
+        &self,
+        path: &str,
+        form: RowForm,
+        output: &mut O,
+    ) -> Result<(), AskError> {
+        let mut file = File::open(self.rt, path).map_err(AskError::Input)?;
+        self.register(&mut file, form, output)
+    }
+
+    /// Has the server register the lines of an input.
+    fn register<I: Read, O: Write>(
+        &self,
+        input: &mut I,
+        form: RowForm,
+        output: &mut O,
+    ) -> Result<(), AskError> {
+        let mut link = self.connect()?;
+        let mut refusals = Said { rt: self.rt };
+        register(
+            self.rt.alloc(),
+            &mut link,
+            input,
+            form,
+            output,
+            &mut refusals,
+        )
+    }
+}
+
+/// Says on standard error which lines were refused.
+#[derive(Drop)]
+struct Said<'r, R> {
+    rt: &'r R,
+}
+
+impl<R: Eprint> Refusals for Said<'_, R> {
+    fn refused(&mut self, line: u64, code: u8) {
+        let _ = eprintln!(self.rt; "pathd: line {line} is refused by {}", NamedCode(code));
+    }
+}

@@ -1,0 +1,259 @@
+//! The commands over the file of a device.
+
+use crate::progress::{MEBIBYTE, Progress};
+use clap::ArgMatches;
+use cli_lines::Failure;
+use cli_store::{
+    Consent, Fault, Wishes, ask, copy, decide, format, show, show_layout, sizes_for, status,
+    upgrade,
+};
+use cli_words::{CHECKPOINT, DEVICE, FORCE, JOURNAL, JSON, LAYOUT, NEW, RESERVE, ROWS, TARGET};
+use device_files::{LockedFile, Room, open, open_to_read};
+use row_lines::RowForm;
+use sector_dev::{FileDevice, SECTOR, SystemFile};
+use std::alloc::Global;
+use std::fs::File;
+use std::io;
+use std::io::{BufWriter, Read, Write};
+use std::rt::Files;
+use std::time::Clock;
+use store_open::{Geometry, OpenError, has_title, read_geometry};
+
+/// The least length of a file that is announced, in bytes: zeros for a shorter one are written
+/// within a second or so.
+const LONG: u64 = 256 * MEBIBYTE;
+
+/// Makes a file, whose former contents are dropped where it exists, and a store on it. On a block
+/// device only the store is made. Where a store is there, that is done only if the options say so,
+/// or whoever is asked agrees; `is_terminal` says that a person can be asked. The file is locked
+/// before it is looked at, and nothing of a store that is kept is written. No clause says what the
+/// file has then: those of `ask` and `format` say it of any device.
+pub fn format_file<'a, R: AllocGlobal + Files<File = File> + Eprint, I: Read, O: Write>(
+    rt: &R,
+    options: &ArgMatches<'a>,
+    input: &mut I,
+    output: &mut O,
+    is_terminal: bool,
+) -> Result<(), Failure<'a>> {
+    let path = path_of(options);
+    let file = LockedFile::open(rt, path).map_err(|error| Failure::File(path, error))?;
+    let wishes = Wishes {
+        is_new: options.get_flag(NEW),
+        is_forced: options.get_flag(FORCE),
+        is_terminal,
+    };
+    if decide(wishes) != Consent::Given {
+        ask_for(rt.alloc(), path, &file, wishes, input, output)?;
+    }
+    make_store(rt, options, file, output)
+}
+
+/// Asks whether a store may be made on a file, which is only read.
+fn ask_for<'a, I: Read, O: Write>(
+    alloc: Global,
+    path: &'a str,
+    file: &LockedFile,
+    wishes: Wishes,
+    input: &mut I,
+    output: &mut O,
+) -> Result<(), Failure<'a>> {
+    let mut device = device_over(path, file.as_found(alloc))?;
+    said_of(path, ask(alloc, path, &mut device, wishes, input, output))
+}
+
+/// Makes a store of the sizes that the options say on a file, and whatever was there is lost. The
+/// file gets all its room at once where the options say so, which is announced where it takes long.
+fn make_store<'a, R: AllocGlobal + Files<File = File> + Eprint, O: Write>(
+    rt: &R,
+    options: &ArgMatches<'a>,
+    file: LockedFile,
+    output: &mut O,
+) -> Result<(), Failure<'a>> {
+    let path = path_of(options);
+    let geometry = sizes_of(
+        options,
+        Geometry {
+            checkpoint: 0,
+            journal: 0,
+        },
+    );
+    let len = geometry.sectors().saturating_mul(SECTOR as u64);
+    let room = if options.get_flag(RESERVE) {
+        Room::Now
+    } else {
+        Room::Later
+    };
+    if room == Room::Now && len >= LONG {
+        let _ = eprintln!(rt; "pathd: {path}: writes {} MiB of zeros", len / MEBIBYTE);
+    }
+    let mut device = device_over(path, file.into_zeros(rt, path, len, room))?;
+    said_of(path, format(rt.alloc(), &mut device, geometry, output))
+}
+
+/// The sizes that the options say, and those that they leave out from other sizes.
+fn sizes_of(options: &ArgMatches<'_>, others: Geometry) -> Geometry {
+    match options.get_one::<u32>(ROWS) {
+        Some(rows) => sizes_for(rows),
+        None => Geometry {
+            checkpoint: options
+                .get_one::<u32>(CHECKPOINT)
+                .unwrap_or(others.checkpoint),
+            journal: options.get_one::<u32>(JOURNAL).unwrap_or(others.journal),
+        },
+    }
+}
+
+/// Makes a file, whose former contents are dropped where it exists and has no store, and on it a
+/// store with the rows and the place of another file's store, which is only read, beside other
+/// processes that read it. Sizes that are left out are those of the other store. Standard error says
+/// each second how far it has come. No clause says what the files have then: those of `copy` say it
+/// of any devices.
+pub fn copy_file<'a, R: AllocGlobal + Files<File = File> + Clock + Eprint, O: Write>(
+    rt: &R,
+    options: &ArgMatches<'a>,
+    output: &mut O,
+) -> Result<(), Failure<'a>> {
+    let path = path_of(options);
+    let mut from = device_over(path, open_to_read(rt, path))?;
+    let geometry = match read_geometry(&mut from) {
+        Ok(Some(geometry)) => sizes_of(options, geometry),
+        Ok(None) => return said_of(path, Err(Fault::Open(OpenError::NotAStore))),
+        Err(_) => return said_of(path, Err(Fault::Open(OpenError::Device))),
+    };
+    let target = options.get_str(TARGET).unwrap_or("");
+    let to = empty_device(rt, target, geometry)?;
+    let mut from = Progress::over(rt, from, path, "read");
+    let mut to = Progress::over(rt, to, target, "wrote");
+    match copy(rt.alloc(), &mut from, &mut to, geometry, output) {
+        Err(Fault::Open(error)) => said_of(path, Err(Fault::Open(error))),
+        copied => said_of(target, copied),
+    }
+}
+
+/// A device over a file of zeros with room for a store of these sizes, or over a block device. A
+/// file that has a store is refused, and left as it is.
+fn empty_device<'a, R: AllocGlobal + Files<File = File>>(
+    rt: &R,
+    path: &'a str,
+    geometry: Geometry,
+) -> Result<FileDevice<SystemFile>, Failure<'a>> {
+    let file = LockedFile::open(rt, path).map_err(|error| Failure::File(path, error))?;
+    let mut device = device_over(path, file.as_found(rt.alloc()))?;
+    match has_title(&mut device) {
+        Ok(false) => {}
+        Ok(true) => return Err(Failure::Store(path, Fault::Taken)),
+        Err(_) => return Err(Failure::Store(path, Fault::Open(OpenError::Device))),
+    }
+    let len = geometry.sectors().saturating_mul(SECTOR as u64);
+    device_over(path, file.into_zeros(rt, path, len, Room::Later))
+}
+
+/// Prints the rows of a file's store and its place, or the layout of the file, which is then opened
+/// for reading alone. No clause says what is printed: those of `show` and `show_layout` say it of
+/// any device.
+pub fn show_file<'a, R: AllocGlobal + Files<File = File>, O: Write>(
+    rt: &R,
+    options: &ArgMatches<'a>,
+    output: &mut O,
+) -> Result<(), Failure<'a>> {
+    let path = path_of(options);
+    let is_layout = options.get_flag(LAYOUT);
+    let opened = if is_layout {
+        open_to_read(rt, path)
+    } else {
+        open(rt, path)
+    };
+    let device = device_over(path, opened)?;
+    let Ok(mut output) = BufWriter::new(rt.alloc(), output) else {
+        return Err(Failure::Memory);
+    };
+    let shown = if is_layout {
+        show_regions(rt.alloc(), device, &mut output)
+    } else {
+        show_rows(rt.alloc(), device, form_in(options), &mut output)
+    };
+    let flushed = output.flush();
+    said_of(path, shown)?;
+    flushed.map_err(|_| Failure::Output)
+}
+
+/// Prints the layout of a device.
+fn show_regions<O: Write>(
+    alloc: Global,
+    mut device: FileDevice<SystemFile>,
+    output: &mut O,
+) -> Result<(), Fault> {
+    show_layout(alloc, &mut device, output)
+}
+
+/// Prints the rows of a device's store, and as text its place.
+fn show_rows<O: Write>(
+    alloc: Global,
+    device: FileDevice<SystemFile>,
+    form: RowForm,
+    output: &mut O,
+) -> Result<(), Fault> {
+    match show(alloc, device, form, output) {
+        Ok(_device) => Ok(()),
+        Err((_device, fault)) => Err(fault),
+    }
+}
+
+/// The form in which the options want rows.
+pub(crate) fn form_in(options: &ArgMatches<'_>) -> RowForm {
+    if options.get_flag(JSON) {
+        RowForm::Json
+    } else {
+        RowForm::Text
+    }
+}
+
+/// Prints the status of a file's store. The file is opened for reading alone. No clause says what is
+/// printed: that of `status` says it of any device.
+pub fn status_of_file<'a, R: AllocGlobal + Files<File = File>, O: Write>(
+    rt: &R,
+    options: &ArgMatches<'a>,
+    output: &mut O,
+) -> Result<(), Failure<'a>> {
+    let path = path_of(options);
+    let mut device = device_over(path, open_to_read(rt, path))?;
+    said_of(path, status(rt.alloc(), &mut device, output))
+}
+
+/// Brings a file's store to the version that is written. No clause says what the file has then:
+/// those of `upgrade` say it of any device.
+pub fn upgrade_file<'a, R: AllocGlobal + Files<File = File>, O: Write>(
+    rt: &R,
+    options: &ArgMatches<'a>,
+    output: &mut O,
+) -> Result<(), Failure<'a>> {
+    let path = path_of(options);
+    let device = device_over(path, open(rt, path))?;
+    match upgrade(rt.alloc(), device, output) {
+        Ok(_device) => Ok(()),
+        Err((_device, fault)) => said_of(path, Err(fault)),
+    }
+}
+
+/// The path of the device's file.
+fn path_of<'a>(options: &ArgMatches<'a>) -> &'a str {
+    options.get_str(DEVICE).unwrap_or("")
+}
+
+/// A device over a file that was opened.
+pub(crate) fn device_over<'a>(
+    path: &'a str,
+    opened: io::Result<SystemFile>,
+) -> Result<FileDevice<SystemFile>, Failure<'a>> {
+    let file = opened.map_err(|error| Failure::File(path, error))?;
+    FileDevice::new(file).map_err(|error| Failure::File(path, error))
+}
+
+/// What came of a command over the store of a file, with the file's path where it failed.
+fn said_of(path: &str, outcome: Result<(), Fault>) -> Result<(), Failure<'_>> {
+    match outcome {
+        Ok(()) => Ok(()),
+        Err(Fault::Output) => Err(Failure::Output),
+        Err(fault) => Err(Failure::Store(path, fault)),
+    }
+}

@@ -1,0 +1,108 @@
+//! How the program ends: its status, and its last line on standard error.
+
+ghost use Rattle.std.specs.Prelude.{◌≡◌, ◌≤◌, Some};
+ghost use Rattle.cli_lines.specs.Ending.{program_status};
+
+use std::error::Error;
+use std::fmt;
+
+/// How the words of a command line were answered.
+#[derive(Clone, Copy, Debug, PartialEq, Eq)]
+pub enum Done {
+    /// The words were carried out.
+    Carried,
+    /// The words cannot be read, and nothing was done.
+    Refused,
+}
+
+/// Why the program ends before the words are carried out. The program prints this as a line on
+/// standard error.
+#[derive(Clone, Copy, Debug, PartialEq, Eq)]
+pub enum Ended {
+    /// An option cannot be read, or a session of `once` ended with a fault, or memory was refused,
+    /// or a print failed.
+    Session(cli_once::SessionFault),
+    /// A store is not made, opened or changed.
+    Store(cli_store::Fault),
+    /// The address cannot be read or bound, or the listener broke.
+    Net,
+    /// A server that was asked has not answered, or the request cannot be read.
+    Ask(cli_ask::AskFault),
+}
+
+impl fmt::Display for Ended {
+    ghost use Rattle.cli_lines.specs.Ending.{ended_line};
+
+    ghost output = { λ ended. Some (ended_line ended) };
+
+    fn fmt<W: fmt::Write>(&self, f: &mut fmt::Formatter<W>) -> fmt::Result {
+        match self {
+            Ended::Session(fault) => write!(f, "error: {}", *fault),
+            Ended::Store(fault) => write!(f, "error: {}", *fault),
+            Ended::Net => write!(f, "error: net"),
+            Ended::Ask(fault) => write!(f, "error: {}", *fault),
+        }
+    }
+}
+
+impl Error for Ended {}
+
+impl From<cli_once::SessionFault> for Ended {
+    ghost use Rattle.cli_lines.specs.declared.ending.Ended.TheVariants.{Session};
+
+    ghost from_gives = { λ fault ended. ended ≡ Session fault };
+
+    fn from(fault: cli_once::SessionFault) -> Ended {
+        Ended::Session(fault)
+    }
+}
+
+impl From<cli_store::Fault> for Ended {
+    ghost use Rattle.cli_lines.specs.declared.ending.Ended.TheVariants.{Store};
+
+    ghost from_gives = { λ fault ended. ended ≡ Store fault };
+
+    fn from(fault: cli_store::Fault) -> Ended {
+        Ended::Store(fault)
+    }
+}
+
+/// How the program ends where the words are not carried out.
+#[derive(Clone, Copy, Debug, PartialEq, Eq)]
+pub struct Failed {
+    /// Why it ends.
+    pub ended: Ended,
+    /// Whether a server that is started again ends so, too, until its words, its file or its store
+    /// are changed.
+    pub is_lasting: bool,
+    /// Whether the last line on standard error begins with its priority.
+    pub is_marked: bool,
+}
+
+impl From<Ended> for Failed {
+    ghost use Rattle.std.specs.Prelude.{false};
+
+    ghost from_gives = { λ why failed. failed ≡ record { ended = why; is_lasting = false; is_marked = false } };
+
+    fn from(ended: Ended) -> Failed {
+        Failed {
+            ended,
+            is_lasting: false,
+            is_marked: false,
+        }
+    }
+}
+
+/// The exit status of the program: 0 where the words are carried out, 1 where the program ended
+/// before that, 2 where the words cannot be read, and 3 where a server that is started again ends
+/// so, too.
+pub fn status_of(outcome: &Result<Done, Failed>) -> u8
+    ensures status { result ≡ program_status outcome.now }
+    ensures most { result ≤ 3 }
+{
+    match outcome {
+        Ok(Done::Carried) => 0,
+        Ok(Done::Refused) => 2,
+        Err(failed) => { if failed.is_lasting { 3 } else { 1 } }
+    }
+}

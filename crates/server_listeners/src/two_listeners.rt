@@ -1,0 +1,83 @@
+//! Waiting for peers of two listeners.
+
+use crate::accepting::{AcceptFailure, Arrival, accept_one, after_failure, pause_after};
+use crate::listeners::{ACCEPT, Listener};
+use libc::net::{POLLIN, poll};
+use libc::types::pollfd;
+use server_seats::Role;
+use std::sync::Wait;
+use std::time::Clock;
+
+/// The listeners of a server's sessions.
+#[derive(Drop)]
+pub struct Entrances<L> {
+    /// That of the sessions that may have commands.
+    pub sessions: L,
+    /// That of the sessions that only look up, if there is one.
+    pub lookups: Option<L>,
+}
+
+/// Waits for the next peer of two listeners, as `next_arrival` does of one. Where both have peers,
+/// the next one is of the role that is `favoured`.
+pub(crate) fn next_of_two<
+    R: Wait + Clock,
+    L: Listener,
+    G: Fn() -> bool + Drop,
+    F: Fn(i32, u64) + Drop,
+>(rt: &R, sessions: &L, lookups: &L, favoured: Role, goes_on: G, fail: F) -> (Role, Arrival)
+    requires goes_on { G.IsAlwaysCallable goes_on }
+    requires fail { F.IsAlwaysCallable fail }
+{
+    let mut pause = 0;
+    for _ in rt.forever() {
+        let ready = ready_of(sessions, lookups, favoured);
+        if !goes_on() {
+            return (Role::All, Arrival::Over);
+        }
+        let Some(role) = ready else {
+            pause = 0;
+            continue;
+        };
+        let accepted = match role {
+            Role::All => accept_one(sessions),
+            Role::Lookups => accept_one(lookups),
+        };
+        match accepted {
+            Ok((stream, address)) => return (role, Arrival::Peer(stream, address)),
+            Err(error) => match after_failure(&error) {
+                AcceptFailure::Nobody => pause = 0,
+                AcceptFailure::Pause => pause = pause_after(rt, &error, pause, &fail),
+                AcceptFailure::Broken => return (role, Arrival::Broken),
+            },
+        }
+    }
+    unreachable!()
+}
+
+/// Waits until one of two listeners has a peer, for at most the time of an accept: which one has.
+/// Where both have, it is the one that is favoured. A listener without a descriptor is not waited
+/// for.
+fn ready_of<L: Listener>(sessions: &L, lookups: &L, favoured: Role) -> Option<Role> {
+    let (Some(first), Some(second)) = (sessions.descriptor(), lookups.descriptor()) else {
+        return Some(favoured);
+    };
+    let mut fds = [awaited(first), awaited(second)];
+    if poll(&mut fds, i32::from(ACCEPT)) <= 0 {
+        return None;
+    }
+    match (fds[0].revents != 0, fds[1].revents != 0) {
+        (true, true) => Some(favoured),
+        (true, false) => Some(Role::All),
+        (false, true) => Some(Role::Lookups),
+        (false, false) => None,
+    }
+}
+
+/// What is asked of a descriptor: whether a peer has come.
+fn awaited(fd: i32) -> pollfd {
+    pollfd {
+        fd,
+        events: POLLIN,
+        revents: 0,
+    }
+}

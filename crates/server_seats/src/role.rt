@@ -1,0 +1,25 @@
+//! What the sessions of a listener may ask for.
+
+ghost use Rattle.std.specs.Prelude.{◌≡◌};
+ghost use Rattle.server_seats.specs.Roles.{takes_commands};
+
+/// What the sessions of a listener may ask for.
+#[derive(Clone, Copy, Debug, PartialEq, Eq)]
+pub enum Role {
+    /// Commands, lookups and lists.
+    All,
+    /// Lookups and lists alone: each command is refused.
+    Lookups,
+}
+
+impl Role {
+    /// Whether commands are taken.
+    pub fn takes_commands(self) -> bool
+        ensures { result ≡ takes_commands self }
+    {
+        match self {
+            Role::All => true,
+            Role::Lookups => false,
+        }
+    }
+}
