@@ -24,6 +24,11 @@ use row_edits::Rewrite;
 use sector_dev::Device;
 use store_layout::BEFORE_ROWS;
 
+/// The fewest sectors that are read at a time, where the rows have as many: 2 KiB. Short runs of
+/// bytes that are kept near each other are read together, and long runs of bytes that are left out
+/// are not read.
+const LEAST_READ: u64 = 4;
+
 /// Makes the next piece of a checkpoint from the rows of an area, which have `size` bytes: it reads
 /// at most 256 sectors of the area at a time, until a whole piece is made or nothing is left to be
 /// made. Sectors that have other sums than were kept of them are `Damaged`, and nothing is made of
@@ -54,28 +59,30 @@ pub(crate) fn make_piece<D: Device>(
             return Ok(());
         };
         let first = (at + BEFORE_ROWS as u64) / SECTOR as u64;
-        let count = count_wanted(at, size, first, rewrite.made().len());
+        let wanted = (rewrite.left_to_keep() as usize).min(PIECE - rewrite.made().len());
+        let count = count_wanted(at, size, first, wanted);
         read_sectors(device, area + first, count, window)?;
         rewrite_sectors(rewrite, size, sums, first, count, window)?;
     }
 }
 
-/// The number of sectors to read from `first` on, the one with the byte that is wanted: enough for
-/// the piece, at most 256, and none past the rows.
-fn count_wanted(at: u64, size: u32, first: u64, made: usize) -> u64
-    requires wanted { at < size }
+/// The number of sectors to read from `first` on, the one with the offset `at` in the rows: enough
+/// for the bytes that are wanted from there on, at least four and at most 256, but none past the
+/// rows.
+fn count_wanted(at: u64, size: u32, first: u64, wanted: usize) -> u64
+    requires at { at < size }
     requires first { SECTOR * first ≤ at + BEFORE_ROWS }
     requires last { at + BEFORE_ROWS < SECTOR * first + SECTOR }
-    requires made { made < PIECE }
+    requires wanted { wanted ≤ PIECE }
     ensures some { 1 ≤ result }
     ensures most { result ≤ 256 }
     ensures inside { SECTOR * (first + result) < BEFORE_ROWS + size + SECTOR }
 {
     let sector = SECTOR as u64;
     let before = at + BEFORE_ROWS as u64 - sector * first;
-    let wanted = (before + (PIECE - made) as u64 + (sector - 1)) / sector;
+    let enough = (before + wanted as u64 + (sector - 1)) / sector;
     let left = (BEFORE_ROWS as u64 + u64::from(size) + (sector - 1)) / sector - first;
-    wanted.min(left).min(PIECE_SECTORS)
+    enough.max(LEAST_READ).min(left).min(PIECE_SECTORS)
 }
 
 /// Makes what it can from sectors of an area, which are in a window, where they have the sums that

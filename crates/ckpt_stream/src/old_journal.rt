@@ -14,13 +14,12 @@ ghost use Rattle.ckpt_stream.specs.HalfRead.{IsHalfRead, IsWithin, pieces_to_com
 
 use crate::half_read::HalfRead;
 use crate::old_rows::{READ_SECTORS, start_rows};
-use crate::sectors::read_piece;
 use ckpt_pair::Front;
 use gate_journal::{Progress, Scanner};
 use sector_dev::Device;
 use std::alloc::Global;
 use store_layout::{Geometry, Half};
-use store_open::{OpenError, SealedError};
+use store_open::{OpenError, SealedError, read_piece};
 
 /// The journal of a sealed half, read up to a gate.
 #[derive(Drop)]

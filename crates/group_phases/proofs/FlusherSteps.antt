@@ -114,11 +114,11 @@ module _ {T E C : Type 0} (format : CommandFormat C) (limits : Limits) (geometry
           );
         }
 
--- what was written is there
-load_there : {T C : Type 0} (E : Type 0) (value : T) (format : CommandFormat C) (limits : Limits) (geometry : Geometry) (tail : Tail C) (load : GroupOrSeal C) (old new : Disk)
-    → WriteCall (load_at geometry tail) (load_bytes format (tail_place tail) load) (success E value) old new → IsHonest old → HasTitle geometry old.history.now
-    → HasGroups format limits geometry tail old.history.now → CanBeLoad format limits geometry tail load → HasLoad format geometry tail load new.history.now
-load_there {T} {C} E value format limits geometry tail (Commands commands) old new call honest title groups can = record {
+-- a group that was written is there
+pub group_there : {T C : Type 0} (E : Type 0) (value : T) (format : CommandFormat C) (limits : Limits) (geometry : Geometry) (tail : Tail C) (commands : List C) (old new : Disk)
+    → WriteCall (load_at geometry tail) (load_bytes format (tail_place tail) (Commands commands)) (success E value) old new → IsHonest old → HasTitle geometry old.history.now
+    → CanBeLoad format limits geometry tail (Commands commands) → HasLoad format geometry tail (Commands commands) new.history.now
+group_there {T} {C} E value format limits geometry tail commands old new call honest title can = record {
   spelled = journal_part geometry tail.half (512 * (tail.gate + 1)) (512 * sectors) (reads_of new) (omega (arith, can.1))
       ∙ ap (λ (at : ℕ). part at (512 * sectors) (reads_of new)) first
       ∙ written_part E value (load_at geometry tail) bytes old new call honest fits 0 (512 * sectors) (omega (arith, long))
@@ -156,6 +156,13 @@ load_there {T} {C} E value format limits geometry tail (Commands commands) old n
         ∙ ap (λ (at : ℕ). part at 512 (reads_of new)) second
         ∙ written_part E value (load_at geometry tail) bytes old new call honest fits (512 * sectors) 512 (omega (arith, long))
         ∙ ap (take 512) (drop_at encoding closed_gate (512 * sectors) size) ∙ take_all 512 closed_gate (omega (arith, length-replicate {A = ℕ} 512 0))
+
+-- what was written is there
+load_there : {T C : Type 0} (E : Type 0) (value : T) (format : CommandFormat C) (limits : Limits) (geometry : Geometry) (tail : Tail C) (load : GroupOrSeal C) (old new : Disk)
+    → WriteCall (load_at geometry tail) (load_bytes format (tail_place tail) load) (success E value) old new → IsHonest old → HasTitle geometry old.history.now
+    → HasGroups format limits geometry tail old.history.now → CanBeLoad format limits geometry tail load → HasLoad format geometry tail load new.history.now
+load_there E value format limits geometry tail (Commands commands) old new call honest title groups can =
+    group_there E value format limits geometry tail commands old new call honest title can
 load_there {T} {C} E value format limits geometry tail Seal old new call honest title groups can = record {
   spelled = journal_part geometry tail.half (512 * (tail.gate + 1)) (512 * 1) (reads_of new) (omega (arith, groups.room))
       ∙ ap (λ (at : ℕ). part at (512 * 1) (reads_of new)) first

@@ -1,73 +1,20 @@
 -- What the flusher's calls make of a group that follows the one in flight.
-use Rattle.std.proofs.Common.{◌≡◌, inr, ℕ, ◌+◌, ◌*◌, ◌≤◌, List, length, take, ◌∙◌, ap, subst, arith, Result, Ok, Err}
-use Rattle.std.proofs.lemmas.List.{take_at, take_all, drop_at, length-replicate}
-use Rattle.byte_lists.specs.Content.{part}
-use Rattle.byte_lists.specs.Sectors.{sector_at, IsOpenGate, closed_gate}
-use Rattle.sector_dev.specs.Disk.{Disk, IsHonest, reads_of}
+use Rattle.std.proofs.Common.{inr, ℕ, ◌+◌, ◌*◌, ◌≤◌, arith, Result, Ok, Err}
 use Rattle.sector_dev.specs.Calls.{WriteCall, SyncCall}
-use Rattle.sector_dev.proofs.Results.{success}
-use Rattle.store_layout.specs.Limits.{Limits}
-use Rattle.store_layout.specs.CommandFormat.{CommandFormat}
-use Rattle.store_layout.specs.Group.{group_encoding, group_sectors}
-use Rattle.store_layout.specs.Journal.{gate_behind}
-use Rattle.store_layout.specs.Layout.{Geometry, journal_at}
-use Rattle.store_layout.proofs.Exports.{length-group_encoding, half_inside}
+use Rattle.store_layout.specs.Layout.{journal_at}
+use Rattle.store_layout.proofs.Exports.{half_inside}
 use Rattle.group_phases.specs.declared.phases.Flush.{Flush}
 use Rattle.group_phases.specs.declared.phases.Flush.TheVariants.{Opened, Following, Followed, DurableFollowed}
 use Rattle.group_phases.specs.Range.{Untouched}
-use Rattle.group_phases.specs.StoreConfig.{HasTitle}
-use Rattle.group_phases.specs.Tail.{Commands, load_bytes, written_sectors, Tail, tail_place, CanBeLoad, tail_after}
-use Rattle.group_phases.specs.FlusherPart.{tail_bytes, HasLoad, FlusherPart}
+use Rattle.group_phases.specs.Tail.{Commands, load_bytes, written_sectors, Tail, tail_place, tail_after}
+use Rattle.group_phases.specs.FlusherPart.{HasLoad, FlusherPart}
 use Rattle.group_phases.specs.FlusherSteps.{by_result, load_at}
 use Rattle.group_phases.specs.FollowerPart.{FollowFacts}
 use Rattle.group_phases.specs.FollowingSteps.{WritesFollower, SyncsFollower, PublishesFollower, KeepsFollower}
 use Rattle.group_phases.proofs.Calls.{writes_leave_what_is_beside, syncs_leave_all}
 use Rattle.group_phases.proofs.Ranges.{has_untouched_parts}
 use Rattle.group_phases.proofs.TailReads.{load_room, sectors_kept, groups_kept, open_kept, load_kept}
-use Rattle.group_phases.proofs.FlusherSteps.{length-load, closed_gate_closed, written_part, journal_part, synced_clean, syncs_tail_gate, publishes_group}
-
--- a group that was written is there
-group_there : {T C : Type 0} (E : Type 0) (value : T) (format : CommandFormat C) (limits : Limits) (geometry : Geometry) (tail : Tail C) (commands : List C) (old new : Disk)
-    → WriteCall (load_at geometry tail) (load_bytes format (tail_place tail) (Commands commands)) (success E value) old new → IsHonest old → HasTitle geometry old.history.now
-    → CanBeLoad format limits geometry tail (Commands commands) → HasLoad format geometry tail (Commands commands) new.history.now
-group_there {T} {C} E value format limits geometry tail commands old new call honest title can = record {
-  spelled = journal_part geometry tail.half (512 * (tail.gate + 1)) (512 * sectors) (reads_of new) (omega (arith, can.1))
-      ∙ ap (λ (at : ℕ). part at (512 * sectors) (reads_of new)) first
-      ∙ written_part E value (load_at geometry tail) bytes old new call honest fits 0 (512 * sectors) (omega (arith, long))
-      ∙ take_at encoding closed_gate (512 * sectors) size;
-  next = λ opened. closed_gate_closed (subst IsOpenGate next_is opened);
-}
-  where
-    encoding : List ℕ
-    encoding = group_encoding format (tail_place tail) commands
-
-    bytes : List ℕ
-    bytes = load_bytes format (tail_place tail) (Commands commands)
-
-    sectors : ℕ
-    sectors = group_sectors format commands
-
-    size : length encoding ≡ 512 * sectors
-    size = length-group_encoding C format (tail_place tail) commands
-
-    long : length bytes ≡ 512 * sectors + 512
-    long = length-load format (tail_place tail) (Commands commands) ∙ omega arith
-
-    fits : 512 * load_at geometry tail + length bytes ≤ length (reads_of old)
-    fits = omega (arith, half_inside geometry tail.half, title.store.room, can.1, long)
-
-    first : 512 * journal_at geometry tail.half + 512 * (tail.gate + 1) ≡ 512 * load_at geometry tail + 0
-    first = omega arith
-
-    second : 512 * journal_at geometry tail.half + 512 * gate_behind format tail.gate commands ≡ 512 * load_at geometry tail + 512 * sectors
-    second = omega arith
-
-    next_is : sector_at (gate_behind format tail.gate commands) (tail_bytes geometry tail new.history.now) ≡ closed_gate
-    next_is =
-        journal_part geometry tail.half (512 * gate_behind format tail.gate commands) 512 (reads_of new) (omega (arith, can.1))
-        ∙ ap (λ (at : ℕ). part at 512 (reads_of new)) second
-        ∙ written_part E value (load_at geometry tail) bytes old new call honest fits (512 * sectors) 512 (omega (arith, long))
-        ∙ ap (take 512) (drop_at encoding closed_gate (512 * sectors) size) ∙ take_all 512 closed_gate (omega (arith, length-replicate {A = ℕ} 512 0))
+use Rattle.group_phases.proofs.FlusherSteps.{length-load, group_there, synced_clean, syncs_tail_gate, publishes_group}
 
 pub writes_follower : (T E C : Type 0) → WritesFollower T E C
 writes_follower T E C format limits geometry tail commands next result old new call honest title has follows =

@@ -43,7 +43,7 @@ pub use new_store::{FormatError, format};
 pub use new_store_laws::new_stores_are_formatted;
 pub use open_store::open;
 pub use reading::read_sector;
-pub use scanning::scan_journal;
+pub use scanning::{read_piece, scan_journal};
 pub use sealed::SealedError;
 pub use sectors::title_sector;
 pub use store::Store;

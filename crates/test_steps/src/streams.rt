@@ -11,5 +11,6 @@ mod prepared;
 mod refused;
 mod rounds;
 mod sealed;
+mod sparse;
 mod streamed;
 mod watched;

@@ -19,6 +19,7 @@ pub struct Watched<D> {
     device: D,
     changes: Vec<Change>,
     reads: u64,
+    sectors_read: u64,
     honest: u64,
 }
 
@@ -37,6 +38,7 @@ impl<D> Watched<D> {
             device,
             changes,
             reads: 0,
+            sectors_read: 0,
             honest,
         }
     }
@@ -44,6 +46,11 @@ impl<D> Watched<D> {
     /// How many reads were made.
     pub fn reads(&self) -> u64 {
         self.reads
+    }
+
+    /// How many sectors were read by these reads.
+    pub fn sectors_read(&self) -> u64 {
+        self.sectors_read
     }
 
     /// What changed the device, in this order.
@@ -96,6 +103,8 @@ impl<D: Device> Device for Watched<D> {
             invert(into);
         }
         self.reads = self.reads.saturating_add(1);
+        let sectors = (into.len() / SECTOR) as u64;
+        self.sectors_read = self.sectors_read.saturating_add(sectors);
         Ok(())
     }
 
