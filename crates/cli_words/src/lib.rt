@@ -86,9 +86,6 @@ pub const SPARE: &str = "spare";
 /// the request that drops what has expired.
 pub const PURGE: &str = "purge";
 
-/// The most such seats: eight of a server's 64 are for commands.
-const MOST_SPARE: i64 = 56;
-
 /// The name of its flag by which the end of standard input ends the server.
 pub const STOP_ON_END_OF_INPUT: &str = "stop-on-end-of-input";
 
@@ -466,7 +463,11 @@ fn with_refusals<'a>(
     let spare =
         "Keep this number of the 64 seats for sessions without commands under way, 0 to 56 [default: 8]";
     let command = with_arg(command, RUN, seconds(alloc, FUTURE, future));
-    let spare = within(option(alloc, SPARE, "SEATS", spare), 0, MOST_SPARE);
+    let spare = within(
+        option(alloc, SPARE, "SEATS", spare),
+        0,
+        MOST_LOOKUP_SEATS as i64,
+    );
     with_arg(command, RUN, spare)
 }
 

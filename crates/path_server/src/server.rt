@@ -15,7 +15,7 @@ use sector_dev::Device;
 use seg_check::Verifier;
 use server_counts::{Ends, Seldom, Stopwatch, Waiting};
 use server_listeners::{Door, Entrances, Listener, Listeners, StatusListener};
-use server_seats::{MOST_SESSIONS, Role, Seats, shares_of};
+use server_seats::{LEAST_COMMAND_SEATS, MOST_SESSIONS, Role, Seats, shares_of};
 use session_limits::{Limits, Rooms};
 use status_server::Replies;
 use std::alloc::Global;
@@ -311,16 +311,14 @@ impl<D: Device, R: Wait + Clock, L: Listener + Drop + Send, V: Verifier, O: Repo
     }
 }
 
-/// The least number of sessions that have room for commands under way.
-const LEAST_ROOM: u64 = 8;
-
 /// Room for the sessions that have commands under way: all seats but those that are spare, and at
-/// least `LEAST_ROOM`. The result is `None` where none is.
+/// least `LEAST_COMMAND_SEATS`. The result is `None` where none is.
 fn rooms_beside(seats: u64, spare: u64) -> Option<Rooms>
     ensures { spare ≡ 0 → is_some result ≡ false }
 {
     if spare == 0 {
         return None;
     }
-    Some(Rooms::new(seats.saturating_sub(spare).max(LEAST_ROOM)))
+    let rooms = seats.saturating_sub(spare).max(LEAST_COMMAND_SEATS);
+    Some(Rooms::new(rooms))
 }

@@ -8,4 +8,6 @@ mod role;
 mod seats;
 
 pub use role::Role;
-pub use seats::{MOST_LOOKUP_SEATS, MOST_SESSIONS, NoSeat, Peer, Seats, shares_of};
+pub use seats::{
+    LEAST_COMMAND_SEATS, MOST_LOOKUP_SEATS, MOST_SESSIONS, NoSeat, Peer, Seats, shares_of,
+};

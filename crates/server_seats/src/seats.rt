@@ -12,9 +12,13 @@ use std::sync::{Arc, Mutex, Wait};
 /// The most sessions at one time.
 pub const MOST_SESSIONS: u64 = 64;
 
-/// The most seats for the sessions of the listener of lookups: eight of all seats are for sessions
-/// that may have commands.
-pub const MOST_LOOKUP_SEATS: u64 = 56;
+/// The fewest seats for sessions that may have commands, and the fewest sessions that have room for
+/// commands under way.
+pub const LEAST_COMMAND_SEATS: u64 = 8;
+
+/// The most seats for sessions without commands: for those of the listener of lookups, and the most
+/// that are spare where others have commands under way.
+pub const MOST_LOOKUP_SEATS: u64 = MOST_SESSIONS - LEAST_COMMAND_SEATS;
 
 /// The number of seats for the sessions that may have commands, and of those for the others, of
 /// which this number is wanted. Without a listener of lookups all seats are for the former.
