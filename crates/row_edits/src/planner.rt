@@ -11,14 +11,13 @@ ghost use Rattle.row_edits.specs.Settling.{SettlesSeen, steps_to_settle};
 use crate::edit::Edit;
 use crate::putting::{push_edit, put_rest, put_up_to};
 use crate::settling::Settling;
-use crate::touched::{greatest_purge, touched_keys};
+use crate::touched::{greatest_purge, with_named};
 use path_db::{Command, PathDb, Registration, keys_are_separate};
 use path_records::Key;
 use row_map::{ROW_HEAD, Row};
 use seg_check::expiry;
 use seg_core::encoded_len;
 use std::alloc::{AllocError, Global};
-use std::mem::replace;
 
 /// Plans how commands change rows, which it sees one after the other in the order of their keys. It
 /// keeps the keys that the commands name, an edit for each run of rows, and a database of the rows
@@ -63,8 +62,7 @@ impl Planner {
             → IsFresh self.old → HasSeen before [] self.old → HasSeen (before ++ commands.now) [] self.new) }
         ensures fresh { OnOk result (IsFresh self.old → IsFresh self.new) }
     {
-        let before = replace(&mut self.keys, Vec::new(self.alloc));
-        self.keys = touched_keys(self.alloc, before, commands)?;
+        self.keys = with_named(self.alloc, &self.keys, commands)?;
         self.purged = greatest_purge(self.purged, commands);
         Ok(())
     }

@@ -1,13 +1,13 @@
 //! The keys that commands name, and the greatest of their purges.
 
-ghost use Rattle.std.specs.Prelude.{◌≡◌, ◌++◌, List, ℕ, None, IfOk, OnOk, map, false, if◌then◌else◌};
+ghost use Rattle.std.specs.Prelude.{◌≡◌, ◌≤◌, ◌++◌, List, ℕ, length, take, drop, IfOk, OnOk, map, false, if◌then◌else◌};
 ghost use Rattle.std.specs.Option.{option_map};
 ghost use Rattle.row_map.specs.Drops.{is_valid_beyond};
 ghost use Rattle.row_map.specs.Database.{RowView, key_of};
 ghost use Rattle.path_records.specs.Key.{key_bytes};
 ghost use Rattle.row_edits.specs.Merging.{keys_named, keys_named_by, outlives, outlives_one, has_key, KeysRise};
 ghost use Rattle.row_edits.specs.Planning.{is_beyond};
-ghost use Rattle.row_edits.specs.Touched.{IsKeyOrder, is_key_above, risen};
+ghost use Rattle.row_edits.specs.Touched.{IsKeyOrder, is_key_above, with_above, AreUpTo, AreAbove, IsUnion};
 
 use path_db::Command;
 use path_records::Key;
@@ -48,8 +48,7 @@ fn later(greatest: Option<u64>, moment: u64) -> u64
 }
 
 /// These keys and those that commands name, each once, in their order. A command names the keys of
-/// the rows that it registers, and the one that it removes. Where the keys before are in their
-/// order, they are not sorted anew, so that few commands cost little beside many keys.
+/// the rows that it registers, and the one that it removes.
 pub fn touched_keys(
     alloc: Global,
     before: Vec<Key>,
@@ -62,10 +61,26 @@ pub fn touched_keys(
     let mut keys = before;
     push_all_named(&mut keys, commands)?;
     sort_keys(&mut keys)?;
-    without_repeats(alloc, &keys)
+    merged(alloc, &[], &keys)
 }
 
-/// Sorts keys. Keys that are in their order are a run, which is merged with the others.
+/// Keys that rise and those that commands name, each once, in their order. The keys before are
+/// copied in runs between those named, so that few commands cost little beside many keys.
+pub(crate) fn with_named(
+    alloc: Global,
+    before: &[Key],
+    commands: &[Command],
+) -> Result<Vec<Key>, AllocError>
+    ensures { IfOk result (λ keys. KeysRise (map key_bytes before.now)
+        → IsUnion (map key_bytes before.now) (keys_named_by commands.now) (map key_bytes keys.items)) }
+{
+    let mut named = Vec::new(alloc);
+    push_all_named(&mut named, commands)?;
+    sort_keys(&mut named)?;
+    merged(alloc, before, &named)
+}
+
+/// Sorts keys.
 fn sort_keys(keys: &mut Vec<Key>) -> Result<(), AllocError>
     ensures order { OnOk result (IsKeyOrder keys.new.items) }
     ensures same { OnOk result ((k : List ℕ) → has_key (map key_bytes keys.new.items) k ≡ has_key (map key_bytes keys.old.items) k) }
@@ -73,19 +88,42 @@ fn sort_keys(keys: &mut Vec<Key>) -> Result<(), AllocError>
     keys.sort_by(|one, other| one.order(other))
 }
 
-/// The keys that are above all those before them. Of keys in their order this is each key once.
-fn without_repeats(alloc: Global, keys: &[Key]) -> Result<Vec<Key>, AllocError>
-    ensures { IfOk result (λ rising. map key_bytes rising.items ≡ risen None (map key_bytes keys.now)) }
+/// Keys that rise and new keys in their order, each once, in their order. The keys before are
+/// searched for the place of each new key, and not read one by one.
+fn merged(alloc: Global, before: &[Key], new: &[Key]) -> Result<Vec<Key>, AllocError>
+    requires { IsKeyOrder new.now }
+    ensures { IfOk result (λ keys. KeysRise (map key_bytes before.now)
+        → IsUnion (map key_bytes before.now) (map key_bytes new.now) (map key_bytes keys.items)) }
 {
-    let mut rising = Vec::new(alloc);
-    let mut last = None;
-    for key in keys {
-        if is_above(last, key) {
-            rising.push(*key)?;
-            last = Some(*key);
-        }
+    let mut keys = Vec::with_capacity(alloc, before.len().saturating_add(new.len()))?;
+    let mut rest = before;
+    for key in new {
+        let (run, above) = rest.split_at(run_up_to(rest, key));
+        keys.extend_from_slice(run)?;
+        push_above(&mut keys, key)?;
+        rest = above;
     }
-    Ok(rising)
+    keys.extend_from_slice(rest)?;
+    Ok(keys)
+}
+
+/// How many of the keys, which rise, are not above a key.
+fn run_up_to(keys: &[Key], key: &Key) -> usize
+    ensures bound { result ≤ length keys.now }
+    ensures up_to { KeysRise (map key_bytes keys.now) → AreUpTo (key_bytes key.now) (map key_bytes (take result keys.now)) }
+    ensures above { KeysRise (map key_bytes keys.now) → AreAbove (key_bytes key.now) (map key_bytes (drop result keys.now)) }
+{
+    keys.partition_point(|other| other.order(key).is_le())
+}
+
+/// Appends a key where it is above the last one.
+fn push_above(keys: &mut Vec<Key>, key: &Key) -> Result<(), AllocError>
+    ensures { OnOk result (map key_bytes keys.new.items ≡ with_above (map key_bytes keys.old.items) (key_bytes key.now)) }
+{
+    if is_above(keys.last().copied(), key) {
+        keys.push(*key)?;
+    }
+    Ok(())
 }
 
 /// Whether a key is above the last one, where there is one.

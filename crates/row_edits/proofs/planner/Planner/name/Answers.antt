@@ -1,17 +1,17 @@
 -- A planner plans for further commands.
-use Rattle.std.proofs.Common.{◌++◌, false, if◌then◌else◌, sym, ap, ◌∙◌, subst}
-use Rattle.std.specs.Prelude.{Bool, map}
-use Rattle.path_records.specs.Key.{key_bytes}
-use Rattle.row_edits.specs.Merging.{keys_named_by, Includes, outlives}
+use Rattle.std.proofs.Common.{◌++◌, false, if◌then◌else◌, sym, ap, ◌∙◌}
+use Rattle.std.specs.Prelude.{Bool}
+use Rattle.row_edits.specs.Merging.{keys_named_by, outlives}
 use Rattle.row_edits.proofs.Purges.{outlives_both}
 use Rattle.row_edits.proofs.Seen.{nothing_seen, covers_both}
+use Rattle.row_edits.proofs.Touches.{union_of}
 use Rattle.row_edits.proofs.planner.Planner.name.Goals as goal
 
 pub returns-clause-seen : goal.returns-clause-seen
 returns-clause-seen c before fresh has =
-    let covers = subst (λ keys. Includes (map key_bytes keys.items) (keys_named_by before)) (sym c.replace-before.ensures.value) has.covers in
-    nothing_seen (before ++ c.args.commands.now) _ c.in_ok-self.ensures.rise
-    (covers_both _ _ before c.args.commands.now covers c.in_ok-self.ensures.just)
+    let union = union_of c.deref.result.now c.args.self.now.keys.items (keys_named_by c.args.commands.now) _ c.deref.ensures.value has.rise c.in_ok-self.ensures in
+    nothing_seen (before ++ c.args.commands.now) _ union.rise
+    (covers_both _ _ before c.args.commands.now has.covers union.just)
     (λ row. c.greatest_purge-self.ensures row ∙ ap (λ (b : Bool). if b then outlives c.args.commands.now row else false) (has.purges row) ∙ sym (outlives_both before c.args.commands.now row))
     fresh.at fresh.kept fresh.edits fresh.olds
 
