@@ -39,13 +39,13 @@ use store_open::{OpenError, SealedError};
 /// The most sectors that a call reads of the rows.
 pub(crate) const READ_SECTORS: u64 = 64;
 
-/// The commands of the journal that a call names to the planner. A call passes over all keys that
-/// are named already, so from 16 times as many commands on it names a sixteenth of these: all calls
-/// together pass over some 16 times as many keys as there are, and not over their square.
+/// The commands of the journal that a call names to the planner. A call copies all keys that are
+/// named already, so from 64 times as many commands on it names a part of these: all calls together
+/// copy some 64 times as many keys as there are, and not their square.
 const NAMED: usize = 512;
 
 /// The part of the commands named that a call may name beside them.
-const PART: usize = 16;
+const PART: usize = 64;
 
 /// The bytes of as many sectors.
 const READ: usize = READ_SECTORS as usize * SECTOR;

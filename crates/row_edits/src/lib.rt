@@ -27,4 +27,3 @@ pub use plan::Plan;
 pub use planner::Planner;
 pub use rewrite::Rewrite;
 pub use settling::{Settled, Settling};
-pub use touched::{greatest_purge, touched_keys};

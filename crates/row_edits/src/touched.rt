@@ -17,7 +17,7 @@ use std::alloc::{AllocError, Global};
 /// The greatest one of a moment and the moments of the purges among commands, in half seconds since
 /// 1970, where there are any. A row that no command names is left after the commands exactly where it
 /// expires after their greatest moment.
-pub fn greatest_purge(before: Option<u64>, commands: &[Command]) -> Option<u64>
+pub(crate) fn greatest_purge(before: Option<u64>, commands: &[Command]) -> Option<u64>
     ensures { (row : RowView) → is_beyond result row ≡ (if is_beyond before row then outlives commands.now row else false) }
 {
     let mut greatest = before;
@@ -45,23 +45,6 @@ fn later(greatest: Option<u64>, moment: u64) -> u64
         Some(old) => old.max(moment),
         None => moment,
     }
-}
-
-/// These keys and those that commands name, each once, in their order. A command names the keys of
-/// the rows that it registers, and the one that it removes.
-pub fn touched_keys(
-    alloc: Global,
-    before: Vec<Key>,
-    commands: &[Command],
-) -> Result<Vec<Key>, AllocError>
-    ensures rise { IfOk result (λ keys. KeysRise (map key_bytes keys.items)) }
-    ensures just { IfOk result (λ keys. (k : List ℕ)
-        → has_key (map key_bytes keys.items) k ≡ has_key (map key_bytes before.items ++ keys_named_by commands.now) k) }
-{
-    let mut keys = before;
-    push_all_named(&mut keys, commands)?;
-    sort_keys(&mut keys)?;
-    merged(alloc, &[], &keys)
 }
 
 /// Keys that rise and those that commands name, each once, in their order. The keys before are
