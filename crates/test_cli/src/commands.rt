@@ -55,7 +55,7 @@ fn read_sector(device: &mut MemDevice, at: u64) -> [u8; 512] {
     sector
 }
 
-// Sees that an output of just so many bytes has the front of what is printed, whose fault this is.
+// Sees that an output of this number of bytes has the front of what is printed, by this fault.
 fn assert_full(rt: &impl Abort, answer: Result<(), Fault>, output: &Room, front: &[u8]) {
     assert_same(rt, &answer, &Err(Fault::Output), &front.len());
     assert_same(rt, &output.taken.as_slice(), &front, &front.len());

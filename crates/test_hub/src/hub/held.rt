@@ -44,7 +44,7 @@ impl Looks<'_> {
         shown(reader)
     }
 
-    /// Submits the registration of another segment, whose sync is to be held.
+    /// Submits the registration of another segment, whose sync will be held.
     fn submit<S: Steps>(
         &self,
         rt: &impl Wait,
