@@ -177,18 +177,19 @@ fn failures(rt: &Host<impl Abort>, alloc: Global, device: MemDevice, is_prepared
 
 /// Of `begin`: the front, a group's gate, its first sector and its payload, the gate and the sector
 /// of the seal, the 641 sectors of the old area in eleven pieces, and then two pieces of it again for
-/// the first 256 sectors. Of two chunks: two writes, and one piece of the old area between them.
+/// the first 256 sectors: rows that are kept together, four and then one. Of two chunks: two writes,
+/// and between them two pieces of the old area, with two rows each.
 const FAILED: Calls = Calls {
     prepares: 0,
     begins: 19,
-    chunks: 3,
+    chunks: 4,
 };
 
 /// Where all pieces are prepared, `begin` makes only the last two of these calls.
 const FAILED_PREPARED: Calls = Calls {
     prepares: 17,
     begins: 2,
-    chunks: 3,
+    chunks: 4,
 };
 
 #[test]
