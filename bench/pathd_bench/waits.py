@@ -40,6 +40,8 @@ ONE, TWO = 0x0001_FF00_0000_0110, 0x0002_FF00_0000_0210
 WILDCARD = 0x0002_0000_0000_0000
 # Segments of 2096, so that none expires by the machine's clock.
 MADE = 4_000_000_000
+# After it is filled a server rests for a second for each of these rows, so that its checkpoints are over.
+ROWS_A_SECOND = 100_000
 # The seconds of the shortest lifetime of a hop field.
 LEAST_LIFETIME = 338
 LOOKUPS_A_SECOND, REGISTRATIONS_A_SECOND, PURGES_A_SECOND = 500, 200, 5
@@ -134,6 +136,7 @@ def print_waits(programs: Programs, folder: Path, rows: int, seconds: float, jou
     words = [programs.pathd, "run", store, "--listen", "127.0.0.1:0", "--cores", cores, *measure.all_seats(programs.pathd)]
     with Server(words, folder, mark="ready") as server:
         fill(server.port, rows)
+        time.sleep(1 + rows / ROWS_A_SECOND)
         alone: Callable[[], tuple[Load, Load]] = lambda: probe(programs, server, seconds)
         cases: list[tuple[str, Callable[[], tuple[Load, Load]]]] = [
             ("nothing", alone),
