@@ -6,16 +6,16 @@
 //! these layers.
 #![tactic(auto)]
 
-mod content_laws;
 mod editing;
 mod format;
 mod gates;
+mod laws;
 mod numbers;
 mod sectors;
 
-pub use content_laws::{encoded_numbers, gate_test_is_exact, overwritten_parts, padded_sectors};
 pub use editing::{drop_front, put};
 pub use format::{OPEN, SECTOR};
 pub use gates::{closed_gate, closed_gates, is_open, open_gate};
+pub use laws::content::{encoded_numbers, gate_test_is_exact, overwritten_parts, padded_sectors};
 pub use numbers::{read_u32, read_u64};
 pub use sectors::{pad, sector_count};

@@ -5,20 +5,20 @@
 //! of `path_records`.
 #![tactic(auto)]
 
-mod command_laws;
 mod encoding;
 mod error;
 mod format;
 mod header;
+mod laws;
 mod records;
 mod scanner;
 mod sizes;
 mod whole;
 
-pub use command_laws::commands_are_allowed;
 pub use encoding::{can_be_group, encode_group, encode_seal};
 pub use error::JournalError;
 pub use format::{COUNT_AT, GROUP, HEADER, MOST_RECORD_BYTES, PLACE_AT, SEAL, SIZE_AT};
+pub use laws::command::commands_are_allowed;
 pub use scanner::{Piece, Progress, Scan, Scanner, Stage};
 pub use sizes::{fits, payload_sectors, record_len};
 pub use whole::scan;

@@ -12,8 +12,8 @@ mod error;
 mod format;
 mod in_threads;
 mod key;
+mod laws;
 mod one_key;
-mod record_laws;
 mod row_cursor;
 mod row_decoder;
 mod row_records;
@@ -25,12 +25,12 @@ pub use error::DbError;
 pub use format::PIECE;
 pub use in_threads::read_in_threads;
 pub use key::Key;
-pub use one_key::row_after;
-pub use record_laws::{
+pub use laws::record::{
     command_refusals_are_exact, commands_are_read_on, read_commands_are_spelled,
     read_commands_can_be_written, read_rows_are_spelled, row_refusals_are_exact,
     written_commands_are_read, written_rows_are_counted, written_rows_are_read,
 };
+pub use one_key::row_after;
 pub use row_cursor::RowCursor;
 pub use row_decoder::{ByCall, OneThread, RowDecoder};
 pub use row_records::{read_rows, row_head, write_rows};

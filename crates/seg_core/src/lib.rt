@@ -7,7 +7,6 @@
 #![tactic(auto)]
 
 mod body;
-mod decoding_laws;
 mod digest;
 mod earlier;
 mod entry;
@@ -31,12 +30,12 @@ mod shape;
 mod typed_response;
 mod writing;
 
-pub use decoding_laws::{
-    decodings_want_no_memory, path_refusals_are_exact, type_numbers_are_exact,
-};
 pub use entry::Entry;
 pub use format::{MOST_ENTRIES, MOST_REGISTERED, MOST_REGISTERED_BYTES, MOST_SEGMENT_BYTES};
-pub use laws::{
+pub use laws::decoding::{
+    decodings_want_no_memory, path_refusals_are_exact, type_numbers_are_exact,
+};
+pub use laws::messages::{
     encodings_are_injective, encodings_are_shortest, path_tests_are_exact,
     read_registrations_are_whole, read_segments_are_whole, responses_are_short,
     whole_segments_are_well_formed, written_responses_are_read, written_segments_are_read,

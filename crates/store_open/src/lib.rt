@@ -9,17 +9,16 @@
 
 mod checkpoint;
 mod closing;
-mod closing_laws;
 mod error;
 mod first_sector;
 mod folded;
 mod folding;
 mod heads;
 mod in_threads;
+mod laws;
 mod laying;
 mod looking;
 mod new_store;
-mod new_store_laws;
 mod open_store;
 mod opening;
 mod reading;
@@ -32,15 +31,15 @@ mod store_error;
 mod taking_over;
 mod title;
 
-pub use closing_laws::openings_are_kept_by_closing;
 pub use error::OpenError;
 pub use first_sector::{has_title, read_geometry, titled_sizes};
 pub use folded::Folded;
 pub use in_threads::open_in_threads;
+pub use laws::closing::openings_are_kept_by_closing;
+pub use laws::new_store::new_stores_are_formatted;
 pub use laying::{BUFFER, lay};
 pub use looking::look;
 pub use new_store::{FormatError, format};
-pub use new_store_laws::new_stores_are_formatted;
 pub use open_store::open;
 pub use reading::read_sector;
 pub use scanning::{read_piece, scan_journal};

@@ -1,5 +1,0 @@
-use Rattle.ckpt_pair.proofs.Fronts.{by_fronts}
-use Rattle.ckpt_pair.proofs.rows_laws.checkpoints_are_read_by_their_fronts.Goals as goal
-
-pub returns : goal.returns
-returns c = by_fronts

@@ -1,5 +1,0 @@
-use Rattle.group_phases.proofs.FlusherSteps.{publishes_group}
-use Rattle.group_phases.proofs.flusher_laws.durable_groups_are_published.Goals as goal
-
-pub returns : goal.returns
-returns g c = publishes_group _

@@ -1,5 +1,0 @@
-use Rattle.group_phases.proofs.FlusherSteps.{writes_in_journal}
-use Rattle.group_phases.proofs.flusher_laws.flusher_writes_lie_in_the_journal.Goals as goal
-
-pub returns : goal.returns
-returns g c = writes_in_journal _

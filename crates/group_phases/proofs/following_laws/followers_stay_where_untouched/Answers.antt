@@ -1,5 +1,0 @@
-use Rattle.group_phases.proofs.FollowingSteps.{keeps_follower}
-use Rattle.group_phases.proofs.following_laws.followers_stay_where_untouched.Goals as goal
-
-pub returns : goal.returns
-returns g c = keeps_follower _

@@ -1,5 +1,0 @@
-use Rattle.group_phases.proofs.Ranges.{is_in_every_image}
-use Rattle.group_phases.proofs.range_laws.settled_ranges_are_in_every_image.Goals as goal
-
-pub returns : goal.returns
-returns c = is_in_every_image

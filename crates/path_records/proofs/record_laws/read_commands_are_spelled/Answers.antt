@@ -1,5 +1,0 @@
-use Rattle.path_records.proofs.Spelled.{command_spelled}
-use Rattle.path_records.proofs.record_laws.read_commands_are_spelled.Goals as goal
-
-pub returns : goal.returns
-returns c = command_spelled

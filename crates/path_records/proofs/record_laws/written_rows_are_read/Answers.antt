@@ -1,5 +1,0 @@
-use Rattle.path_records.proofs.RowsBack.{rows_back}
-use Rattle.path_records.proofs.record_laws.written_rows_are_read.Goals as goal
-
-pub returns : goal.returns
-returns c = rows_back

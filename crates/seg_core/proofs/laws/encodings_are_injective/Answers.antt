@@ -1,5 +1,0 @@
-use Rattle.seg_core.proofs.RoundTrip.{encoding-injective}
-use Rattle.seg_core.proofs.laws.encodings_are_injective.Goals as goal
-
-pub returns : goal.returns
-returns c = λ s t one other same. encoding-injective s t one other same

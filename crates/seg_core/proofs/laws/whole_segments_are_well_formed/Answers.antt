@@ -1,5 +1,0 @@
-use Rattle.seg_core.proofs.Ranges.{IsSegment-IsWellFormed}
-use Rattle.seg_core.proofs.laws.whole_segments_are_well_formed.Goals as goal
-
-pub returns : goal.returns
-returns c = λ s is. IsSegment-IsWellFormed s is

@@ -1,5 +1,0 @@
-use Rattle.store_layout.proofs.ByRegions.{closed_area_may_change}
-use Rattle.store_layout.proofs.growth_laws.closed_areas_may_change.Goals as goal
-
-pub returns : goal.returns
-returns g c = closed_area_may_change _ _

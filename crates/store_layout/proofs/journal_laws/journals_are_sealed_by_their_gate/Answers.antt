@@ -1,5 +1,0 @@
-use Rattle.store_layout.proofs.Growth.{sealed_by_its_gate}
-use Rattle.store_layout.proofs.journal_laws.journals_are_sealed_by_their_gate.Goals as goal
-
-pub returns : goal.returns
-returns g c = sealed_by_its_gate _

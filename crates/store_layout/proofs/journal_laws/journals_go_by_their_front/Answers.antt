@@ -1,5 +1,0 @@
-use Rattle.store_layout.proofs.Growth.{goes_by_its_front}
-use Rattle.store_layout.proofs.journal_laws.journals_go_by_their_front.Goals as goal
-
-pub returns : goal.returns
-returns g c = goes_by_its_front _

@@ -1,5 +1,0 @@
-use Rattle.store_layout.proofs.Growth.{read_under_larger_limits}
-use Rattle.store_layout.proofs.journal_laws.journals_read_under_larger_limits.Goals as goal
-
-pub returns : goal.returns
-returns g c = read_under_larger_limits _

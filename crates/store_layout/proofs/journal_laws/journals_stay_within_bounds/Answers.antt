@@ -1,5 +1,0 @@
-use Rattle.store_layout.proofs.Bounds.{stays_within_bounds}
-use Rattle.store_layout.proofs.journal_laws.journals_stay_within_bounds.Goals as goal
-
-pub returns : goal.returns
-returns g c = stays_within_bounds _

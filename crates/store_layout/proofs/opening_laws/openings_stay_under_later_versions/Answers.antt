@@ -1,5 +1,0 @@
-use Rattle.store_layout.proofs.Opened.{opens_under_later_versions}
-use Rattle.store_layout.proofs.opening_laws.openings_stay_under_later_versions.Goals as goal
-
-pub returns : goal.returns
-returns g c = opens_under_later_versions _ _

@@ -1,0 +1,4 @@
+//! The laws of this crate. Each is the contract of a function that does nothing.
+
+pub(crate) mod closing;
+pub(crate) mod new_store;
