@@ -9,8 +9,7 @@ use Rattle.std.specs.declared.cmp.Ordering.TheVariants.{Less, Equal, Greater}
 use Rattle.std.proofs.lemmas.Bool.{false≢true}
 use Rattle.std.proofs.lemmas.Bool.Decides.{eqb_tells, leb_tells}
 use Rattle.std.proofs.Math.Dec.{eqb, leb}
-use Rattle.end_index.specs.declared.index_key.IndexKey.{IndexKey}
-use Rattle.end_index.specs.IndexKey.{index_key_cmp, stands_at, stands_between, is_after_id}
+use Rattle.end_index.specs.IndexKey.{IndexKey, stands_at, stands_between, is_after_id}
 
 abbrev pub zeros : ℕ → List ℕ
 zeros zero = []
@@ -63,16 +62,21 @@ same_number Equal a b says (inr other) = absurd (other.1 (sym says))
 same_number Greater a b says (inl same) = absurd (omega (arith, says, same.1))
 same_number Greater a b says (inr other) = sym other.0
 
--- the index keys between the least index key of an ISD-AS and that of the next one
-pub between : (low high index_key : IndexKey) (n : ℕ) → low.id ≡ zeros n → high.id ≡ zeros n → high.kind ≡ low.kind → high.isd_as ≡ low.isd_as + 1 → length index_key.id ≡ n
-    → (is_le (index_key_cmp low index_key) && not (is_le (index_key_cmp high index_key))) ≡ stands_at low.kind low.isd_as index_key
-between low high index_key n low_id high_id kind next long =
-    rw (low_id, high_id, kind, next)
-    (table (nat_cmp low.kind index_key.kind) (nat_cmp low.isd_as index_key.isd_as) (nat_cmp (low.isd_as + 1) index_key.isd_as) (slice_cmp nat_cmp (zeros n) index_key.id)
-    (zeros_first n index_key.id long)
-    (next_rank (nat_cmp low.isd_as index_key.isd_as) (nat_cmp (low.isd_as + 1) index_key.isd_as) low.isd_as index_key.isd_as (ranks low.isd_as index_key.isd_as) (ranks (low.isd_as + 1) index_key.isd_as))
-    ∙ ap (λ a. a && is_eq (nat_cmp low.isd_as index_key.isd_as)) (same_number (nat_cmp low.kind index_key.kind) low.kind index_key.kind (ranks low.kind index_key.kind) (eqb_tells index_key.kind low.kind))
-    ∙ ap (λ b. (index_key.kind == low.kind) && b) (same_number (nat_cmp low.isd_as index_key.isd_as) low.isd_as index_key.isd_as (ranks low.isd_as index_key.isd_as) (eqb_tells index_key.isd_as low.isd_as)))
+-- no id is below the empty one
+nothing_first : (id : List ℕ) → is_le (slice_cmp nat_cmp [] id) ≡ true
+nothing_first [] = refl
+nothing_first (b ∷ id) = refl
+
+-- the index keys between the bound of an ISD-AS and that of the next one
+pub between : (kind isd_as : ℕ) (q : IndexKey)
+    → (is_le (ordering_then (nat_cmp kind q.kind) (ordering_then (nat_cmp isd_as q.isd_as) (slice_cmp nat_cmp [] q.id))) && not (is_le (ordering_then (nat_cmp kind q.kind) (ordering_then (nat_cmp (isd_as + 1) q.isd_as) (slice_cmp nat_cmp [] q.id)))))
+    ≡ stands_at kind isd_as q
+between kind isd_as q =
+    table (nat_cmp kind q.kind) (nat_cmp isd_as q.isd_as) (nat_cmp (isd_as + 1) q.isd_as) (slice_cmp nat_cmp [] q.id)
+    (nothing_first q.id)
+    (next_rank (nat_cmp isd_as q.isd_as) (nat_cmp (isd_as + 1) q.isd_as) isd_as q.isd_as (ranks isd_as q.isd_as) (ranks (isd_as + 1) q.isd_as))
+    ∙ ap (λ a. a && is_eq (nat_cmp isd_as q.isd_as)) (same_number (nat_cmp kind q.kind) kind q.kind (ranks kind q.kind) (eqb_tells q.kind kind))
+    ∙ ap (λ b. (q.kind == kind) && b) (same_number (nat_cmp isd_as q.isd_as) isd_as q.isd_as (ranks isd_as q.isd_as) (eqb_tells q.isd_as isd_as))
 
 -- ---- the index keys after an id
 
@@ -94,12 +98,12 @@ table_after Equal Equal Equal s later e next = absurd (false≢true (sym next))
 table_after Equal Greater r s later e next = refl
 
 -- the index keys of an ISD-AS above an id, and below the least index key of the next one
-pub between_after : (kind isd_as : ℕ) (id : List ℕ) (q : IndexKey) (n : ℕ) → length q.id ≡ n
-    → (is_lt (ordering_then (nat_cmp kind q.kind) (ordering_then (nat_cmp isd_as q.isd_as) (slice_cmp nat_cmp id q.id))) && not (is_le (ordering_then (nat_cmp kind q.kind) (ordering_then (nat_cmp (isd_as + 1) q.isd_as) (slice_cmp nat_cmp (zeros n) q.id)))))
+pub between_after : (kind isd_as : ℕ) (id : List ℕ) (q : IndexKey)
+    → (is_lt (ordering_then (nat_cmp kind q.kind) (ordering_then (nat_cmp isd_as q.isd_as) (slice_cmp nat_cmp id q.id))) && not (is_le (ordering_then (nat_cmp kind q.kind) (ordering_then (nat_cmp (isd_as + 1) q.isd_as) (slice_cmp nat_cmp [] q.id)))))
     ≡ (stands_at kind isd_as q && is_after_id id q)
-between_after kind isd_as id q n long =
-    table_after (nat_cmp kind q.kind) (nat_cmp isd_as q.isd_as) (nat_cmp (isd_as + 1) q.isd_as) (slice_cmp nat_cmp id q.id) (slice_cmp nat_cmp (zeros n) q.id)
-    (zeros_first n q.id long)
+between_after kind isd_as id q =
+    table_after (nat_cmp kind q.kind) (nat_cmp isd_as q.isd_as) (nat_cmp (isd_as + 1) q.isd_as) (slice_cmp nat_cmp id q.id) (slice_cmp nat_cmp [] q.id)
+    (nothing_first q.id)
     (next_rank (nat_cmp isd_as q.isd_as) (nat_cmp (isd_as + 1) q.isd_as) isd_as q.isd_as (ranks isd_as q.isd_as) (ranks (isd_as + 1) q.isd_as))
     ∙ ap (λ a. (a && is_eq (nat_cmp isd_as q.isd_as)) && is_after_id id q) (same_number (nat_cmp kind q.kind) kind q.kind (ranks kind q.kind) (eqb_tells q.kind kind))
     ∙ ap (λ b. ((q.kind == kind) && b) && is_after_id id q) (same_number (nat_cmp isd_as q.isd_as) isd_as q.isd_as (ranks isd_as q.isd_as) (eqb_tells q.isd_as isd_as))
@@ -135,11 +139,11 @@ below Greater a b says (inl so) = sym so.0
 below Greater a b says (inr other) = absurd (omega (arith, says, other.1))
 
 -- the index keys between the least index keys of two ISD-AS
-pub between_numbers : (kind low high : ℕ) (q : IndexKey) (n : ℕ) → length q.id ≡ n
-    → (is_le (ordering_then (nat_cmp kind q.kind) (ordering_then (nat_cmp low q.isd_as) (slice_cmp nat_cmp (zeros n) q.id))) && not (is_le (ordering_then (nat_cmp kind q.kind) (ordering_then (nat_cmp high q.isd_as) (slice_cmp nat_cmp (zeros n) q.id)))))
+pub between_numbers : (kind low high : ℕ) (q : IndexKey)
+    → (is_le (ordering_then (nat_cmp kind q.kind) (ordering_then (nat_cmp low q.isd_as) (slice_cmp nat_cmp [] q.id))) && not (is_le (ordering_then (nat_cmp kind q.kind) (ordering_then (nat_cmp high q.isd_as) (slice_cmp nat_cmp [] q.id)))))
     ≡ stands_between kind low high q
-between_numbers kind low high q n long =
-    table_range (nat_cmp kind q.kind) (nat_cmp low q.isd_as) (nat_cmp high q.isd_as) (slice_cmp nat_cmp (zeros n) q.id) (zeros_first n q.id long)
+between_numbers kind low high q =
+    table_range (nat_cmp kind q.kind) (nat_cmp low q.isd_as) (nat_cmp high q.isd_as) (slice_cmp nat_cmp [] q.id) (nothing_first q.id)
     ∙ ap (λ a. a && (is_le (nat_cmp low q.isd_as) && not (is_le (nat_cmp high q.isd_as)))) (same_number (nat_cmp kind q.kind) kind q.kind (ranks kind q.kind) (eqb_tells q.kind kind))
     ∙ ap (λ b. (q.kind == kind) && (b && not (is_le (nat_cmp high q.isd_as)))) (at_least (nat_cmp low q.isd_as) low q.isd_as (ranks low q.isd_as) (leb_tells low q.isd_as))
     ∙ ap (λ b. (q.kind == kind) && (nat_le low q.isd_as && b)) (below (nat_cmp high q.isd_as) high q.isd_as (ranks high q.isd_as) (leb_tells (suc q.isd_as) high))

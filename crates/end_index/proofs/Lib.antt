@@ -1,3 +1,4 @@
 pub mod Tests
 mod Bounds
+mod Rows
 pub mod Exports

@@ -1,1 +1,3 @@
 pub mod IndexKey
+pub mod Order
+pub mod Places

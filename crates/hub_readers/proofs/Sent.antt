@@ -14,9 +14,9 @@ use Rattle.command_log.specs.declared.name.LogName as named
 use Rattle.command_log.proofs.Sent.{logged_send}
 use Rattle.log_history.proofs.Sent.{history_send, past_send, past_sync}
 use Rattle.ghost_note.proofs.note.Note.TheSendSync as ghost_note
-use Rattle.logged_state.specs.declared.name.StateName as opened
+use Rattle.logged_state.specs.declared.ghosts.name.StateName as opened
 use Rattle.logged_state.specs.contracts.receipt.LoggedReceipt as LoggedReceipt
-use Rattle.hub_readers.specs.declared.name.ReaderName as reader
+use Rattle.hub_readers.specs.declared.ghosts.name.ReaderName as reader
 use Rattle.hub_readers.specs.contracts.look.Look as Look
 use Rattle.hub_readers.specs.contracts.look.Looks as Looks
 use Rattle.hub_readers.specs.contracts.note.HubNote as HubNote
@@ -25,6 +25,7 @@ use Rattle.hub_readers.specs.contracts.published.ShownCommand as ShownCommand
 use Rattle.hub_readers.specs.contracts.reader.HubReader as HubReader
 use Rattle.hub_readers.specs.contracts.show.HubShow as HubShow
 use Rattle.seg_core.specs.contracts.segment.Segment as Segment
+use Rattle.end_index.specs.contracts.index_row.IndexRow as IndexRow
 use Rattle.end_index.specs.contracts.index.EndIndex as EndIndex
 use Rattle.row_map.specs.contracts.row.Row as Row
 use Rattle.path_db.specs.contracts.command.Command as Command
@@ -42,11 +43,17 @@ row_send = search (sendable, crosses, segment_send) depth 60 fits 20000
 row_sync : IsSync Row.the_row
 row_sync = search (sendable, crosses, segment_sync) depth 60 fits 20000
 
+index_row_send : IsSend IndexRow.the_row
+index_row_send = search (sendable, crosses, segment_send) depth 60 fits 20000
+
+index_row_sync : IsSync IndexRow.the_row
+index_row_sync = search (sendable, crosses, segment_sync) depth 60 fits 20000
+
 index_send : IsSend EndIndex.the_row
-index_send = search (sendable, crosses, sets_cross) depth 30 fits 20000
+index_send = search (sendable, crosses, sets_cross, index_row_send) depth 30 fits 20000
 
 index_sync : IsSync EndIndex.the_row
-index_sync = search (sendable, crosses, sets_cross) depth 30 fits 20000
+index_sync = search (sendable, crosses, sets_cross, index_row_sync) depth 30 fits 20000
 
 pub db_send : IsSend PathDb.the_row
 db_send = search (sendable, crosses, maps_cross, index_send, row_send) depth 30 fits 20000

@@ -1,19 +1,18 @@
 -- The rows that a lookup asks for, and where they are: for `ways` and `matching`.
-use Rattle.std.proofs.Common.{◌≡◌, ◌+◌, ◌*◌, ◌/◌, ◌%◌, ◌^◌, ◌<◌, ◌≤◌, ◌==◌, nat_lt, nat_le, ℕ, suc, take, arith, inl, inr, Bool, true, false, ◌&&◌, ◌||◌, List, [], ◌∷◌, length, Option, Some, None, refl, sym, ap, ◌∙◌, subst}
-use Rattle.std.specs.List.{filter}
+use Rattle.std.proofs.Common.{◌≡◌, ◌+◌, ◌*◌, ◌/◌, ◌%◌, ◌^◌, ◌<◌, ◌≤◌, ◌==◌, nat_lt, nat_le, ℕ, suc, take, arith, inl, inr, Bool, true, false, ◌&&◌, ◌||◌, List, Option, Some, None, refl, sym, ap, ◌∙◌, subst}
+use Rattle.std.specs.List.{AllByRecursion, filter}
 use Rattle.std.specs.List.Sorted.{IsStrictlySortedBy}
 use Rattle.std.proofs.lemmas.Bool.{false≢true}
 use Rattle.std.proofs.lemmas.Bool.Decides.{leb_tells}
 use Rattle.std.proofs.lemmas.List.Elements.{filter_agree}
-use Rattle.seg_check.proofs.Exports.{digest-length}
 use Rattle.isd_as.specs.IsdAs.{isd_as_number, part_covers, covers_number}
 use Rattle.seg_core.specs.declared.seg_type.SegType.{SegType}
-use Rattle.seg_core.specs.SegmentView.{EntryView}
+use Rattle.seg_core.specs.declared.seg_type.SegType.TheVariants.{Up, Core, Down}
+use Rattle.seg_core.specs.SegmentView.{EntryView, SegmentView}
 use Rattle.seg_slots.specs.Message.{last_of}
 use Rattle.seg_core.specs.Registration.{type_number}
 use Rattle.seg_core.specs.Digest.{segment_digest}
-use Rattle.end_index.specs.declared.index_key.IndexKey.{IndexKey}
-use Rattle.end_index.specs.IndexKey.{index_key_cmp, stands_at, stands_between}
+use Rattle.end_index.specs.IndexKey.{IndexKey, index_key_cmp, stands_at, stands_between}
 use Rattle.row_map.specs.declared.end.End.{End}
 use Rattle.row_map.specs.declared.end.End.TheVariants.{First, Last}
 use Rattle.row_map.specs.declared.end.By.{By}
@@ -23,15 +22,16 @@ use Rattle.path_db.specs.declared.answers.Wanted.{Wanted}
 use Rattle.row_map.specs.Database.{RowView, key_of, IsRising, row_under}
 use Rattle.row_map.specs.Drops.{is_valid_beyond}
 use Rattle.path_db.specs.Answer.{covers_entry, matches, is_shown, answer_of, answer_after}
-use Rattle.row_map.specs.EndKeys.{entry_at_end, index_number, isds_number, isds_of, is_of, ends_at, IsEndIndex}
+use Rattle.row_map.specs.EndKeys.{entry_at_end, index_number, isds_number, isds_of, is_of, ends_at, IsRowIndex, IsCurrent}
 use Rattle.row_map.specs.Ends.{first_entry_of}
 use Rattle.row_map.specs.Ranges.{is_of_type, is_after}
 use Rattle.path_db.specs.Wanted.{AllHave, is_past, is_wanted, pattern_at}
-use Rattle.path_db.specs.Walk.{IsExact, IsWildcard, HasKeysOf, is_past_id, rows_at, has_key}
+use Rattle.path_db.specs.Walk.{IsExact, IsWildcard, HasKeysOf, is_past_id, rows_at, rows_in, has_key}
 use Rattle.row_map.specs.Saved.{is_key}
 use Rattle.row_map.proofs.Exports.{AreSame, both_from, first_from, second_from, number_itself, its_key, found_is_under, is_key_itself, and_true, both_kept}
 use Rattle.path_db.proofs.Walked.{walked, implied_kept, exact_entry, part_exact, key_there}
 use Rattle.path_db.proofs.After.{walked_past}
+use Rattle.path_db.proofs.Current.{rows_are, current_filtered}
 
 -- ---- what holds for a row that a lookup asks for
 
@@ -61,6 +61,23 @@ module _ (wanted : Wanted) (row : RowView) (asked : is_wanted wanted row ≡ tru
   asked_at First = first_from (covers_entry start (first_entry_of row.1.entries)) (covers_entry end (last_of row.1.entries)) covered
   asked_at Last = second_from (covers_entry start (first_entry_of row.1.entries)) (covers_entry end (last_of row.1.entries)) covered
 
+-- types with the same number are the same
+same_type : (a b : SegType) → (type_number a == type_number b) ≡ true → a ≡ b
+same_type Up Up e = refl
+same_type Up Core e = absurd (false≢true e)
+same_type Up Down e = absurd (false≢true e)
+same_type Core Up e = absurd (false≢true e)
+same_type Core Core e = refl
+same_type Core Down e = absurd (false≢true e)
+same_type Down Up e = absurd (false≢true e)
+same_type Down Core e = absurd (false≢true e)
+same_type Down Down e = refl
+
+-- a row that a lookup asks for is that of the type and its segment
+pub asked_row : (wanted : Wanted) (row : RowView) (segment : SegmentView) → is_wanted wanted row ≡ true → row.1 ≡ segment → (wanted.kind, segment) ≡ row
+asked_row wanted row segment asked same =
+    ap (λ s. (wanted.kind, s)) (sym same) ∙ ap (λ k. (k, row.1)) (sym (same_type row.0 wanted.kind (asked_typed wanted row asked)))
+
 -- ---- the rows of the type
 
 pub kept_typed : (wanted : Wanted) (rows : List RowView) → filter (is_wanted wanted) (filter (is_of_type wanted.kind) (filter (is_past wanted.kind wanted.after) rows)) ≡ filter (is_wanted wanted) rows
@@ -73,16 +90,17 @@ kept_again wanted rows = implied_kept (is_wanted wanted) (is_wanted wanted) (λ 
 
 -- ---- the rows at the index keys of one number
 
-module _ (by : By) (wanted : Wanted) (rows : List RowView) (index_keys walk : List IndexKey) (number : ℕ) (index : IsEndIndex (index_number by) rows index_keys) (all : AllHave by wanted number) where
+module _ (by : By) (wanted : Wanted) (rows : List RowView) (index_keys walk : List IndexKey) (number : ℕ) (index : IsRowIndex (index_number by) rows index_keys) (all : AllHave by wanted number) where
   pub kept_along : IsRising rows → IsStrictlySortedBy index_key_cmp index_keys
       → walk ≡ filter (λ q. stands_at (type_number wanted.kind) number q && is_past_id wanted.after q) index_keys
-      → filter (is_wanted wanted) (rows_at rows walk) ≡ filter (is_wanted wanted) rows
+      → filter (is_wanted wanted) (rows_in walk) ≡ filter (is_wanted wanted) rows
   kept_along rising sorted is =
       let is_there : RowView → Bool = λ row. (type_number row.0 == type_number wanted.kind) && is_of (index_number by row.1.entries) number in
       let there : rows_at rows walk ≡ filter (is_past wanted.kind wanted.after) (filter is_there rows) =
       ap (rows_at rows) is ∙ walked_past rows wanted.kind number wanted.after index_keys
-      ∙ ap (filter (is_past wanted.kind wanted.after)) (walked (index_number by) rows index_keys (type_number wanted.kind) number index rising sorted) in
-      ap (filter (is_wanted wanted)) there
+      ∙ ap (filter (is_past wanted.kind wanted.after)) (walked (index_number by) rows index_keys (type_number wanted.kind) number index.keys rising sorted) in
+      let current = subst (AllByRecursion (IsCurrent rows)) (sym is) (current_filtered rows (λ q. stands_at (type_number wanted.kind) number q && is_past_id wanted.after q) index_keys index.current) in
+      ap (filter (is_wanted wanted)) (rows_are rows walk current ∙ there)
       ∙ implied_kept (is_wanted wanted) (is_past wanted.kind wanted.after) (λ row asked. asked_past wanted row asked) (filter is_there rows)
       ∙ implied_kept (is_wanted wanted) is_there (λ row asked. both_from (type_number row.0 == type_number wanted.kind) (is_of (index_number by row.1.entries) number) (asked_typed wanted row asked) (all.each row asked)) rows
 
@@ -141,7 +159,7 @@ module _ (pattern number : ℕ) (wildcard : IsWildcard pattern) (covers : covers
   number_between =
       both_from (nat_le pattern number) (nat_lt number (pattern + 2 ^ 48)) (at_least pattern number (omega (arith, one_isd, wildcard.asn))) (below number (pattern + 2 ^ 48) (omega (arith, one_isd, wildcard.asn)))
 
-module _ (e : End) (wanted : Wanted) (rows : List RowView) (index_keys walk : List IndexKey) (index : IsEndIndex (index_number (OneEnd e)) rows index_keys) (wildcard : IsWildcard (pattern_at e wanted)) where
+module _ (e : End) (wanted : Wanted) (rows : List RowView) (index_keys walk : List IndexKey) (index : IsRowIndex (index_number (OneEnd e)) rows index_keys) (wildcard : IsWildcard (pattern_at e wanted)) where
   abbrev low : ℕ
   low = pattern_at e wanted
 
@@ -153,7 +171,7 @@ module _ (e : End) (wanted : Wanted) (rows : List RowView) (index_keys walk : Li
 
   module _ (k : List ℕ) (row : RowView) (there : row_under k rows ≡ Some row) (asked : is_wanted wanted row ≡ true) where
     its_index_key : ℕ → IndexKey
-    its_index_key number = record { kind = type_number row.0; isd_as = number; id = segment_digest row.1; long = digest-length row.1 }
+    its_index_key number = record { kind = type_number row.0; isd_as = number; id = segment_digest row.1; row = Some row }
 
     at_entry : (o : Option EntryView) → entry_at_end e row.1.entries ≡ o → covers_entry low o ≡ true → has_key k (filter is_between index_keys) ≡ true
     unfolding key_of its_index_key
@@ -162,13 +180,16 @@ module _ (e : End) (wanted : Wanted) (rows : List RowView) (index_keys walk : Li
         let key_is_its : k ≡ key_of row = its_key k row (found_is_under k rows row there) in
         let found = subst (λ l. row_under l rows ≡ Some row) key_is_its there in
         let of : is_of (index_number (OneEnd e) row.1.entries) entry.ia ≡ true = ap (λ o. is_of (option_map (λ x. x.ia) o) entry.ia) is ∙ number_itself entry.ia in
-        key_there k is_between moved (its_index_key entry.ia) index_keys (index (its_index_key entry.ia) ∙ ap (ends_at (index_number (OneEnd e)) entry.ia) found ∙ of)
+        key_there k is_between moved (its_index_key entry.ia) index_keys (index.keys (its_index_key entry.ia) ∙ ap (ends_at (index_number (OneEnd e)) entry.ia) found ∙ of)
         (both_from (type_number row.0 == type_number wanted.kind) (nat_le low entry.ia && nat_lt entry.ia (low + 2 ^ 48)) (asked_typed wanted row asked) (number_between low entry.ia wildcard covers))
         (subst (λ l. is_key k l ≡ true) key_is_its (is_key_itself k))
 
   pub keys_between : walk ≡ filter is_between index_keys → HasKeysOf (is_wanted wanted) rows walk
   keys_between is =
       λ k row there asked. subst (λ l. has_key k l ≡ true) (sym is) (at_entry k row there asked (entry_at_end e row.1.entries) refl (asked_at wanted row asked e))
+
+  pub current_between : walk ≡ filter is_between index_keys → AllByRecursion (IsCurrent rows) walk
+  current_between is = subst (AllByRecursion (IsCurrent rows)) (sym is) (current_filtered rows is_between index_keys index.current)
 
 -- ---- the answer, with no id and after an id
 

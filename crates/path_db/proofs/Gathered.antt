@@ -6,11 +6,13 @@ use Rattle.std.specs.Cmp.Lexicographic.{slice_cmp}
 use Rattle.std.specs.Option.{option_to_list}
 use Rattle.std.proofs.lemmas.Bool.{false≢true}
 use Rattle.std.proofs.lemmas.Map.Lookups.{exact_bytes}
-use Rattle.end_index.specs.declared.index_key.IndexKey.{IndexKey}
+use Rattle.seg_core.specs.SegmentView.{SegmentView}
+use Rattle.end_index.specs.IndexKey.{IndexKey}
 use Rattle.row_map.specs.Database.{RowView, IsRising, is_under, row_under}
 use Rattle.row_map.specs.Left.{kept_if}
 use Rattle.row_map.specs.RowMap.{HasRowPut, indexed_key}
 use Rattle.row_map.specs.Saved.{is_key}
+use Rattle.path_db.specs.Answer.{segments_of}
 use Rattle.path_db.specs.Walk.{has_key}
 use Rattle.row_map.proofs.Exports.{rising_filtered, its_key, equal_from, test_leaves, database_is_canonical, found_is_under, either_from}
 
@@ -25,22 +27,24 @@ pub record IsGathering (w : RowView → Bool) (rows found : List RowView) (left 
 
 -- ---- the row at an index key, where it passes the test
 
+-- the row of a segment that was found
+abbrev pub IsRowFound : (RowView → Bool) → Option RowView → SegmentView → Type 0
+IsRowFound w o segment = (r : RowView) × (o ≡ Some r) × (w r ≡ true) × (r.1 ≡ segment)
+
 module _ (w : RowView → Bool) where
-  passes : (b : Bool) (r s : RowView) → w s ≡ b → r ∷ [] ≡ cond b (s ∷ []) [] → (Some s ≡ Some r) × (w r ≡ true)
-  passes true r s e same =
-      let one : r ≡ s = cc in
-      (ap Some (sym one), ap w one ∙ e)
-  passes false r s e same = absurd (cc (same))
+  passes : (b : Bool) (r : RowView) (segment : SegmentView) → w r ≡ b → segment ∷ [] ≡ segments_of (cond b (r ∷ []) []) → (w r ≡ true) × (r.1 ≡ segment)
+  passes true r segment e same = (e, let one : r.1 ≡ segment = cc in one)
+  passes false r segment e same = absurd (cc (same))
 
-  pub one_passes : (o : Option RowView) (r : RowView) → r ∷ [] ≡ filter w (option_to_list o ++ []) → (o ≡ Some r) × (w r ≡ true)
-  one_passes None r same = absurd (cc (same))
-  one_passes (Some s) r same = passes (w s) r s refl same
+  pub one_passes : (o : Option RowView) (segment : SegmentView) → segment ∷ [] ≡ segments_of (filter w (option_to_list o ++ [])) → IsRowFound w o segment
+  one_passes None segment same = absurd (cc (same))
+  one_passes (Some r) segment same = let it = passes (w r) r segment refl same in (r, refl, it.0, it.1)
 
-  fails : (b : Bool) (s : RowView) → w s ≡ b → [] ≡ cond b (s ∷ []) [] → w s ≡ false
-  fails true s e same = absurd (cc (same))
-  fails false s e same = e
+  fails : (b : Bool) (r : RowView) → w r ≡ b → [] ≡ segments_of (cond b (r ∷ []) []) → w r ≡ false
+  fails true r e same = absurd (cc (same))
+  fails false r e same = e
 
-  pub none_passes : (o : Option RowView) → [] ≡ filter w (option_to_list o ++ []) → (s : RowView) → o ≡ Some s → w s ≡ false
+  pub none_passes : (o : Option RowView) → [] ≡ segments_of (filter w (option_to_list o ++ [])) → (s : RowView) → o ≡ Some s → w s ≡ false
   none_passes None same s e = absurd (cc (e))
   none_passes (Some r) same s e = subst (λ t. w t ≡ false) (let one : r ≡ s = cc in one) (fails (w r) r refl same)
 

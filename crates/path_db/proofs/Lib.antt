@@ -7,12 +7,14 @@ mod Covered
 mod Removed
 mod ShownLeft
 mod ShownFirst
+mod Current
 mod Walked
 mod After
 mod Asked
 mod Gathered
 mod Commands
 mod Newest
+mod Elements
 mod Kept
 mod Counts
 mod Members

@@ -1,17 +1,19 @@
 -- The index keys after a removal: for `remove`.
-use Rattle.std.proofs.Common.{◌≡◌, ℕ, Bool, true, false, not, ◌&&◌, List, if◌then◌else◌, Some, None, refl, sym, ap, ◌∙◌, subst}
+use Rattle.std.proofs.Common.{◌≡◌, ℕ, Bool, true, false, not, ◌&&◌, List, [], ◌∷◌, if◌then◌else◌, Option, Some, None, refl, sym, ap, ◌∙◌, subst}
+use Rattle.std.specs.List.{AllByRecursion}
 use Rattle.std.specs.Ordering.{nat_cmp}
 use Rattle.std.specs.Cmp.Lexicographic.{slice_cmp}
 use Rattle.std.proofs.lemmas.Bool.{false≢true}
 use Rattle.std.proofs.lemmas.Map.Lookups.{exact_bytes}
-use Rattle.end_index.specs.declared.index_key.IndexKey.{IndexKey}
-use Rattle.end_index.specs.IndexKey.{has, is_same}
+use Rattle.end_index.specs.IndexKey.{IndexKey, has, is_same}
 use Rattle.row_map.specs.Database.{RowView, IsRising, is_under, row_under}
 use Rattle.row_map.specs.Drops.{database_after_removal}
 use Rattle.row_map.specs.RowMap.{indexed_key}
 use Rattle.row_map.specs.Saved.{is_key}
-use Rattle.row_map.specs.EndKeys.{is_of, is_index_key, ends_at, stands, IsEndIndex}
+use Rattle.row_map.specs.EndKeys.{is_of, is_index_key, ends_at, stands, row_of_key, IsEndIndex, IsRowIndex, IsCurrent, IsTakenOut}
 use Rattle.row_map.proofs.Exports.{its_key, equal_from, rising_filtered, database_is_canonical, found_is_under, removal_leaves, is_key_itself, EndOf, same_if, same_from, one_index_key, both_from}
+use Rattle.path_db.proofs.Current.{known_from, current_from}
+use Rattle.path_db.proofs.Walked.{all_there}
 
 -- ---- a removal
 
@@ -47,14 +49,40 @@ module _ (end : EndOf) (rows : List RowView) (rising : IsRising rows) (l : List 
   removed_index_key q false c before after e of index taken =
       taken ∙ ap (λ b. not b && has before q) (other_index_key q (is_same q p) refl e) ∙ index q
 
-  pub removed_index : (before after : List IndexKey) (left : List RowView) → left ≡ database_after_removal rows l → IsEndIndex end rows before → ((q : IndexKey) → has after q ≡ (not (is_same q p) && has before q)) → IsEndIndex end left after
-  removed_index before after left is index taken q =
+  removed_keys : (before after : List IndexKey) (left : List RowView) → left ≡ database_after_removal rows l → IsEndIndex end rows before → ((q : IndexKey) → has after q ≡ (not (is_same q p) && has before q)) → IsEndIndex end left after
+  removed_keys before after left is index taken q =
       removed_index_key q (is_key (indexed_key q) l) (is_of (end row.1.entries) q.isd_as) before after refl refl index (taken q)
       ∙ sym (ap (λ rows. stands end rows q) is ∙ ap (ends_at end q.isd_as) (removal_leaves (indexed_key q) l rows rising))
 
+  -- an index key of a row has the row that was under it
+  still : (q : IndexKey) (b : Bool) (found now : Option RowView) → now ≡ (if b then None else found) → ends_at end q.isd_as now ≡ true → found ≡ now
+  still q true found now is there = absurd (false≢true (sym (ap (ends_at end q.isd_as) is) ∙ there))
+  still q false found now is there = sym is
+
+  still_each : (left : List RowView) → left ≡ database_after_removal rows l → (xs : List IndexKey) → AllByRecursion (λ q. stands end left q ≡ true) xs → AllByRecursion (IsCurrent rows) xs → AllByRecursion (IsCurrent left) xs
+  still_each left is [] there current = tt
+  still_each left is (q ∷ xs) there current =
+      let leaves = ap (row_under (indexed_key q)) is ∙ removal_leaves (indexed_key q) l rows rising in
+      (current.0 ∙ still q (is_key (indexed_key q) l) (row_under (indexed_key q) rows) (row_under (indexed_key q) left) leaves there.0, still_each left is xs there.1 current.1)
+
+-- each index key of an index is that of a row
+stands_each : (end : EndOf) (rows : List RowView) (after xs : List IndexKey) → IsEndIndex end rows after → AllByRecursion (λ q. has after q ≡ true) xs → AllByRecursion (λ q. stands end rows q ≡ true) xs
+stands_each end rows after [] index all = tt
+stands_each end rows after (q ∷ xs) index all = (sym (index q) ∙ all.0, stands_each end rows after xs index all.1)
+
+pub removed_index : (end : EndOf) (rows : List RowView) (l : List ℕ) (row : RowView) (before after : List IndexKey) (left : List RowView) → IsRising rows → row_under l rows ≡ Some row → left ≡ database_after_removal rows l → IsRowIndex end rows before
+    → IsTakenOut end row before after → IsRowIndex end left after
+removed_index end rows l row before after left rising there is index taken =
+    let keys = removed_keys end rows rising l row there taken.index_key taken.its before after left is index.keys taken.gone in
+    let current = current_from rows (λ q. false && not (is_same q taken.index_key)) (λ q. refl) after (taken.rows (λ q. false) (row_of_key rows) (known_from rows (λ q. false) before index.current)) in
+    record {
+      keys = keys;
+      current = still_each end rows rising l row there taken.index_key taken.its left is after (stands_each end left after after keys (all_there after)) current;
+    }
+
 -- where no row is under a key, a removal keeps all index keys
-pub kept_index : (end : EndOf) (rows left : List RowView) (index_keys : List IndexKey) → left ≡ rows → IsEndIndex end rows index_keys → IsEndIndex end left index_keys
-kept_index end rows left index_keys same index q = index q ∙ ap (λ rows. stands end rows q) (sym same)
+pub kept_index : (end : EndOf) (rows left : List RowView) (index_keys : List IndexKey) → left ≡ rows → IsRowIndex end rows index_keys → IsRowIndex end left index_keys
+kept_index end rows left index_keys same index = subst (λ r. IsRowIndex end r index_keys) (sym same) index
 
 -- a removal under a key without a row changes nothing
 pub none_to_remove : (l : List ℕ) (rows : List RowView) → IsRising rows → row_under l rows ≡ None → database_after_removal rows l ≡ rows

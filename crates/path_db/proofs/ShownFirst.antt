@@ -3,7 +3,7 @@
 use Rattle.std.proofs.Common.{◌≡◌, ℕ, zero, suc, ◌<◌, ◌≤◌, Bool, List, [], ◌∷◌, ◌++◌, length, take, refl, sym, ap, ◌∙◌, arith}
 use Rattle.std.proofs.lemmas.List.{append_assoc, length-append}
 use Rattle.std.specs.List.{filter}
-use Rattle.std.proofs.lemmas.List.{take-map, length-map, map-append}
+use Rattle.std.proofs.lemmas.List.{take-map, length-map}
 use Rattle.std.proofs.Math.Seq.{take-append_seam}
 use Rattle.seg_core.specs.SegmentView.{SegmentView}
 use Rattle.row_map.specs.Database.{RowView}
@@ -30,18 +30,17 @@ take_again zero xs ys = refl
 take_again (suc n) [] ys = refl
 take_again (suc n) (x ∷ xs) ys = ap (λ l. x ∷ l) (take_again n xs ys)
 
-pub first_more : (n : ℕ) (w : RowView → Bool) (rows left more some : List RowView) (found new : List SegmentView) → ShowsFirst n w rows found left → filter w left ≡ some ++ filter w more → new ≡ take n (found ++ segments_of some) → ShowsFirst n w rows new more
+pub first_more : (n : ℕ) (w : RowView → Bool) (rows left more : List RowView) (some found new : List SegmentView) → ShowsFirst n w rows found left → segments_of (filter w left) ≡ some ++ segments_of (filter w more) → new ≡ take n (found ++ some) → ShowsFirst n w rows new more
 first_more n w rows left more some found new first split is =
-    first ∙ ap (λ l. take n (found ++ segments_of l)) split
-    ∙ ap (λ l. take n (found ++ l)) (map-append (λ (row : RowView). row.1) some (filter w more))
-    ∙ ap (take n) (sym (append_assoc found (segments_of some) (segments_of (filter w more))))
-    ∙ sym (take_again n (found ++ segments_of some) (segments_of (filter w more)))
+    first ∙ ap (λ l. take n (found ++ l)) split
+    ∙ ap (take n) (sym (append_assoc found some (segments_of (filter w more))))
+    ∙ sym (take_again n (found ++ some) (segments_of (filter w more)))
     ∙ sym (ap (λ l. take n (l ++ segments_of (filter w more))) is)
 
-pub first_some : (n : ℕ) (w : RowView → Bool) (rows left more some : List RowView) (found : List SegmentView) → ShowsFirst n w rows found left → filter w left ≡ some ++ filter w more → length found < n → 0 < length some → 0 < length (take n (filter w rows))
+pub first_some : (n : ℕ) (w : RowView → Bool) (rows left more : List RowView) (some found : List SegmentView) → ShowsFirst n w rows found left → segments_of (filter w left) ≡ some ++ segments_of (filter w more) → length found < n → 0 < length some → 0 < length (take n (filter w rows))
 first_some n w rows left more some found first split less there =
-    let left_some : 0 < length (filter w left) = omega (arith, ap length split, length-append some (filter w more)) in
-    let ours : 0 < length (found ++ segments_of (filter w left)) = omega (arith, left_some, length-append found (segments_of (filter w left)), length-map (filter w left) (λ (r : RowView). r.1)) in
+    let left_some : 0 < length (segments_of (filter w left)) = omega (arith, there, ap length split, length-append some (segments_of (filter w more))) in
+    let ours : 0 < length (found ++ segments_of (filter w left)) = omega (arith, left_some, length-append found (segments_of (filter w left))) in
     let taken : 0 < length (take n (found ++ segments_of (filter w left))) = take_some n (found ++ segments_of (filter w left)) (omega (arith, less)) ours in
     let same = ap length (first ∙ refl) in
     let mapped = ap length (take-map (λ (row : RowView). row.1) n (filter w rows)) in

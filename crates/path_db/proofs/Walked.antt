@@ -8,21 +8,19 @@ use Rattle.std.specs.Option.{option_to_list}
 use Rattle.std.specs.declared.cmp.Ordering.TheVariants.{Less, Equal}
 use Rattle.std.proofs.lemmas.Bool.{false≢true}
 use Rattle.std.proofs.lemmas.Bool.Decides.{eqb_tells}
-use Rattle.std.specs.Cmp.{IsTotalOrder, both_ways}
+use Rattle.std.specs.Cmp.{both_ways}
 use Rattle.std.specs.BTreeSet.{BTreeSet}
-use Rattle.std.proofs.lemmas.Cmp.{nat_cmp_total, nat_list_cmp_total, tied_itself, on_total, then_total}
+use Rattle.std.proofs.lemmas.Cmp.{nat_cmp_total, tied_itself}
 use Rattle.std.proofs.lemmas.List.Elements.{recursion_from_All}
 use Rattle.std.proofs.lemmas.Map.Views.{All-set_contains}
-use Rattle.seg_check.proofs.Exports.{digest-length}
 use Rattle.std.proofs.lemmas.Map.Lookups.{exact_bytes}
 use Rattle.isd_as.specs.IsdAs.{part_covers, covers_number}
-use Rattle.seg_core.specs.declared.seg_type.SegType.{SegType}
 use Rattle.std.specs.Option.{option_map}
 use Rattle.seg_core.specs.SegmentView.{EntryView}
 use Rattle.seg_core.specs.Registration.{type_number}
 use Rattle.seg_core.specs.Digest.{segment_digest}
-use Rattle.end_index.specs.declared.index_key.IndexKey.{IndexKey}
-use Rattle.end_index.specs.IndexKey.{index_key_cmp, is_same, has, stands_at}
+use Rattle.end_index.specs.IndexKey.{IndexKey, index_key_cmp, is_same, has, stands_at}
+use Rattle.end_index.specs.Order.{index_key_total}
 use Rattle.row_map.specs.Database.{RowView, key_of, IsRising, is_under, row_under}
 use Rattle.row_map.specs.Left.{kept_if}
 use Rattle.row_map.specs.RowMap.{indexed_key}
@@ -113,11 +111,8 @@ module _ (rows : List RowView) (k : List ℕ) where
 
 -- ---- the rows at the index keys
 
-index_key_total : IsTotalOrder index_key_cmp
-index_key_total = then_total (on_total (λ (p : IndexKey). p.kind) nat_cmp_total) (then_total (on_total (λ (p : IndexKey). p.isd_as) nat_cmp_total) (on_total (λ (p : IndexKey). p.id) nat_list_cmp_total))
-
 -- each of the index keys is in the list
-all_there : (index_keys : List IndexKey) → AllByRecursion (λ x. has index_keys x ≡ true) index_keys
+pub all_there : (index_keys : List IndexKey) → AllByRecursion (λ x. has index_keys x ≡ true) index_keys
 all_there index_keys =
     let set : BTreeSet IndexKey = record { keys = index_keys } in
     recursion_from_All (λ x. has index_keys x ≡ true) index_keys (All-set_contains index_key_total set)
@@ -149,7 +144,7 @@ module _ (end : EndOf) (rows : List RowView) (index_keys : List IndexKey) (kind 
     key_is_its = its_key k r (found_is_under k rows r there)
 
     its_index_key : IndexKey
-    its_index_key = record { kind = type_number r.0; isd_as = number; id = segment_digest r.1; long = digest-length r.1 }
+    its_index_key = record { kind = type_number r.0; isd_as = number; id = segment_digest r.1; row = Some r }
 
     from_row : is_there r ≡ true → has_key k (filter (stands_at kind number) index_keys) ≡ true
     unfolding key_of its_index_key

@@ -4,15 +4,13 @@ use Rattle.std.specs.List.{list_any}
 use Rattle.std.specs.Borrow.{Bor}
 use Rattle.std.specs.Option.{option_map, option_to_list}
 use Rattle.isd_as.specs.IsdAs.{has_zero_part}
-use Rattle.end_index.specs.declared.index_key.IndexKey.{IndexKey}
-use Rattle.end_index.specs.IndexKey.{is_after_id}
-use Rattle.row_map.specs.declared.row.Row.{Row}
+use Rattle.seg_core.specs.SegmentView.{SegmentView}
+use Rattle.end_index.specs.IndexKey.{IndexKey, is_after_id}
 use Rattle.row_map.specs.declared.end.End.TheVariants.{First, Last}
 use Rattle.row_map.specs.declared.end.By.TheVariants.{OneEnd, BothEnds}
-use Rattle.row_map.specs.EndKeys.{index_number, IsEndIndex}
+use Rattle.row_map.specs.EndKeys.{index_number, IsRowIndex}
 use Rattle.path_db.specs.declared.ways.Indexes.{Indexes}
 use Rattle.row_map.specs.Database.{RowView, row_under}
-use Rattle.row_map.specs.Row.{row_view}
 use Rattle.row_map.specs.RowMap.{indexed_key}
 use Rattle.row_map.specs.Saved.{is_key}
 
@@ -37,10 +35,15 @@ abbrev pub rows_at : List RowView → List IndexKey → List RowView
 rows_at rows [] = []
 rows_at rows (index_key ∷ index_keys) = option_to_list (row_under (indexed_key index_key) rows) ++ rows_at rows index_keys
 
--- The rows of the references that are present.
-abbrev pub rows_there : List (Option (Bor Row)) → List RowView
-rows_there [] = []
-rows_there (row ∷ rows) = option_to_list (option_map (λ r. row_view r.now) row) ++ rows_there rows
+-- The rows that these index keys have, in their order.
+abbrev pub rows_in : List IndexKey → List RowView
+rows_in [] = []
+rows_in (index_key ∷ index_keys) = option_to_list index_key.row ++ rows_in index_keys
+
+-- The segments of the references that are present.
+abbrev pub segments_there : List (Option (Bor SegmentView)) → List SegmentView
+segments_there [] = []
+segments_there (segment ∷ segments) = option_to_list (option_map (λ s. s.now) segment) ++ segments_there segments
 
 -- An index key's id is above this one, where an id is given.
 abbrev pub is_past_id : Option (List ℕ) → IndexKey → Bool
@@ -55,8 +58,8 @@ has_key k index_keys = list_any (λ q. is_key k (indexed_key q)) index_keys
 abbrev pub HasKeysOf : (RowView → Bool) → List RowView → List IndexKey → Type 0
 HasKeysOf test rows index_keys = (k : List ℕ) (row : RowView) → row_under k rows ≡ Some row → test row ≡ true → has_key k index_keys ≡ true
 
--- The indexes have exactly the index keys of the rows.
+-- The indexes have exactly the rows.
 pub record AreIndexes (rows : List RowView) (indexes : Indexes) : Type 0 where
-  pub first : IsEndIndex (index_number (OneEnd First)) rows indexes.by_first.now
-  pub last : IsEndIndex (index_number (OneEnd Last)) rows indexes.by_last.now
-  pub isds : IsEndIndex (index_number BothEnds) rows indexes.by_isds.now
+  pub first : IsRowIndex (index_number (OneEnd First)) rows indexes.by_first.now
+  pub last : IsRowIndex (index_number (OneEnd Last)) rows indexes.by_last.now
+  pub isds : IsRowIndex (index_number BothEnds) rows indexes.by_isds.now

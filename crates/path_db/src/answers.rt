@@ -2,25 +2,28 @@
 
 ghost use Rattle.std.specs.Prelude.{◌≡◌, ◌+◌, ◌<◌, ◌≤◌, ◌∷◌, ◌++◌, [], length, take, filter, None, IfSome, IfOk, OnOk, OnErr, IsTrue};
 ghost use Rattle.std.specs.List.{AllByRecursion};
-ghost use Rattle.std.specs.Option.{option_map};
+ghost use Rattle.std.specs.Option.{option_map, option_to_list};
 ghost use Rattle.isd_as.specs.IsdAs.{isd_as_number};
 ghost use Rattle.seg_core.specs.Encoding.{IsSegment};
 ghost use Rattle.seg_core.specs.EntryView.{entry_view, entry_views};
 ghost use Rattle.seg_slots.specs.Message.{last_of};
-ghost use Rattle.row_map.specs.Row.{row_view, row_views};
+ghost use Rattle.std.specs.Ordering.{nat_cmp};
+ghost use Rattle.std.specs.Cmp.Lexicographic.{slice_cmp};
+ghost use Rattle.row_map.specs.Database.{key, key_of};
 ghost use Rattle.path_db.specs.Answer.{covers_entry, matches, segments_of};
 ghost use Rattle.row_map.specs.Ends.{first_entry_of};
 ghost use Rattle.row_map.specs.declared.end.By.TheVariants.{OneEnd, BothEnds};
 ghost use Rattle.path_db.specs.Wanted.{AllHave, answer_to_wanted, is_past, is_wanted, pattern_at};
-ghost use Rattle.path_db.specs.Walk.{IsExact, rows_at, rows_there};
+ghost use Rattle.path_db.specs.Walk.{IsExact, rows_in, segments_there};
 
 use crate::visits::Visits;
-use end_index::{IndexKey, IndexKeys};
+use end_index::{IndexKeys, IndexRow};
 use isd_as::{IsdAs, covers};
-use row_map::{By, End, Row, RowMap, RowRange, isds_number};
+use row_map::{By, End, RowRange, isds_number};
 use seg_check::expiry;
 use seg_core::{Entry, SegType, Segment};
 use std::alloc::{AllocError, Global};
+use std::cmp::Ordering;
 
 /// The rows that a lookup asks for: of a type, with a first and a last entry that are covered,
 /// valid beyond a moment, and with an id above a given one.
@@ -36,19 +39,19 @@ pub(crate) struct Wanted {
 }
 
 impl Wanted {
-    /// Whether the lookup asks for this row.
-    fn is_shown(&self, row: &Row) -> bool
-        ensures { result ≡ is_wanted self.now (row_view row.now) }
+    /// Whether the lookup asks for the row of this type and this segment.
+    fn asks_for(&self, kind: SegType, segment: &Segment) -> bool
+        ensures { result ≡ is_wanted self.now (kind, segment.now) }
     {
-        self.matches(row) && self.moment < expiry(&row.segment) && self.is_past(row)
+        self.matches(kind, segment) && self.moment < expiry(segment) && self.is_past(kind, segment)
     }
 
-    /// Whether the row's id is above the one after which the lookup goes on. The row is of the type.
-    fn is_past(&self, row: &Row) -> bool
-        ensures { result ≡ is_past self.now.kind self.now.after (row_view row.now) }
+    /// Whether the row's key is above the one after which the lookup goes on.
+    fn is_past(&self, kind: SegType, segment: &Segment) -> bool
+        ensures { result ≡ is_past self.now.kind self.now.after (kind, segment.now) }
     {
         match &self.after {
-            Some(id) => row.cmp_key(self.kind, id).is_gt(),
+            Some(id) => cmp_key(kind, segment, self.kind, id).is_gt(),
             None => true,
         }
     }
@@ -95,24 +98,36 @@ impl Wanted {
         Some(isds_number(self.start.to_u64(), self.end.to_u64()))
     }
 
-    /// The row, where there is one and the lookup asks for it.
-    pub(crate) fn shown<'a>(&self, row: Option<&'a Row>) -> Option<&'a Row>
-        ensures { rows_there (result ∷ []) ≡ filter (is_wanted self.now) (rows_there (row.entry ∷ [])) }
+    /// The segment of an index row, where there is one and the lookup asks for it.
+    pub(crate) fn shown<'a>(&self, index_row: Option<&'a IndexRow>) -> Option<&'a Segment>
+        ensures { segments_there (result ∷ [])
+            ≡ segments_of (filter (is_wanted self.now) (rows_in (option_to_list (option_map (λ q. q.now) index_row.entry)))) }
     {
-        match row {
-            Some(row) if self.is_shown(row) => Some(row),
-            _ => None,
+        let (kind, segment) = index_row?.row()?;
+        if self.asks_for(kind, segment) {
+            return Some(segment);
         }
+        None
     }
 
     /// Whether the row is of the type, and its ends are covered.
-    fn matches(&self, row: &Row) -> bool
-        ensures { result ≡ matches self.now.kind (isd_as_number self.now.start) (isd_as_number self.now.end) (row_view row.now) }
+    fn matches(&self, kind: SegType, segment: &Segment) -> bool
+        ensures { result ≡ matches self.now.kind (isd_as_number self.now.start) (isd_as_number self.now.end) (kind, segment.now) }
     {
-        let entries = row.segment.entries();
-        row.kind.number() == self.kind.number()
+        let entries = segment.entries();
+        kind.number() == self.kind.number()
             && covers_first(self.start, entries)
             && covers_last(self.end, entries)
+    }
+}
+
+/// The order of the key of a row and the key of a type and an id.
+fn cmp_key(kind: SegType, segment: &Segment, other: SegType, id: &[u8; 32]) -> Ordering
+    ensures { result ≡ slice_cmp nat_cmp (key_of (kind, segment.now)) (key other id.now) }
+{
+    match kind.number().cmp(&other.number()) {
+        Ordering::Equal => segment.digest().as_slice().cmp(&id.as_slice()),
+        unequal => unequal,
     }
 }
 
@@ -172,115 +187,101 @@ pub(crate) fn first_shown(
         if !visits.take(1) {
             return Ok(None);
         }
-        if wanted.is_shown(row) {
+        if wanted.asks_for(row.kind, &row.segment) {
             found.push(row.segment.try_clone()?)?;
         }
     }
     Ok(Some(found))
 }
 
-/// The row at the next index key. `None` where no index key is left, or no row is at it.
-fn next_row<'a>(rows: &'a RowMap, index_keys: &mut IndexKeys<'_>) -> Option<&'a Row>
-    ensures row { rows_at rows.now index_keys.old ≡ rows_there (result ∷ []) ++ rows_at rows.now index_keys.new }
-    ensures fewer { length index_keys.new ≤ length index_keys.old }
-{
-    match index_keys.next() {
-        Some(index_key) => rows.at(index_key),
-        None => None,
-    }
-}
-
-/// The rows at an index key and the next three that the lookup asks for. All four are read before
-/// any is shared, so that the processor waits for their memory at the same time.
+/// The segments of an index row and of the next three that the lookup asks for. All four are read
+/// before any is shared, so that the processor waits for their memory at the same time.
 fn next_shown<'a>(
-    rows: &'a RowMap,
-    index_key: &IndexKey,
-    index_keys: &mut IndexKeys<'_>,
+    index_row: &'a IndexRow,
+    index_keys: &mut IndexKeys<'a>,
     wanted: &Wanted,
-) -> [Option<&'a Row>; 4]
-    ensures same { filter (is_wanted wanted.now) (rows_at rows.now (index_key.now ∷ index_keys.old))
-        ≡ rows_there result ++ filter (is_wanted wanted.now) (rows_at rows.now index_keys.new) }
+) -> [Option<&'a Segment>; 4]
+    ensures same { segments_of (filter (is_wanted wanted.now) (rows_in (index_row.now ∷ index_keys.old)))
+        ≡ segments_there result ++ segments_of (filter (is_wanted wanted.now) (rows_in index_keys.new)) }
     ensures fewer { length index_keys.new ≤ length index_keys.old }
 {
-    let first = rows.at(index_key);
-    let second = next_row(rows, index_keys);
-    let third = next_row(rows, index_keys);
-    let fourth = next_row(rows, index_keys);
+    let second = index_keys.next();
+    let third = index_keys.next();
+    let fourth = index_keys.next();
     [
-        wanted.shown(first),
+        wanted.shown(Some(index_row)),
         wanted.shown(second),
         wanted.shown(third),
         wanted.shown(fourth),
     ]
 }
 
-/// Appends the segments of rows, up to `limit` segments in all.
+/// Appends segments, up to `limit` in all.
 fn append_shown(
     found: &mut Vec<Segment>,
-    rows: &[Option<&Row>],
+    segments: &[Option<&Segment>],
     limit: usize,
 ) -> Result<(), AllocError>
     requires few { length found.old.items ≤ limit }
     requires whole { AllByRecursion IsSegment found.old.items }
-    ensures same { OnOk result (found.new.items ≡ take limit (found.old.items ++ segments_of (rows_there rows.now))) }
+    ensures same { OnOk result (found.new.items ≡ take limit (found.old.items ++ segments_there segments.now)) }
     ensures whole { OnOk result (AllByRecursion IsSegment found.new.items) }
-    ensures memory { OnErr result ((length found.old.items < limit) × (0 < length (rows_there rows.now))) }
+    ensures memory { OnErr result ((length found.old.items < limit) × (0 < length (segments_there segments.now))) }
 {
-    match rows {
+    match segments {
         [] => Ok(()),
-        [row, rest @ ..] => {
-            append_if_shown(found, *row, limit)?;
+        [segment, rest @ ..] => {
+            append_if_shown(found, *segment, limit)?;
             append_shown(found, rest, limit)
         }
     }
 }
 
-/// Appends the segment of a row, where there is one and fewer than `limit` segments are there.
+/// Appends a segment, where there is one and fewer than `limit` segments are there.
 fn append_if_shown(
     found: &mut Vec<Segment>,
-    row: Option<&Row>,
+    segment: Option<&Segment>,
     limit: usize,
 ) -> Result<(), AllocError>
     requires few { length found.old.items ≤ limit }
     requires whole { AllByRecursion IsSegment found.old.items }
-    ensures same { OnOk result (found.new.items ≡ take limit (found.old.items ++ segments_of (rows_there (row.entry ∷ [])))) }
+    ensures same { OnOk result (found.new.items ≡ take limit (found.old.items ++ segments_there (segment.entry ∷ []))) }
     ensures whole { OnOk result (AllByRecursion IsSegment found.new.items) }
-    ensures memory { OnErr result ((length found.old.items < limit) × (0 < length (rows_there (row.entry ∷ [])))) }
+    ensures memory { OnErr result ((length found.old.items < limit) × (0 < length (segments_there (segment.entry ∷ [])))) }
 {
-    if let Some(row) = row {
+    if let Some(segment) = segment {
         if found.len() < limit {
-            found.push(row.segment.try_clone()?)?;
+            found.push(segment.try_clone()?)?;
         }
     }
     Ok(())
 }
 
-/// The segments of the first rows at index keys that the lookup asks for, at most `limit`. `None`
-/// means that not enough rows may be visited.
+/// The segments of the first index rows that the lookup asks for, at most `limit`. `None` means that
+/// not enough rows may be visited.
 pub(crate) fn shown_at(
     alloc: Global,
-    rows: &RowMap,
     index_keys: IndexKeys<'_>,
     wanted: Wanted,
     limit: usize,
     visits: &mut Visits,
 ) -> Result<Option<Vec<Segment>>, AllocError>
-    ensures same { IfOk result (λ it. IfSome it (λ found. found.items ≡ segments_of (answer_to_wanted limit (rows_at rows.now index_keys.entry) wanted))) }
-    ensures memory { OnErr result (0 < length (answer_to_wanted limit (rows_at rows.now index_keys.entry) wanted)) }
+    ensures same { IfOk result (λ it. IfSome it (λ found. found.items ≡ segments_of (answer_to_wanted limit (rows_in index_keys.entry) wanted))) }
+    ensures memory { OnErr result (0 < length (answer_to_wanted limit (rows_in index_keys.entry) wanted)) }
     ensures few { IfOk result (λ it. IfSome it (λ found. length found.items ≤ limit)) }
     ensures whole { IfOk result (λ it. IfSome it (λ found. AllByRecursion IsSegment found.items)) }
     ensures visited { visits.new.count ≤ visits.old.count + visits.old.left }
 {
     let mut found = Vec::new(alloc);
     let mut index_keys = index_keys;
-    while let Some(index_key) = index_keys.next() {
+    while let Some(index_row) = index_keys.next() {
         if found.len() == limit {
             break;
         }
         if !visits.take(4) {
             return Ok(None);
         }
-        let shown = next_shown(rows, index_key, &mut index_keys, &wanted);
+        let shown = next_shown(index_row, &mut index_keys, &wanted);
         append_shown(&mut found, &shown, limit)?;
     }
     Ok(Some(found))

@@ -25,13 +25,14 @@ use crate::command::Command;
 use crate::error::ApplyError;
 use crate::indexing::{index_of_isds_and_copies, indexes_of_ends};
 use crate::outcome::Outcome;
+use crate::renewing::renew_indexed;
 use crate::visits::Visits;
 use crate::ways::{Indexes, shown_by_index, shown_by_rows};
 use end_index::EndIndex;
 use isd_as::IsdAs;
 use row_map::{
-    BUCKETS, BucketWalk, By, End, PurgeWalk, Row, RowMap, Rows, add_all, index_key_of, map_of,
-    rows_of, saved_rows, sweep, touched_keys,
+    BUCKETS, BucketWalk, By, End, PurgeWalk, Row, RowMap, Rows, add_all, map_of, rows_of,
+    saved_rows, sweep, take_out, touched_rows,
 };
 use seg_core::{SegType, Segment};
 use std::alloc::{AllocError, Global};
@@ -45,7 +46,7 @@ use std::thread::{Threads, join};
 pub struct PathDb {
     alloc: Global,
     rows: RowMap,
-    /// Whether the three indexes are kept. They are empty where they are not.
+    /// Whether the three indexes are kept.
     indexed: bool,
     by_first: EndIndex,
     by_last: EndIndex,
@@ -265,7 +266,20 @@ impl PathDb {
         if most.saturating_sub(self.bytes) < u128::from(row.len()) {
             return None;
         }
-        let change = self.rows.renew(&mut self.bytes, row)?;
+        let (change, indexed) = if self.indexed {
+            let change = renew_indexed(
+                &mut self.rows,
+                &mut self.bytes,
+                &mut self.by_first,
+                &mut self.by_last,
+                &mut self.by_isds,
+                row,
+            )?;
+            (change, true)
+        } else {
+            (self.rows.renew(&mut self.bytes, row)?, false)
+        };
+        self.indexed = indexed;
         let mut outcome = Outcome::nothing();
         outcome.count(change);
         Some(outcome)
@@ -291,9 +305,9 @@ impl PathDb {
         if !self.indexed {
             return put_all(&mut self.rows, &mut self.bytes, new, saved, most);
         }
-        let firsts = touched_keys(self.alloc, By::OneEnd(End::First), &new, &saved)?;
-        let lasts = touched_keys(self.alloc, By::OneEnd(End::Last), &new, &saved)?;
-        let isds = touched_keys(self.alloc, By::BothEnds, &new, &saved)?;
+        let firsts = touched_rows(self.alloc, By::OneEnd(End::First), &new, &saved)?;
+        let lasts = touched_rows(self.alloc, By::OneEnd(End::Last), &new, &saved)?;
+        let isds = touched_rows(self.alloc, By::BothEnds, &new, &saved)?;
         let added = add_all(
             &mut self.by_first,
             &firsts,
@@ -303,14 +317,15 @@ impl PathDb {
             &isds,
         );
         let put = put_after(added, &mut self.rows, &mut self.bytes, new, saved, most);
-        sweep(
+        let first = sweep(
             By::OneEnd(End::First),
             &mut self.by_first,
             &self.rows,
             &firsts,
         );
-        sweep(By::OneEnd(End::Last), &mut self.by_last, &self.rows, &lasts);
-        sweep(By::BothEnds, &mut self.by_isds, &self.rows, &isds);
+        let last = sweep(By::OneEnd(End::Last), &mut self.by_last, &self.rows, &lasts);
+        let isds = sweep(By::BothEnds, &mut self.by_isds, &self.rows, &isds);
+        self.indexed = first && last && isds;
         put
     }
 
@@ -406,11 +421,12 @@ impl PathDb {
         let Some(row) = self.rows.remove(kind, id) else {
             return Outcome::dropped(0);
         };
-        self.by_first
-            .remove(&index_key_of(By::OneEnd(End::First), &row));
-        self.by_last
-            .remove(&index_key_of(By::OneEnd(End::Last), &row));
-        self.by_isds.remove(&index_key_of(By::BothEnds, &row));
+        if self.indexed {
+            let first = take_out(By::OneEnd(End::First), &mut self.by_first, &row);
+            let last = take_out(By::OneEnd(End::Last), &mut self.by_last, &row);
+            let isds = take_out(By::BothEnds, &mut self.by_isds, &row);
+            self.indexed = first && last && isds;
+        }
         self.bytes -= u128::from(row.len());
         Outcome::dropped(1)
     }

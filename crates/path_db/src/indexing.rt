@@ -3,7 +3,7 @@
 ghost use Rattle.std.specs.Prelude.{◌≡◌, IfOk};
 ghost use Rattle.row_map.specs.declared.end.End.TheVariants.{First, Last};
 ghost use Rattle.row_map.specs.declared.end.By.TheVariants.{OneEnd, BothEnds};
-ghost use Rattle.row_map.specs.EndKeys.{index_number, IsEndIndex};
+ghost use Rattle.row_map.specs.EndKeys.{index_number, IsRowIndex};
 
 use end_index::EndIndex;
 use row_map::{By, End, RowMap, index_of};
@@ -19,10 +19,10 @@ pub(crate) fn indexes_of_ends<R: Threads + Sync>(
     alloc: Global,
     rows: &RowMap,
 ) -> (Pair<EndIndex>, Pair<EndIndex>)
-    ensures first { IfOk result.0 (λ pair. IsEndIndex (index_number (OneEnd First)) rows.now pair.0) }
-    ensures first_copy { IfOk result.0 (λ pair. IsEndIndex (index_number (OneEnd First)) rows.now pair.1) }
-    ensures last { IfOk result.1 (λ pair. IsEndIndex (index_number (OneEnd Last)) rows.now pair.0) }
-    ensures last_copy { IfOk result.1 (λ pair. IsEndIndex (index_number (OneEnd Last)) rows.now pair.1) }
+    ensures first { IfOk result.0 (λ pair. IsRowIndex (index_number (OneEnd First)) rows.now pair.0) }
+    ensures first_copy { IfOk result.0 (λ pair. IsRowIndex (index_number (OneEnd First)) rows.now pair.1) }
+    ensures last { IfOk result.1 (λ pair. IsRowIndex (index_number (OneEnd Last)) rows.now pair.0) }
+    ensures last_copy { IfOk result.1 (λ pair. IsRowIndex (index_number (OneEnd Last)) rows.now pair.1) }
 {
     join(
         rt,
@@ -37,8 +37,8 @@ pub(crate) fn index_of_isds_and_copies<R: Threads + Sync>(
     alloc: Global,
     rows: &RowMap,
 ) -> (Pair<EndIndex>, Pair<RowMap>)
-    ensures isds { IfOk result.0 (λ pair. IsEndIndex (index_number BothEnds) rows.now pair.0) }
-    ensures isds_copy { IfOk result.0 (λ pair. IsEndIndex (index_number BothEnds) rows.now pair.1) }
+    ensures isds { IfOk result.0 (λ pair. IsRowIndex (index_number BothEnds) rows.now pair.0) }
+    ensures isds_copy { IfOk result.0 (λ pair. IsRowIndex (index_number BothEnds) rows.now pair.1) }
     ensures rows { IfOk result.1 (λ pair. pair.0 ≡ rows.now) }
     ensures rows_copy { IfOk result.1 (λ pair. pair.1 ≡ rows.now) }
 {
@@ -51,8 +51,8 @@ pub(crate) fn index_of_isds_and_copies<R: Threads + Sync>(
 
 /// The index by this.
 fn indexed_by(alloc: Global, by: By, rows: &RowMap) -> Pair<EndIndex>
-    ensures first { IfOk result (λ pair. IsEndIndex (index_number by) rows.now pair.0) }
-    ensures second { IfOk result (λ pair. IsEndIndex (index_number by) rows.now pair.1) }
+    ensures first { IfOk result (λ pair. IsRowIndex (index_number by) rows.now pair.0) }
+    ensures second { IfOk result (λ pair. IsRowIndex (index_number by) rows.now pair.1) }
 {
     let index = index_of(alloc, by, rows)?;
     let copy = index.try_clone()?;

@@ -9,26 +9,25 @@
 //! registrations have the same rows.
 #![tactic(auto)]
 
-mod agreement;
 mod all_puts;
 mod answers;
 mod command;
-mod command_laws;
 mod database;
 mod error;
 mod indexing;
+mod laws;
 mod outcome;
-mod outcome_laws;
+mod renewing;
 mod visits;
 mod ways;
 
-pub use agreement::{registrations_commute, registrations_repeat};
 pub use command::{Command, Registration};
-pub use command_laws::{
+pub use database::PathDb;
+pub use error::ApplyError;
+pub use laws::agreement::{registrations_commute, registrations_repeat};
+pub use laws::command::{
     commands_append, commands_keep_database, database_is_canonical, keys_are_separate,
     purge_leaves_valid, register_leaves_newest, remove_leaves_others,
 };
-pub use database::PathDb;
-pub use error::ApplyError;
+pub use laws::outcome::{each_put_is_counted, rows_are_counted};
 pub use outcome::Outcome;
-pub use outcome_laws::{each_put_is_counted, rows_are_counted};

@@ -11,11 +11,10 @@ ghost use Rattle.seg_core.specs.Registration.{type_number};
 ghost use Rattle.end_index.specs.IndexKey.{index_key_cmp, stands_at, stands_between};
 ghost use Rattle.row_map.specs.declared.end.By.TheVariants.{OneEnd};
 ghost use Rattle.row_map.specs.Database.{IsRising};
-ghost use Rattle.row_map.specs.Row.{row_view};
 ghost use Rattle.row_map.specs.RowMap.{HasRowPut};
 ghost use Rattle.path_db.specs.Answer.{segments_of};
 ghost use Rattle.row_map.specs.Ranges.{is_of_type};
-ghost use Rattle.row_map.specs.EndKeys.{index_number, IsEndIndex};
+ghost use Rattle.row_map.specs.EndKeys.{index_number, IsRowIndex, IsCurrent};
 ghost use Rattle.path_db.specs.Wanted.{answer_to_wanted, is_past, is_wanted};
 ghost use Rattle.path_db.specs.Walk.{AreIndexes, IsWildcard, HasKeysOf, is_past_id};
 
@@ -23,8 +22,8 @@ use crate::answers::{Wanted, first_shown, is_indexed, shown_at};
 use crate::visits::Visits;
 use end_index::{EndIndex, IndexKeys};
 use isd_as::IsdAs;
-use row_map::{By, End, Row, RowMap, RowRange, type_byte};
-use seg_core::Segment;
+use row_map::{By, End, Row, RowMap, RowRange};
+use seg_core::{SegType, Segment};
 use std::alloc::{AllocError, Global};
 
 /// How many rows a way may visit at first, beside as many as the lookup shows at most.
@@ -222,7 +221,8 @@ fn shown_exactly(
 }
 
 /// The answer along an index, where it has all rows of the lookup by one number. `None` means that
-/// not enough rows may be visited, or that the rows may have several numbers.
+/// not enough rows may be visited, that the rows may have several numbers, or that memory was refused
+/// for the id after which the lookup goes on.
 fn shown_along(
     alloc: Global,
     rows: &RowMap,
@@ -233,7 +233,7 @@ fn shown_along(
     visits: &mut Visits,
 ) -> Result<Option<Vec<Segment>>, AllocError>
     requires rising { IsRising rows.now }
-    requires index { IsEndIndex (index_number by) rows.now index.now }
+    requires index { IsRowIndex (index_number by) rows.now index.now }
     requires some { 0 < limit }
     ensures same { IfOk result (λ it. IfSome it (λ found. found.items ≡ segments_of (answer_to_wanted limit rows.now wanted))) }
     ensures memory { OnErr result (0 < length (answer_to_wanted limit rows.now wanted)) }
@@ -244,8 +244,11 @@ fn shown_along(
     let Some(number) = wanted.number(by) else {
         return Ok(None);
     };
-    let index_keys = exact_keys(index, &wanted, number);
-    shown_at(alloc, rows, index_keys, wanted, limit, visits)
+    let _count = rows.len();
+    let Some(index_keys) = exact_keys(alloc, index, &wanted, number) else {
+        return Ok(None);
+    };
+    shown_at(alloc, index_keys, wanted, limit, visits)
 }
 
 /// The answer along the index of this end, where the pattern for it has an ISD and no AS. `None`
@@ -260,7 +263,7 @@ fn shown_by_isd(
     visits: &mut Visits,
 ) -> Result<Option<Vec<Segment>>, AllocError>
     requires rising { IsRising rows.now }
-    requires index { IsEndIndex (index_number (OneEnd end)) rows.now index.now }
+    requires index { IsRowIndex (index_number (OneEnd end)) rows.now index.now }
     requires some { 0 < limit }
     ensures same { IfOk result (λ it. IfSome it (λ found. found.items ≡ segments_of (answer_to_wanted limit rows.now wanted))) }
     ensures memory { OnErr result (0 < length (answer_to_wanted limit rows.now wanted)) }
@@ -311,15 +314,20 @@ fn is_wildcard(pattern: IsdAs) -> bool
 }
 
 /// The index keys of the type and a number, those above the id where the lookup goes on after one.
-fn exact_keys<'a>(index: &'a EndIndex, wanted: &Wanted, number: u64) -> IndexKeys<'a>
+/// `None` means that memory was refused for a copy of the id.
+fn exact_keys<'a>(
+    alloc: Global,
+    index: &'a EndIndex,
+    wanted: &Wanted,
+    number: u64,
+) -> Option<IndexKeys<'a>>
     requires { number + 1 < 2 ^ 64 }
-    ensures same { result ≡ filter (λ q. stands_at (type_number wanted.now.kind) number q && is_past_id wanted.now.after q) index.now }
+    ensures same { IfSome result (λ keys. keys ≡ filter (λ q. stands_at (type_number wanted.now.kind) number q && is_past_id wanted.now.after q) index.now) }
     ensures rising { IsStrictlySortedBy index_key_cmp index.now }
 {
-    let kind = type_byte(wanted.kind);
     match &wanted.after {
-        Some(id) => index.keys_after(kind, number, id),
-        None => index.keys_at(kind, number),
+        Some(id) => index.keys_after(alloc, wanted.kind, number, id),
+        None => Some(index.keys_at(wanted.kind, number)),
     }
 }
 
@@ -328,7 +336,7 @@ fn isd_keys<'a>(index: &'a EndIndex, wanted: &Wanted, number: u64) -> IndexKeys<
     requires { number + 2 ^ 48 < 2 ^ 64 }
     ensures { result ≡ filter (stands_between (type_number wanted.now.kind) number (number + 2 ^ 48)) index.now }
 {
-    index.keys_between(type_byte(wanted.kind), number, number + (1 << 48))
+    index.keys_between(wanted.kind, number, number + (1 << 48))
 }
 
 /// The answer from rows at index keys in any order, which are all those that the lookup asks for.
@@ -342,6 +350,7 @@ fn shown_between(
     visits: &mut Visits,
 ) -> Result<Option<Vec<Segment>>, AllocError>
     requires rising { IsRising rows.now }
+    requires current { AllByRecursion (IsCurrent rows.now) index_keys }
     requires all { HasKeysOf (is_wanted wanted) rows.now index_keys }
     requires some { 0 < limit }
     ensures same { IfOk result (λ it. IfSome it (λ found. found.items ≡ segments_of (answer_to_wanted limit rows.now wanted))) }
@@ -366,31 +375,32 @@ fn sorted_rows(
     wanted: &Wanted,
     visits: &mut Visits,
 ) -> Result<Option<RowMap>, AllocError>
-    requires rising { IsRising rows.now }
+    requires current { AllByRecursion (IsCurrent rows.now) index_keys }
     requires all { HasKeysOf (is_wanted wanted.now) rows.now index_keys }
     ensures same { IfOk result (λ it. IfSome it (λ sorted. sorted ≡ filter (is_wanted wanted.now) rows.now)) }
     ensures memory { OnErr result (0 < length (filter (is_wanted wanted.now) rows.now)) }
     ensures visited { visits.new.count ≤ visits.old.count + visits.old.left }
 {
+    let _count = rows.len();
     let mut sorted = RowMap::new(alloc);
     let mut index_keys = index_keys;
-    while let Some(index_key) = index_keys.next() {
+    while let Some(index_row) = index_keys.next() {
         if !visits.take(1) {
             return Ok(None);
         }
-        if let Some(row) = wanted.shown(rows.at(index_key)) {
-            share(&mut sorted, row)?;
+        if let Some(segment) = wanted.shown(Some(index_row)) {
+            share(&mut sorted, wanted.kind, segment)?;
         }
     }
     Ok(Some(sorted))
 }
 
-/// Puts a row among others, which shares the segment.
-fn share(rows: &mut RowMap, row: &Row) -> Result<(), AllocError>
-    ensures put { OnOk result (HasRowPut rows.old (row_view row.now) rows.new) }
+/// Puts the row of a type and a segment among others, which shares the segment.
+fn share(rows: &mut RowMap, kind: SegType, segment: &Segment) -> Result<(), AllocError>
+    ensures put { OnOk result (HasRowPut rows.old (kind, segment.now) rows.new) }
     ensures rising { OnOk result (IsRising rows.new) }
 {
-    rows.set(row.try_clone()?)?;
+    rows.set(Row::new(kind, segment.try_clone()?))?;
     Ok(())
 }
 

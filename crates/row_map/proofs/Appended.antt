@@ -1,18 +1,18 @@
 -- A row whose key is above all others: for `index_of`.
-use Rattle.std.proofs.Common.{◌≡◌, ℕ, Bool, true, false, ◌||◌, List, [], ◌∷◌, ◌++◌, if◌then◌else◌, Some, None, refl, sym, ap, ◌∙◌, subst}
+use Rattle.std.proofs.Common.{◌≡◌, ◌⊎◌, inl, inr, ℕ, Bool, true, false, ◌||◌, List, [], ◌∷◌, ◌++◌, if◌then◌else◌, Option, Some, None, refl, sym, ap, ◌∙◌, subst}
+use Rattle.std.specs.List.{AllByRecursion}
 use Rattle.std.specs.Ordering.{is_eq}
 use Rattle.std.specs.declared.cmp.Ordering.TheVariants.{Less}
 use Rattle.std.proofs.lemmas.Bool.{false≢true}
 use Rattle.std.proofs.lemmas.List.{append_assoc}
-use Rattle.end_index.specs.declared.index_key.IndexKey.{IndexKey}
-use Rattle.end_index.specs.IndexKey.{is_same, has}
+use Rattle.end_index.specs.IndexKey.{IndexKey, is_same, has, AreKnown}
 use Rattle.row_map.specs.Database.{RowView, key_of, key_order, IsRising, is_under, row_under}
 use Rattle.row_map.specs.RowMap.{indexed_key}
-use Rattle.row_map.specs.EndKeys.{is_of, is_index_key, ends_at, stands, IsEndIndex}
+use Rattle.row_map.specs.EndKeys.{is_of, is_index_key, ends_at, stands, row_of_key, IsEndIndex, IsCurrent, IsRowOf, IsRowIndex}
 use Rattle.row_map.proofs.Order.{AllAbove, turned_less}
 use Rattle.row_map.proofs.Keys.{its_key, under_first}
 use Rattle.row_map.proofs.Purged.{append_none}
-use Rattle.row_map.proofs.IndexKeys.{EndOf, same_if, same_from, one_index_key, index_key_same}
+use Rattle.row_map.proofs.IndexKeys.{EndOf, first_from, both_ways, same_if, same_from, one_index_key, index_key_same, all_of_keys}
 
 -- ---- the first ones of rows
 
@@ -53,14 +53,9 @@ under_last k (old ∷ rows) row rising =
 
 -- the tests of an index key and of a row's index key are the same
 same_key : (end : EndOf) (p q : IndexKey) (row : RowView) → is_index_key end p row ≡ true → is_same q p ≡ is_index_key end q row
-same_key end p q row its = both (is_same q p) (is_index_key end q row)
+same_key end p q row its = both_ways (is_same q p) (is_index_key end q row)
     (λ same. index_key_same end q p row (same_from q p same) ∙ its)
     (λ other. same_if q p (one_index_key end q p row other its))
-  where
-    both : (a b : Bool) → (a ≡ true → b ≡ true) → (b ≡ true → a ≡ true) → a ≡ b
-    both true b there back = sym (there refl)
-    both false true there back = back refl
-    both false false there back = refl
 
 index_last : (end : EndOf) (rows : List RowView) (row : RowView) (p : IndexKey) (before after : List IndexKey) → IsRising (rows ++ row ∷ []) → IsEndIndex end rows before
     → is_index_key end p row ≡ true → ((q : IndexKey) → has after q ≡ (is_same q p || has before q)) → IsEndIndex end (rows ++ row ∷ []) after
@@ -79,37 +74,56 @@ index_last end rows row p before after rising index its added q =
         rw (e, none) (or_none (is_of (end row.1.entries) q.isd_as))
     at_key false e = rw e refl
 
--- an index key more at the end
-has_push : (index_keys : List IndexKey) (p q : IndexKey) → has (index_keys ++ p ∷ []) q ≡ (is_same q p || has index_keys q)
-has_push [] p q = refl
-has_push (first ∷ index_keys) p q = ap (λ b. is_same q first || b) (has_push index_keys p q) ∙ exchanged (is_same q first) (is_same q p) (has index_keys q)
-  where
-    exchanged : (a b c : Bool) → (a || (b || c)) ≡ (b || (a || c))
-    exchanged true true c = refl
-    exchanged true false c = refl
-    exchanged false b c = refl
+-- the rows of the index keys before stay the same
+module _ (end : EndOf) (rows : List RowView) (row : RowView) (before : List IndexKey) (rising : IsRising (rows ++ row ∷ [])) (index : IsEndIndex end rows before) where
+  front_row : (q : IndexKey) (b : Bool) → is_under (indexed_key q) row ≡ b → has before q ≡ true → row_of_key (rows ++ row ∷ []) q ≡ row_of_key rows q
+  front_row q true e there =
+      let none : row_under (indexed_key q) rows ≡ None = subst (λ l. row_under l rows ≡ None) (sym (its_key (indexed_key q) row e)) (none_last rows row rising) in
+      absurd (false≢true (sym (ap (ends_at end q.isd_as) none) ∙ sym (index q) ∙ there))
+  front_row q false e there = under_last (indexed_key q) rows row rising ∙ ap (λ b. if b then Some row else row_under (indexed_key q) rows) e
+
+  current_last : (p : IndexKey) (after : List IndexKey) → AllByRecursion (IsCurrent rows) before → IsRowOf end p row
+      → ((known : IndexKey → Bool) (r : IndexKey → Option RowView) → AreKnown known r before → (known p ≡ true) ⊎ (p.row ≡ r p) → AreKnown known r after) → AllByRecursion (IsCurrent (rows ++ row ∷ [])) after
+  current_last p after current its added =
+      let known : AreKnown (λ q. false) (row_of_key (rows ++ row ∷ [])) before =
+      all_of_keys (IsCurrent rows) (λ q. (false ≡ true) ⊎ (q.row ≡ row_of_key (rows ++ row ∷ []) q)) before (λ q there is. inr (is ∙ sym (front_row q (is_under (indexed_key q) row) refl there))) current in
+      let under = first_from (is_under (indexed_key p) row) (is_of (end row.1.entries) p.isd_as) its.0 in
+      let last : row_of_key (rows ++ row ∷ []) p ≡ Some row = under_last (indexed_key p) rows row rising ∙ ap (λ b. if b then Some row else row_under (indexed_key p) rows) under in
+      all_of_keys (λ q. (false ≡ true) ⊎ (q.row ≡ row_of_key (rows ++ row ∷ []) q)) (IsCurrent (rows ++ row ∷ [])) after
+      (λ q e one. elim one [
+        | inl so ↦ absurd (false≢true so)
+        | inr is ↦ is
+      ])
+      (added (λ q. false) (row_of_key (rows ++ row ∷ [])) known (inr (its.1 ∙ sym last)))
 
 -- ---- all rows, one after the other
 
--- the index keys are those of the first ones of the rows, and the others are left
+-- the index has the first ones of the rows, and the others are left
 pub record HasIndexed (end : EndOf) (all left : List RowView) (index_keys : List IndexKey) : Type 0 where
   pub front : List RowView
   pub split : all ≡ front ++ left
   pub index : IsEndIndex end front index_keys
+  pub current : AllByRecursion (IsCurrent front) index_keys
 
 pub indexing_begins : (end : EndOf) (all : List RowView) → HasIndexed end all all []
-indexing_begins end all = record { front = []; split = refl; index = λ q. refl }
+indexing_begins end all = record { front = []; split = refl; index = λ q. refl; current = tt }
 
-pub indexing_goes_on : (end : EndOf) (all left : List RowView) (row : RowView) (p : IndexKey) (index_keys : List IndexKey) → IsRising all → is_index_key end p row ≡ true
-    → HasIndexed end all (row ∷ left) index_keys → HasIndexed end all left (index_keys ++ p ∷ [])
-indexing_goes_on end all left row p index_keys rising its indexed =
+pub indexing_goes_on : (end : EndOf) (all left : List RowView) (row : RowView) (p : IndexKey) (before after : List IndexKey) → IsRising all → IsRowOf end p row → ((q : IndexKey) → has after q ≡ (is_same q p || has before q))
+    → ((known : IndexKey → Bool) (r : IndexKey → Option RowView) → AreKnown known r before → (known p ≡ true) ⊎ (p.row ≡ r p) → AreKnown known r after) → HasIndexed end all (row ∷ left) before → HasIndexed end all left after
+indexing_goes_on end all left row p before after rising its added known indexed =
     let parts = indexed.split ∙ sym (append_assoc indexed.front (row ∷ []) left) in
+    let front = rising_front (indexed.front ++ row ∷ []) left (subst IsRising parts rising) in
     record {
       front = indexed.front ++ row ∷ [];
       split = parts;
-      index = index_last end indexed.front row p index_keys (index_keys ++ p ∷ []) (rising_front (indexed.front ++ row ∷ []) left (subst IsRising parts rising)) indexed.index its (has_push index_keys p);
+      index = index_last end indexed.front row p before after front indexed.index its.0 added;
+      current = current_last end indexed.front row before front indexed.index p after indexed.current its known;
     }
 
-pub indexing_ends : (end : EndOf) (all left : List RowView) (index_keys : List IndexKey) → left ≡ [] → HasIndexed end all left index_keys → IsEndIndex end all index_keys
+pub indexing_ends : (end : EndOf) (all left : List RowView) (index_keys : List IndexKey) → left ≡ [] → HasIndexed end all left index_keys → IsRowIndex end all index_keys
 indexing_ends end all left index_keys none indexed =
-    subst (λ rows. IsEndIndex end rows index_keys) (sym (indexed.split ∙ ap (λ l. indexed.front ++ l) none ∙ append_none indexed.front)) indexed.index
+    let whole = sym (indexed.split ∙ ap (λ l. indexed.front ++ l) none ∙ append_none indexed.front) in
+    record {
+      keys = subst (λ rows. IsEndIndex end rows index_keys) whole indexed.index;
+      current = subst (λ rows. AllByRecursion (IsCurrent rows) index_keys) whole indexed.current;
+    }

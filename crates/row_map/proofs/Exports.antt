@@ -15,9 +15,9 @@ pub use Rattle.row_map.proofs.Keys.{its_key, others_behind, equal_from, another_
 -- rows whose keys rise are determined by the row under each key
 pub use Rattle.row_map.proofs.Canon.{database_is_canonical}
 -- a row that is found is under its key; the row under a key after a removal
-pub use Rattle.row_map.proofs.PutRow.{found_is_under, is_key_itself, removal_leaves, no_items}
+pub use Rattle.row_map.proofs.PutRow.{found_is_under, is_key_itself, removal_leaves, no_items, kept_rows, kept_change, updated_change}
 -- index keys
-pub use Rattle.row_map.proofs.IndexKeys.{AreSame, EndOf, same_if, same_from, one_index_key, both_from, first_from, second_from, either_from, or_first, or_second, number_itself}
+pub use Rattle.row_map.proofs.IndexKeys.{AreSame, EndOf, same_if, same_from, one_index_key, both_from, first_from, second_from, either_from, or_first, or_second, number_itself, settled_new}
 -- two tests
 pub use Rattle.row_map.proofs.After.{and_true, both_kept}
 -- what holds of each row; the rows that a purge drops

@@ -1,8 +1,9 @@
 -- The index keys of rows: for `end_keys`.
-use Rattle.std.proofs.Common.{◌≡◌, ◌-◌, ◌+◌, zero, length, get_or, take, drop, arith, ◌⊎◌, inl, inr, ℕ, suc, ◌<◌, Bool, true, false, not, ◌&&◌, ◌||◌, ◌==◌, List, [], ◌∷◌, ◌++◌, Option, Some, None, refl, sym, ap, ◌∙◌, subst}
+use Rattle.std.proofs.Common.{◌≡◌, ◌-◌, ◌+◌, zero, length, get_or, take, drop, arith, ◌⊎◌, inl, inr, ℕ, suc, ◌<◌, Bool, true, false, not, ◌&&◌, ◌||◌, ◌==◌, List, [], ◌∷◌, ◌++◌, Option, Some, None, refl, sym, ap, ◌∙◌, subst, if◌then◌else◌}
 use Rattle.std.specs.Ordering.{nat_cmp, is_eq, ordering_then}
 use Rattle.std.specs.Cmp.Lexicographic.{slice_cmp}
 use Rattle.std.specs.Cmp.{tied_then}
+use Rattle.std.specs.List.{AllByRecursion}
 use Rattle.std.specs.Option.{option_map}
 use Rattle.std.proofs.lemmas.Bool.{false≢true}
 use Rattle.std.proofs.lemmas.Bool.Decides.{eqb_tells}
@@ -11,27 +12,29 @@ use Rattle.std.proofs.lemmas.Option.{slice_get-get_or}
 use Rattle.isd_as.specs.IsdAs.{isd_as_number}
 use Rattle.seg_core.specs.declared.entry.Entry.{Entry}
 use Rattle.seg_core.specs.EntryView.{entry_view, entry_views}
+use Rattle.seg_core.specs.Digest.{segment_digest}
+use Rattle.seg_core.specs.Registration.{type_number}
 use Rattle.seg_slots.specs.Message.{last_of}
 use Rattle.std.proofs.lemmas.Cmp.{nat_cmp_total, nat_list_cmp_total, tied_itself}
 use Rattle.std.proofs.lemmas.List.{map-append}
 use Rattle.std.proofs.lemmas.List.Folds.{list_any-append}
 use Rattle.std.proofs.Math.Seq.{take-suc, drop-cons}
 use Rattle.seg_core.specs.SegmentView.{EntryView}
-use Rattle.end_index.specs.declared.index_key.IndexKey.{IndexKey}
-use Rattle.end_index.specs.IndexKey.{is_same, has}
+use Rattle.end_index.specs.IndexKey.{IndexKey, is_same, has, AreKnown}
 use Rattle.row_map.specs.declared.row.Row.{Row}
-use Rattle.row_map.specs.Database.{RowView, key_of, is_under}
+use Rattle.row_map.specs.Database.{RowView, key_of, is_under, row_under}
 use Rattle.row_map.specs.Row.{row_view, row_views}
 use Rattle.row_map.specs.RowMap.{indexed_key}
 use Rattle.row_map.specs.declared.end.By.{By}
 use Rattle.row_map.specs.declared.end.By.TheVariants.{OneEnd, BothEnds}
 use Rattle.row_map.specs.declared.end.End.TheVariants.{First, Last}
 use Rattle.row_map.specs.Ends.{first_entry_of}
-use Rattle.row_map.specs.EndKeys.{index_number, isds_number, isds_of, is_of, is_index_key, stands, EndAlike, IsSeenTo, AreSeenTo, IsCovered}
+use Rattle.row_map.specs.EndKeys.{index_number, isds_number, isds_of, is_of, is_index_key, ends_at, stands, row_of_key, EndAlike, IsSeenTo, AreSeenTo, IsRowOf, IsCovered, IsRowIndex, IsIndexGrown}
 use Rattle.row_map.specs.Saved.{Stood}
 use Rattle.row_map.proofs.Found.{under_itself}
 use Rattle.row_map.proofs.Keys.{its_key, equal_from}
 use Rattle.row_map.proofs.Ends.{last_seen}
+use Rattle.row_map.proofs.PutRow.{found_is_under}
 
 -- the type of what an index has rows by: a number of a list of entries
 abbrev pub EndOf : Type 0
@@ -54,13 +57,27 @@ pub either_from : (a b : Bool) → (a || b) ≡ true → (a ≡ true) ⊎ (b ≡
 either_from true b e = inl refl
 either_from false b e = inr e
 
+pub or_second : (a b : Bool) → b ≡ true → (a || b) ≡ true
+or_second true b e = refl
+or_second false b e = e
+
+pub or_first : (a b : Bool) → a ≡ true → (a || b) ≡ true
+or_first a b e = ap (λ a. a || b) e
+
+-- two tests that pass for the same are the same
+pub both_ways : (a b : Bool) → (a ≡ true → b ≡ true) → (b ≡ true → a ≡ true) → a ≡ b
+both_ways true b there back = sym (there refl)
+both_ways false true there back = back refl
+both_ways false false there back = refl
+
 -- ---- one index key
 
--- the index key that is made from a row is the row's index key
-pub index_key_is : (end : EndOf) (kind number : ℕ) (id : List ℕ) (row : Row) → kind ∷ id ≡ key_of (row_view row) → is_of (end row.segment.entries) number ≡ true
-    → (is_under (kind ∷ id) (row_view row) && is_of (end row.segment.entries) number) ≡ true
-index_key_is end kind number id row same says =
-    both_from (is_under (kind ∷ id) (row_view row)) (is_of (end row.segment.entries) number) (subst (λ k. is_under k (row_view row) ≡ true) (sym same) (under_itself (row_view row))) says
+-- the index key that is made of a row is the row's index key
+pub index_key_is : (end : EndOf) (number : ℕ) (row : Row) → is_of (end row.segment.entries) number ≡ true
+    → is_index_key end (record { kind = type_number row.kind; isd_as = number; id = segment_digest row.segment; row = Some (row_view row) }) (row_view row) ≡ true
+unfolding key_of
+index_key_is end number row says =
+    both_from (is_under (key_of (row_view row)) (row_view row)) (is_of (end row.segment.entries) number) (under_itself (row_view row)) says
 
 -- the parts of two index keys that are the same
 pub record AreSame (p q : IndexKey) : Type 0 where
@@ -95,6 +112,12 @@ same_from p q e =
       isd_as = exact_unsigned p.isd_as q.isd_as (equal_from (nat_cmp p.isd_as q.isd_as) (first_from (is_eq (nat_cmp p.isd_as q.isd_as)) (is_eq (slice_cmp nat_cmp p.id q.id)) more));
       id = exact_bytes p.id q.id (equal_from (slice_cmp nat_cmp p.id q.id) (second_from (is_eq (nat_cmp p.isd_as q.isd_as)) (is_eq (slice_cmp nat_cmp p.id q.id)) more));
     }
+
+same_itself : (p : IndexKey) → is_same p p ≡ true
+same_itself p = same_if p p (record { kind = refl; isd_as = refl; id = refl })
+
+joined : (p q r : IndexKey) → AreSame p q → AreSame q r → AreSame p r
+joined p q r one other = record { kind = one.kind ∙ other.kind; isd_as = one.isd_as ∙ other.isd_as; id = one.id ∙ other.id }
 
 -- ---- the number by which an index has a row
 
@@ -165,6 +188,21 @@ has_last q p index_keys e = list_any-append (is_same q) index_keys (p ∷ []) �
     or_true true = refl
     or_true false = refl
 
+-- the same index key is in the same lists
+has_same : (p q : IndexKey) (index_keys : List IndexKey) → AreSame p q → has index_keys p ≡ has index_keys q
+has_same p q [] same = refl
+has_same p q (first ∷ index_keys) same =
+    let one : is_same p first ≡ is_same q first = rw (same.kind, same.isd_as, same.id) refl in
+    ap (λ b. b || has index_keys p) one ∙ ap (λ b. is_same q first || b) (has_same p q index_keys same)
+
+-- what holds of each index key of a list
+pub all_of_keys : (P Q : IndexKey → Type 0) (index_keys : List IndexKey) → ((q : IndexKey) → has index_keys q ≡ true → P q → Q q) → AllByRecursion P index_keys → AllByRecursion Q index_keys
+all_of_keys P Q [] one all = tt
+all_of_keys P Q (p ∷ index_keys) one all = (
+  one p (or_first (is_same p p) (has index_keys p) (same_itself p)) all.0,
+  all_of_keys P Q index_keys (λ q e. one q (or_second (is_same q p) (has index_keys q) e)) all.1,
+)
+
 -- ---- loops over index keys and rows
 
 pub taken_more : {X : Type 0} (xs : List X) (i : ℕ) (x : X) → i < length xs → x ≡ get_or xs i x → take (i + 1) xs ≡ take i xs ++ x ∷ []
@@ -173,17 +211,10 @@ taken_more xs i x lt is = let next : i + 1 ≡ suc i = omega arith in ap (λ n. 
 pub views_more : (rows : List Row) (i : ℕ) (row : Row) → i < length rows → row ≡ get_or rows i row → row_views (take (i + 1) rows) ≡ row_views (take i rows) ++ row_view row ∷ []
 views_more rows i row lt is = ap row_views (taken_more rows i row lt is) ∙ map-append row_view (take i rows) (row ∷ [])
 
-dropped_less : {X : Type 0} (xs : List X) (i : ℕ) (x : X) → i < length xs → x ≡ get_or xs i x → drop i xs ≡ x ∷ drop (i + 1) xs
+pub dropped_less : {X : Type 0} (xs : List X) (i : ℕ) (x : X) → i < length xs → x ≡ get_or xs i x → drop i xs ≡ x ∷ drop (i + 1) xs
 dropped_less xs i x lt is = let next : suc i ≡ i + 1 = omega arith in drop-cons xs i x lt ∙ ap (λ y. y ∷ drop (suc i) xs) (sym is) ∙ ap (λ n. x ∷ drop n xs) next
 
-pub or_second : (a b : Bool) → b ≡ true → (a || b) ≡ true
-or_second true b e = refl
-or_second false b e = e
-
-pub or_first : (a b : Bool) → a ≡ true → (a || b) ≡ true
-or_first a b e = ap (λ a. a || b) e
-
-pub has_taken : (q : IndexKey) (i : ℕ) (index_keys : List IndexKey) → has (take i index_keys) q ≡ true → has index_keys q ≡ true
+has_taken : (q : IndexKey) (i : ℕ) (index_keys : List IndexKey) → has (take i index_keys) q ≡ true → has index_keys q ≡ true
 has_taken q zero index_keys e = absurd (false≢true e)
 has_taken q (suc i) [] e = e
 has_taken q (suc i) (p ∷ index_keys) e = elim (either_from (is_same q p) (has (take i index_keys) q) e) [
@@ -191,22 +222,27 @@ has_taken q (suc i) (p ∷ index_keys) e = elim (either_from (is_same q p) (has 
   | inr later ↦ or_second (is_same q p) (has index_keys q) (has_taken q i index_keys later)
 ]
 
+-- what is known of the rows is still known, but for those at touched index keys
+abbrev pub KeepsKnown : List IndexKey → List IndexKey → List IndexKey → Type 0
+KeepsKnown touched before after =
+    (known : IndexKey → Bool) (row : IndexKey → Option RowView) → ((q : IndexKey) → has touched q ≡ true → known q ≡ true) → AreKnown known row before → AreKnown known row after
+
 -- an index key is added
-module _ (start now after index_keys : List IndexKey) (i : ℕ) (p : IndexKey) (lt : i < length index_keys) (is : p ≡ get_or index_keys i p) (ok : (q : IndexKey) → has after q ≡ (is_same q p || has now q)) where
+module _ (start now after touched : List IndexKey) (i : ℕ) (p : IndexKey) (lt : i < length touched) (is : p ≡ get_or touched i p) (ok : (q : IndexKey) → has after q ≡ (is_same q p || has now q)) where
   pub kept_by_add : ((q : IndexKey) → has start q ≡ true → has now q ≡ true) → (q : IndexKey) → has start q ≡ true → has after q ≡ true
   kept_by_add kept q e = ok q ∙ or_second (is_same q p) (has now q) (kept q e)
 
-  pub within_by_add : ((q : IndexKey) → has now q ≡ true → (has start q ≡ true) ⊎ (has (take i index_keys) q ≡ true)) → (q : IndexKey) → has after q ≡ true → (has start q ≡ true) ⊎ (has (take (i + 1) index_keys) q ≡ true)
+  pub within_by_add : ((q : IndexKey) → has now q ≡ true → (has start q ≡ true) ⊎ (has (take i touched) q ≡ true)) → (q : IndexKey) → has after q ≡ true → (has start q ≡ true) ⊎ (has (take (i + 1) touched) q ≡ true)
   within_by_add within q e = elim (either_from (is_same q p) (has now q) (sym (ok q) ∙ e)) [
-    | inl same ↦ inr (ap (λ l. has l q) (taken_more index_keys i p lt is) ∙ has_last q p (take i index_keys) same)
+    | inl same ↦ inr (ap (λ l. has l q) (taken_more touched i p lt is) ∙ has_last q p (take i touched) same)
     | inr old ↦ elim (within q old) [
       | inl first ↦ inl first
-      | inr taken ↦ inr (ap (λ l. has l q) (taken_more index_keys i p lt is) ∙ has_more q p (take i index_keys) taken)
+      | inr taken ↦ inr (ap (λ l. has l q) (taken_more touched i p lt is) ∙ has_more q p (take i touched) taken)
     ]
   ]
 
-  pub done_by_add : ((q : IndexKey) → has (take i index_keys) q ≡ true → has now q ≡ true) → (q : IndexKey) → has (take (i + 1) index_keys) q ≡ true → has after q ≡ true
-  done_by_add done q e = elim (either_from (has (take i index_keys) q) (is_same q p || false) (sym (ap (λ l. has l q) (taken_more index_keys i p lt is) ∙ list_any-append (is_same q) (take i index_keys) (p ∷ [])) ∙ e)) [
+  pub done_by_add : ((q : IndexKey) → has (take i touched) q ≡ true → has now q ≡ true) → (q : IndexKey) → has (take (i + 1) touched) q ≡ true → has after q ≡ true
+  done_by_add done q e = elim (either_from (has (take i touched) q) (is_same q p || false) (sym (ap (λ l. has l q) (taken_more touched i p lt is) ∙ list_any-append (is_same q) (take i touched) (p ∷ [])) ∙ e)) [
     | inl taken ↦ ok q ∙ or_second (is_same q p) (has now q) (done q taken)
     | inr last ↦ elim (either_from (is_same q p) false last) [
       | inl same ↦ ok q ∙ or_first (is_same q p) (has now q) same
@@ -214,105 +250,149 @@ module _ (start now after index_keys : List IndexKey) (i : ℕ) (p : IndexKey) (
     ]
   ]
 
--- ---- sweeping
+  pub known_by_add : ((known : IndexKey → Bool) (row : IndexKey → Option RowView) → AreKnown known row now → (known p ≡ true) ⊎ (p.row ≡ row p) → AreKnown known row after) → KeepsKnown (take i touched) start now
+      → KeepsKnown (take (i + 1) touched) start after
+  known_by_add rows keeps known row all before =
+      rows known row (keeps known row (λ q e. all q (ap (λ l. has l q) (taken_more touched i p lt is) ∙ has_more q p (take i touched) e)) before)
+      (inl (all p (ap (λ l. has l p) (taken_more touched i p lt is) ∙ has_last p p (take i touched) (same_itself p))))
+
+-- what the first touched index keys have done is done by all of them
+pub grown_by_taken : (touched before after : List IndexKey) (i : ℕ) → ((q : IndexKey) → has before q ≡ true → has after q ≡ true)
+    → ((q : IndexKey) → has after q ≡ true → (has before q ≡ true) ⊎ (has (take i touched) q ≡ true)) → KeepsKnown (take i touched) before after → IsIndexGrown touched before after
+grown_by_taken touched before after i kept within keeps = record {
+  kept = kept;
+  within = λ q e. elim (within q e) [
+    | inl first ↦ inl first
+    | inr taken ↦ inr (has_taken q i touched taken)
+  ];
+  rows = λ known row all. keeps known row (λ q e. all q (has_taken q i touched e));
+}
+
+-- ---- settling
 
 stands_same : (end : EndOf) (rows : List RowView) (p q : IndexKey) → AreSame p q → stands end rows p ≡ stands end rows q
 stands_same end rows p q same = rw (same.kind, same.isd_as, same.id) refl
 
+row_same : (rows : List RowView) (p q : IndexKey) → AreSame p q → row_of_key rows p ≡ row_of_key rows q
+row_same rows p q same = rw (same.kind, same.id) refl
+
 and_not : (b c : Bool) → b ≡ true → (not b && c) ≡ false
 and_not b c e = ap (λ b. not b && c) e
 
-module _ (end : EndOf) (rows : List RowView) (now index_keys : List IndexKey) (i : ℕ) (p : IndexKey) (lt : i < length index_keys) (is : p ≡ get_or index_keys i p) (all : IsCovered end rows (drop i index_keys) now) where
-  first_or_later : (q : IndexKey) → has (drop i index_keys) q ≡ true → (is_same q p ≡ true) ⊎ (has (drop (i + 1) index_keys) q ≡ true)
-  first_or_later q e = either_from (is_same q p) (has (drop (i + 1) index_keys) q) (sym (ap (λ l. has l q) (dropped_less index_keys i p lt is)) ∙ e)
+module _ (end : EndOf) (rows : List RowView) (now rest : List IndexKey) (p : IndexKey) (all : IsCovered end rows (p ∷ rest) now) where
+  -- a touched index key that is another than the first is one of the rest
+  is_later : (r q : IndexKey) → AreSame p r → (has (p ∷ rest) q && not (is_same q r)) ≡ true → has rest q ≡ true
+  is_later r q same e = elim (either_from (is_same q p) (has rest q) (first_from (has (p ∷ rest) q) (not (is_same q r)) e)) [
+    | inl first ↦
+        let it = same_if q r (joined q p r (same_from q p first) same) in
+        absurd (false≢true (sym (ap not it) ∙ second_from (has (p ∷ rest) q) (not (is_same q r)) e))
+    | inr later ↦ later
+  ]
 
-  pub swept_standing : stands end rows p ≡ true → IsCovered end rows (drop (i + 1) index_keys) now
-  swept_standing standing = record {
-    kept = all.kept;
-    within = λ q e. elim (all.within q e) [
-      | inl so ↦ inl so
-      | inr touched ↦ elim (first_or_later q touched) [
-        | inl same ↦ inl (stands_same end rows q p (same_from q p same) ∙ standing)
-        | inr later ↦ inr later
-      ]
-    ];
-  }
+  later_known : (r : IndexKey) (after : List IndexKey) → AreSame p r → AreKnown (λ q. has (p ∷ rest) q && not (is_same q r)) (row_of_key rows) after → AreKnown (has rest) (row_of_key rows) after
+  later_known r after same known =
+      all_of_keys (λ q. ((has (p ∷ rest) q && not (is_same q r)) ≡ true) ⊎ (q.row ≡ row_of_key rows q)) (λ q. (has rest q ≡ true) ⊎ (q.row ≡ row_of_key rows q)) after
+      (λ q e one. elim one [
+        | inl so ↦ inl (is_later r q same so)
+        | inr is ↦ inr is
+      ])
+      known
 
   still_has : (after : List IndexKey) (q : IndexKey) (b : Bool) → stands end rows p ≡ false → has after q ≡ (not (is_same q p) && has now q) → is_same q p ≡ b → stands end rows q ≡ true → has after q ≡ true
   still_has after q true empty taken e so = absurd (false≢true (sym empty ∙ sym (stands_same end rows q p (same_from q p e)) ∙ so))
   still_has after q false empty taken e so = taken ∙ ap (λ b. not b && has now q) e ∙ all.kept q so
 
-  within_less : (after : List IndexKey) (q : IndexKey) (b : Bool) → has after q ≡ (not (is_same q p) && has now q) → is_same q p ≡ b → has after q ≡ true → (stands end rows q ≡ true) ⊎ (has (drop (i + 1) index_keys) q ≡ true)
+  within_less : (after : List IndexKey) (q : IndexKey) (b : Bool) → has after q ≡ (not (is_same q p) && has now q) → is_same q p ≡ b → has after q ≡ true → (stands end rows q ≡ true) ⊎ (has rest q ≡ true)
   within_less after q true taken e there = absurd (false≢true (sym (taken ∙ and_not (is_same q p) (has now q) e) ∙ there))
   within_less after q false taken e there = elim (all.within q (sym (taken ∙ ap (λ b. not b && has now q) e) ∙ there)) [
     | inl so ↦ inl so
-    | inr touched ↦ elim (first_or_later q touched) [
+    | inr touched ↦ elim (either_from (is_same q p) (has rest q) touched) [
       | inl same ↦ absurd (false≢true (sym e ∙ same))
       | inr later ↦ inr later
     ]
   ]
 
-  pub swept_away : (after : List IndexKey) → stands end rows p ≡ false → ((q : IndexKey) → has after q ≡ (not (is_same q p) && has now q)) → IsCovered end rows (drop (i + 1) index_keys) after
-  swept_away after empty taken = record {
+  -- the row of the first one is removed
+  pub settled_away : (after : List IndexKey) → stands end rows p ≡ false → ((q : IndexKey) → has after q ≡ (not (is_same q p) && has now q))
+      → ((known : IndexKey → Bool) (row : IndexKey → Option RowView) → AreKnown known row now → AreKnown (λ q. known q && not (is_same q p)) row after) → IsCovered end rows rest after
+  settled_away after empty taken known = record {
     kept = λ q so. still_has after q (is_same q p) empty (taken q) refl so;
     within = λ q there. within_less after q (is_same q p) (taken q) refl there;
+    current = later_known p after (record { kind = refl; isd_as = refl; id = refl }) (known (has (p ∷ rest)) (row_of_key rows) all.current);
   }
+
+  module _ (r : IndexKey) (row : RowView) (found : row_under (indexed_key p) rows ≡ Some row) (standing : stands end rows p ≡ true) (its : IsRowOf end r row) where
+    as_first : AreSame p r
+    as_first =
+        let number : is_of (end row.1.entries) p.isd_as ≡ true = sym (ap (ends_at end p.isd_as) found) ∙ standing in
+        one_index_key end p r row (both_from (is_under (indexed_key p) row) (is_of (end row.1.entries) p.isd_as) (found_is_under (indexed_key p) rows row found) number) its.0
+
+    -- the row of the first one is replaced
+    pub settled_new : (after : List IndexKey) → (has now r ≡ true → (q : IndexKey) → has after q ≡ has now q)
+        → (has now r ≡ true → (known : IndexKey → Bool) (row : IndexKey → Option RowView) → AreKnown known row now → r.row ≡ row r → AreKnown (λ q. known q && not (is_same q r)) row after) → IsCovered end rows rest after
+    settled_new after kept known =
+        let there : has now r ≡ true = sym (has_same p r now as_first) ∙ all.kept p standing in
+        record {
+          kept = λ q so. kept there q ∙ all.kept q so;
+          within = λ q e. elim (all.within q (sym (kept there q) ∙ e)) [
+            | inl so ↦ inl so
+            | inr touched ↦ elim (either_from (is_same q p) (has rest q) touched) [
+              | inl same ↦ inl (stands_same end rows q p (same_from q p same) ∙ standing)
+              | inr later ↦ inr later
+            ]
+          ];
+          current = later_known r after as_first (known there (has (p ∷ rest)) (row_of_key rows) all.current (its.1 ∙ sym found ∙ row_same rows p r as_first));
+        }
+
+-- nothing is left to settle
+pub all_settled : (end : EndOf) (rows : List RowView) (now : List IndexKey) → IsCovered end rows [] now → IsRowIndex end rows now
+all_settled end rows now all = record {
+  keys = λ q. both_ways (has now q) (stands end rows q) (λ e. stood q (all.within q e)) (all.kept q);
+  current = all_of_keys (λ q. (false ≡ true) ⊎ (q.row ≡ row_of_key rows q)) (λ q. q.row ≡ row_of_key rows q) now
+      (λ q e one. elim one [
+        | inl so ↦ absurd (false≢true so)
+        | inr is ↦ is
+      ])
+      all.current;
+}
+  where
+    stood : (q : IndexKey) → (stands end rows q ≡ true) ⊎ (false ≡ true) → stands end rows q ≡ true
+    stood q (inl so) = so
+    stood q (inr never) = absurd (false≢true never)
 
 -- ---- rows that are new, and what was under their keys
 
 pub index_key_same : (end : EndOf) (p q : IndexKey) (row : RowView) → AreSame p q → is_index_key end p row ≡ is_index_key end q row
 index_key_same end p q row same = rw (same.kind, same.isd_as, same.id) refl
 
--- a row with one of two equal index keys has the other too
-moved : (end : EndOf) (p other q : IndexKey) (new old : RowView) → AreSame p other → is_index_key end p new ≡ true → is_index_key end other old ≡ true → is_index_key end q new ≡ true → is_index_key end q old ≡ true
-moved end p other q new old same its others e =
-    let first = one_index_key end q p new e its in
-    index_key_same end q other old (record { kind = first.kind ∙ same.kind; isd_as = first.isd_as ∙ same.isd_as; id = first.id ∙ same.id }) ∙ others
-
 module _ (end : EndOf) (p : IndexKey) (new : RowView) (its : is_index_key end p new ≡ true) where
   pub seen_alone : (index_keys : List IndexKey) → IsSeenTo end (index_keys ++ p ∷ []) new None
-  seen_alone index_keys = inl ((λ q e. has_last q p index_keys (same_if q p (one_index_key end q p new e its))), (λ r e. absurd (cc)))
+  seen_alone index_keys = ((λ q e. has_last q p index_keys (same_if q p (one_index_key end q p new e its))), (λ r e. absurd (cc)))
 
-  module _ (other : IndexKey) (old : RowView) (others : is_index_key end other old ≡ true) where
-    pub seen_both : (index_keys : List IndexKey) → IsSeenTo end ((index_keys ++ other ∷ []) ++ p ∷ []) new (Some old)
-    seen_both index_keys =
-        inl (
-          (λ q e. has_last q p (index_keys ++ other ∷ []) (same_if q p (one_index_key end q p new e its))),
-          (λ r e q so.
-              let same : r ≡ old = cc in
-              has_more q p (index_keys ++ other ∷ []) (has_last q other index_keys (same_if q other (one_index_key end q other old (subst (λ x. is_index_key end q x ≡ true) same so) others)))),
-        )
+  pub seen_both : (other : IndexKey) (old : RowView) → is_index_key end other old ≡ true → (index_keys : List IndexKey) → IsSeenTo end ((index_keys ++ other ∷ []) ++ p ∷ []) new (Some old)
+  seen_both other old others index_keys = (
+    (λ q e. has_last q p (index_keys ++ other ∷ []) (same_if q p (one_index_key end q p new e its))),
+    (λ r e q so.
+        let same : r ≡ old = cc in
+        has_more q p (index_keys ++ other ∷ []) (has_last q other index_keys (same_if q other (one_index_key end q other old (subst (λ x. is_index_key end q x ≡ true) same so) others)))),
+  )
 
-    pub seen_same : (index_keys : List IndexKey) → is_same p other ≡ true → IsSeenTo end index_keys new (Some old)
-    seen_same index_keys e =
-        let same = same_from p other e in
-        inr (
-          old,
-          refl,
-          (
-            (λ q so. moved end p other q new old same its others so),
-            (λ q so. moved end other p q old new (record { kind = sym same.kind; isd_as = sym same.isd_as; id = sym same.id }) others its so),
-          ),
-        )
-
--- rows with one key and one number have one index key
-module _ (end : EndOf) where
-  alike : (q : IndexKey) (new old : RowView) → key_of new ≡ key_of old → EndAlike end new old → is_index_key end q new ≡ true → is_index_key end q old ≡ true
-  alike q new old keys ends e =
-      let under = first_from (is_under (indexed_key q) new) (is_of (end new.1.entries) q.isd_as) e in
-      let number = same_entry (end new.1.entries) ends.0 q.isd_as ends.1 (second_from (is_under (indexed_key q) new) (is_of (end new.1.entries) q.isd_as) e) in
-      let key : key_of old ≡ indexed_key q = sym (its_key (indexed_key q) new under ∙ keys) in
-      both_from (is_under (indexed_key q) old) (is_of (end old.1.entries) q.isd_as) (subst (λ k. is_under k old ≡ true) key (under_itself old))
-      (subst (λ n. is_of (end old.1.entries) n ≡ true) number ends.2)
-
-  pub seen_alike : (index_keys : List IndexKey) (new old : RowView) (found : Option RowView) → found ≡ Some old → key_of new ≡ key_of old → EndAlike end new old → IsSeenTo end index_keys new found
-  seen_alike index_keys new old found is keys ends = inr (old, is, ((λ q e. alike q new old keys ends e), (λ q e. alike q old new (sym keys) (ends.0, ends.2, ends.1) e)))
+  -- the other one is left out where it is the same
+  pub seen_other : (other : IndexKey) (old : RowView) → is_index_key end other old ≡ true → (index_keys : List IndexKey) (b : Bool) → is_same other p ≡ b
+      → IsSeenTo end ((if b then index_keys else index_keys ++ other ∷ []) ++ p ∷ []) new (Some old)
+  seen_other other old others index_keys true same = (
+    (λ q e. has_last q p index_keys (same_if q p (one_index_key end q p new e its))),
+    (λ r e q so.
+        let is : r ≡ old = cc in
+        let first = one_index_key end q other old (subst (λ x. is_index_key end q x ≡ true) is so) others in
+        has_last q p index_keys (same_if q p (joined q other p first (same_from other p same)))),
+  )
+  seen_other other old others index_keys false same = seen_both other old others index_keys
 
 -- a longer list of index keys has the same property
 module _ (end : EndOf) (index_keys more : List IndexKey) (kept : (q : IndexKey) → has index_keys q ≡ true → has more q ≡ true) where
   seen_kept : (new : RowView) (stood : Option RowView) → IsSeenTo end index_keys new stood → IsSeenTo end more new stood
-  seen_kept new stood (inl touched) = inl ((λ q e. kept q (touched.0 q e)), (λ r e q so. kept q (touched.1 r e q so)))
-  seen_kept new stood (inr one) = inr one
+  seen_kept new stood touched = ((λ q e. kept q (touched.0 q e)), (λ r e q so. kept q (touched.1 r e q so)))
 
   pub seen_still : (rows : List RowView) (saved : List Stood) → AreSeenTo end index_keys rows saved → AreSeenTo end more rows saved
   seen_still [] [] all = tt

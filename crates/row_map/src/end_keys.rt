@@ -1,34 +1,31 @@
 //! The rows by the ISD-AS at one of their ends, or by the ISDs at both.
 
-ghost use Rattle.std.specs.Prelude.{◌≡◌, map, ◌⊎◌, ◌^◌, ◌<◌, true, length, IfOk, OnOk, OnErr};
-ghost use Rattle.end_index.specs.declared.index_key.IndexKey.{IndexKey};
-ghost use Rattle.end_index.specs.IndexKey.{has};
+ghost use Rattle.std.specs.Prelude.{◌≡◌, [], ◌∷◌, ◌++◌, if◌then◌else◌, map, ◌⊎◌, ◌^◌, ◌<◌, true, Some, List, length, is_some, IfOk, IfSome, OnOk, OnErr};
+ghost use Rattle.std.specs.List.{AllByRecursion};
 ghost use Rattle.std.specs.Option.{option_map};
+ghost use Rattle.end_index.specs.IndexKey.{IndexKey, has, is_same};
 ghost use Rattle.row_map.specs.declared.end.By.{By};
 ghost use Rattle.row_map.specs.declared.end.By.TheVariants.{OneEnd};
+ghost use Rattle.row_map.specs.Database.{row_under};
 ghost use Rattle.row_map.specs.Row.{row_view, row_views};
-ghost use Rattle.row_map.specs.Database.{IsRising};
+ghost use Rattle.row_map.specs.RowMap.{indexed_key};
 ghost use Rattle.row_map.specs.Saved.{saved_view};
-ghost use Rattle.row_map.specs.EndKeys.{index_number, is_of, isds_number, is_index_key, stands, EndAlike, IsSeenTo, AreSeenTo, IsEndIndex, IsCovered, IsIndexGrown, HasAll};
+ghost use Rattle.row_map.specs.EndKeys.{index_number, is_of, isds_number, stands, EndAlike, IsSeenTo, AreSeenTo, IsRowIndex, IsRowOf, HasRow, IsCovered, IsIndexGrown, HasAll, IsTakenOut};
 
 use crate::end::{By, End};
 use crate::row::Row;
-use crate::row_map::{RowMap, key_of_row};
+use crate::row_map::RowMap;
 use crate::row_puts::Saved;
-use end_index::{EndIndex, IndexKey};
+use end_index::{EndIndex, IndexRow};
 use std::alloc::{AllocError, Global};
 
-/// The index key of a row by this.
-pub fn index_key_of(by: By, row: &Row) -> IndexKey
-    ensures { is_index_key (index_number by) result (row_view row.now) ≡ true }
+/// The index row of a row by this, which shares the segment. An error means that 2^63 rows share it
+/// already.
+pub fn index_row_of(by: By, row: &Row) -> Result<IndexRow, AllocError>
+    ensures { IfOk result (λ index_row. IsRowOf (index_number by) index_row (row_view row.now)) }
 {
-    let key = key_of_row(row);
-    let id = key.id;
-    IndexKey {
-        kind: key.kind,
-        isd_as: number_of(by, row),
-        id,
-    }
+    let number = number_of(by, row);
+    Ok(IndexRow::new(row.kind, number, row.segment.try_clone()?))
 }
 
 /// The number by which an index has a row.
@@ -63,54 +60,69 @@ pub fn isds_number(first: u64, last: u64) -> u64
 
 /// The index of all rows of a map, by this.
 pub fn index_of(alloc: Global, by: By, rows: &RowMap) -> Result<EndIndex, AllocError>
-    ensures { IfOk result (λ index. IsEndIndex (index_number by) rows.now index) }
+    ensures { IfOk result (λ index. IsRowIndex (index_number by) rows.now index) }
 {
-    let mut index_keys = Vec::with_capacity(alloc, rows.len())?;
+    let _count = rows.len();
+    let mut index = EndIndex::new(alloc);
     for row in rows.rows() {
-        index_keys.push(index_key_of(by, row))?;
+        index.add(index_row_of(by, row)?)?;
     }
-    EndIndex::of_keys(alloc, index_keys)
+    Ok(index)
 }
 
-/// The index keys of new rows and of the rows that were under their keys, except for pairs with the
-/// same index key.
-pub fn touched_keys(
+/// The index rows of new rows and of the rows that were under their keys.
+pub fn touched_rows(
     alloc: Global,
     by: By,
     new: &[Row],
     saved: &[Saved],
-) -> Result<Vec<IndexKey>, AllocError>
+) -> Result<Vec<IndexRow>, AllocError>
     requires { length saved.now ≡ length new.now }
-    ensures seen { IfOk result (λ index_keys. AreSeenTo (index_number by) index_keys.items (row_views new.now) (map saved_view saved.now)) }
+    ensures seen { IfOk result (λ touched. AreSeenTo (index_number by) touched.items (row_views new.now) (map saved_view saved.now)) }
+    ensures rows { IfOk result (λ touched. AllByRecursion HasRow touched.items) }
     ensures memory { OnErr result (0 < length new.now) }
 {
-    let mut index_keys = Vec::new(alloc);
+    let mut touched = Vec::new(alloc);
     for (k, old) in saved.iter().enumerate() {
-        touch(&mut index_keys, by, &new[k], &old.row)?;
+        touch(&mut touched, by, &new[k], &old.row)?;
     }
-    Ok(index_keys)
+    Ok(touched)
 }
 
-/// Appends the index keys of a new row and of the row that was under its key, unless both have the
-/// same.
+/// Appends the index row of a new row, and that of the row that was under its key, unless both have
+/// the same index key.
 fn touch(
-    index_keys: &mut Vec<IndexKey>,
+    touched: &mut Vec<IndexRow>,
     by: By,
     new: &Row,
     stood: &Option<Row>,
 ) -> Result<(), AllocError>
-    ensures kept { OnOk result ((q : IndexKey) → has index_keys.old.items q ≡ true → has index_keys.new.items q ≡ true) }
-    ensures seen { OnOk result (IsSeenTo (index_number by) index_keys.new.items (row_view new.now) (option_map row_view stood.now)) }
+    ensures kept { OnOk result ((q : IndexKey) → has touched.old.items q ≡ true → has touched.new.items q ≡ true) }
+    ensures seen { OnOk result (IsSeenTo (index_number by) touched.new.items (row_view new.now) (option_map row_view stood.now)) }
+    ensures rows { OnOk result (AllByRecursion HasRow touched.old.items → AllByRecursion HasRow touched.new.items) }
 {
-    let index_key = index_key_of(by, new);
+    let index_row = index_row_of(by, new)?;
     if let Some(row) = stood {
-        let other = index_key_of(by, row);
-        if index_key.cmp(&other).is_eq() {
-            return Ok(());
-        }
-        index_keys.push(other)?;
+        push_other(touched, index_row_of(by, row)?, &index_row)?;
     }
-    index_keys.push(index_key)?;
+    touched.push(index_row)?;
+    Ok(())
+}
+
+/// Appends an index row, unless it has the index key of this one.
+fn push_other(
+    touched: &mut Vec<IndexRow>,
+    other: IndexRow,
+    index_row: &IndexRow,
+) -> Result<(), AllocError>
+    ensures kept { OnOk result ((q : IndexKey) → has touched.old.items q ≡ true → has touched.new.items q ≡ true) }
+    ensures other { OnOk result (touched.new.items ≡ (if is_same other index_row.now then touched.old.items else touched.old.items ++ other ∷ [])) }
+    ensures rows { OnOk result (HasRow other → AllByRecursion HasRow touched.old.items → AllByRecursion HasRow touched.new.items) }
+{
+    if other.cmp(index_row).is_eq() {
+        return Ok(());
+    }
+    touched.push(other)?;
     Ok(())
 }
 
@@ -128,27 +140,26 @@ fn ends_alike(end: End, new: &Row, old: &Row) -> bool
     isd_as_at(end, new) == isd_as_at(end, old)
 }
 
-/// Adds index keys. Where memory is refused, some of them are added.
-pub(crate) fn add_keys(index: &mut EndIndex, index_keys: &[IndexKey]) -> Result<(), AllocError>
-    ensures kept { (q : IndexKey) → has index.old q ≡ true → has index.new q ≡ true }
-    ensures within { (q : IndexKey) → has index.new q ≡ true → (has index.old q ≡ true) ⊎ (has index_keys.now q ≡ true) }
-    ensures ok { OnOk result (HasAll index_keys.now index.new) }
-    ensures memory { OnErr result (0 < length index_keys.now) }
+/// Adds rows. Where memory is refused, some of them are added.
+pub(crate) fn add_rows(index: &mut EndIndex, touched: &[IndexRow]) -> Result<(), AllocError>
+    ensures grown { IsIndexGrown touched.now index.old index.new }
+    ensures ok { OnOk result (HasAll touched.now index.new) }
+    ensures memory { OnErr result (0 < length touched.now) }
 {
-    for index_key in index_keys {
-        index.add(*index_key)?;
+    for index_row in touched {
+        index.add(index_row.try_clone()?)?;
     }
     Ok(())
 }
 
-/// Adds index keys to three indexes. Where memory is refused, some of them are added.
+/// Adds rows to three indexes. Where memory is refused, some of them are added.
 pub fn add_all(
     by_first: &mut EndIndex,
-    firsts: &[IndexKey],
+    firsts: &[IndexRow],
     by_last: &mut EndIndex,
-    lasts: &[IndexKey],
+    lasts: &[IndexRow],
     by_isds: &mut EndIndex,
-    isds: &[IndexKey],
+    isds: &[IndexRow],
 ) -> Result<(), AllocError>
     ensures first { IsIndexGrown firsts.now by_first.old by_first.new }
     ensures last { IsIndexGrown lasts.now by_last.old by_last.new }
@@ -158,29 +169,69 @@ pub fn add_all(
     ensures all_isds { OnOk result (HasAll isds.now by_isds.new) }
     ensures memory { OnErr result ((0 < length firsts.now) ⊎ (0 < length lasts.now) ⊎ (0 < length isds.now)) }
 {
-    add_keys(by_first, firsts)?;
-    add_keys(by_last, lasts)?;
-    add_keys(by_isds, isds)
+    add_rows(by_first, firsts)?;
+    add_rows(by_last, lasts)?;
+    add_rows(by_isds, isds)
 }
 
-/// Removes those of the touched index keys that have no row. This takes no memory.
-pub fn sweep(by: By, index: &mut EndIndex, rows: &RowMap, index_keys: &[IndexKey])
-    requires { IsCovered (index_number by) rows.now index_keys.now index.old }
-    ensures { IsEndIndex (index_number by) rows.now index.new }
+/// Makes an index have the rows as the map has them: removes the touched rows that the map does not
+/// have, and replaces the others. This takes no memory. `false` means that 2^63 rows share a segment
+/// already, and then the index can't be used any more.
+pub fn sweep(by: By, index: &mut EndIndex, rows: &RowMap, touched: &[IndexRow]) -> bool
+    requires covered { IsCovered (index_number by) rows.now touched.now index.old }
+    requires rows { AllByRecursion HasRow touched.now }
+    ensures { result ≡ true → IsRowIndex (index_number by) rows.now index.new }
 {
-    for index_key in index_keys {
-        if !is_standing(by, rows, index_key) {
-            index.remove(index_key);
+    for index_row in touched {
+        if !settle(by, index, rows, index_row) {
+            return false;
         }
+    }
+    true
+}
+
+/// The same for one touched row.
+fn settle(by: By, index: &mut EndIndex, rows: &RowMap, index_row: &IndexRow) -> bool
+    requires { HasRow index_row.now }
+    ensures { result ≡ true → (rest : List IndexKey)
+        → IsCovered (index_number by) rows.now (index_row.now ∷ rest) index.old → IsCovered (index_number by) rows.now rest index.new }
+{
+    let Some(row) = standing(by, rows, index_row) else {
+        index.remove(index_row);
+        return true;
+    };
+    match index_row_of(by, row) {
+        Ok(now) => {
+            index.renew(now);
+            true
+        }
+        Err(_) => false,
     }
 }
 
-/// Whether an index key has a row.
-fn is_standing(by: By, rows: &RowMap, index_key: &IndexKey) -> bool
-    ensures { result ≡ stands (index_number by) rows.now index_key.now }
+/// The row of an index key. `None` where the index key is that of no row.
+fn standing<'a>(by: By, rows: &'a RowMap, index_row: &IndexRow) -> Option<&'a Row>
+    requires { HasRow index_row.now }
+    ensures some { IfSome result (λ row. row_under (indexed_key index_row.now) rows.now ≡ Some (row_view row.now)) }
+    ensures stands { is_some result ≡ stands (index_number by) rows.now index_row.now }
 {
-    match rows.at(index_key) {
-        Some(row) => number_of(by, row) == index_key.isd_as,
-        None => false,
+    let row = rows.at(index_row)?;
+    if number_of(by, row) == index_row.number() {
+        return Some(row);
+    }
+    None
+}
+
+/// Removes a row from an index. This takes no memory. `false` means that 2^63 rows share the segment
+/// already, and then the index can't be used any more.
+pub fn take_out(by: By, index: &mut EndIndex, row: &Row) -> bool
+    ensures { result ≡ true → IsTakenOut (index_number by) (row_view row.now) index.old index.new }
+{
+    match index_row_of(by, row) {
+        Ok(index_row) => {
+            index.remove(&index_row);
+            true
+        }
+        Err(_) => false,
     }
 }

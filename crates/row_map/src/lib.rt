@@ -1,7 +1,7 @@
 //! Rows by their keys, a type and an id, and puts, removals and purges of rows.
 //!
 //! To the layer above, a `RowMap` has the rows that the definitions give after a put and after a
-//! removal, and returns the rows of a type, those after an id, and the one at an index key. It keeps
+//! removal, and returns the rows of a type and those after an id. It keeps
 //! lower bounds of the moments at which its rows expire: by these `PurgeWalk` finds the next row
 //! that a purge drops. `end_keys.rt` keeps an index of the rows by the ISD-AS at one of their ends.
 #![tactic(auto)]
@@ -25,7 +25,7 @@ mod type_counts;
 pub use bucket_walk::BucketWalk;
 pub use change::Change;
 pub use end::{By, End};
-pub use end_keys::{add_all, index_key_of, index_of, isds_number, sweep, touched_keys};
+pub use end_keys::{add_all, index_of, index_row_of, isds_number, sweep, take_out, touched_rows};
 pub use expiry_bounds::BUCKETS;
 pub use format::{MOST_ROW_BYTES, ROW_HEAD, type_byte};
 pub use purge_walk::PurgeWalk;

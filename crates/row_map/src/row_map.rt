@@ -6,7 +6,7 @@ ghost use Rattle.row_map.specs.declared.end.By.{By};
 ghost use Rattle.row_map.specs.Database.{IsRising, key, key_of, row_under, row_len, rows_len};
 ghost use Rattle.row_map.specs.Drops.{database_after_purge, database_after_removal};
 ghost use Rattle.row_map.specs.Ranges.{is_of_type, is_after};
-ghost use Rattle.row_map.specs.EndKeys.{index_number, IsSeenTo};
+ghost use Rattle.row_map.specs.EndKeys.{index_number, IsAlike, HasRow};
 ghost use Rattle.row_map.specs.Put.{database_after_put, change_of};
 ghost use Rattle.row_map.specs.Row.{row_view, row_views};
 ghost use Rattle.row_map.specs.RowMap.{AreUnderTheirKeys, HasRowPut, NoneExpiresBefore, bytes_of, views_of, len_if_any, indexed_key};
@@ -24,7 +24,7 @@ use crate::row_key::RowKey;
 use crate::row_list::Rows;
 use crate::row_range::RowRange;
 use crate::type_counts::TypeCounts;
-use end_index::IndexKey;
+use end_index::IndexRow;
 use seg_check::expiry;
 use seg_core::SegType;
 use std::alloc::{AllocError, Global};
@@ -150,15 +150,14 @@ impl RowMap {
         })
     }
 
-    /// The row of an index key.
-    pub fn at(&self, index_key: &IndexKey) -> Option<&Row>
-        ensures { option_map (λ row. row_view row.now) result ≡ row_under (indexed_key index_key.now) self.now }
+    /// The row under the key of an index row. `None` for a bound.
+    pub(crate) fn at(&self, index_row: &IndexRow) -> Option<&Row>
+        ensures { HasRow index_row.now → option_map (λ row. row_view row.now) result ≡ row_under (indexed_key index_row.now) self.now }
     {
-        let key = RowKey {
-            kind: index_key.kind,
-            id: index_key.id,
-        };
-        self.rows.get(&key)
+        match index_row.row() {
+            Some((kind, segment)) => self.get(kind, segment.digest()),
+            None => None,
+        }
     }
 
     /// The row of a type and an id.
@@ -199,7 +198,7 @@ impl RowMap {
         requires { bytes.old ≡ rows_len self.old }
         ensures rows { ForSome result (λ _. self.new ≡ database_after_put self.old (row_view row)) }
         ensures change { ForSome result (λ change. change ≡ change_of self.old (row_view row)) }
-        ensures alike { ForSome result (λ _. (by : By) → IsSeenTo (index_number by) [] (row_view row) (row_under (key_of (row_view row)) self.old)) }
+        ensures alike { ForSome result (λ _. (by : By) → IsAlike (index_number by) (row_view row) (row_under (key_of (row_view row)) self.old)) }
         ensures bytes { bytes.new ≡ rows_len self.new }
         ensures more { bytes.new ≤ bytes.old + row_len (row_view row) }
         ensures none { result ≡ None → self.new ≡ self.old }

@@ -1,12 +1,11 @@
-use Rattle.std.proofs.Common.{rules, ◌≡◌, [], ◌∷◌, ◌∙◌, subst}
-use Rattle.std.proofs.lemmas.Result.{IfOk-weaker}
+use Rattle.std.proofs.Common.{rules, ◌≡◌, [], ◌∷◌, subst}
 use Rattle.row_map.specs.Row.{row_view}
 use Rattle.row_map.specs.EndKeys.{index_number}
 use Rattle.row_map.proofs.Appended.{HasIndexed, indexing_begins, indexing_goes_on, indexing_ends}
 use Rattle.row_map.proofs.end_keys.index_of.Goals as goal
 
 pub loop-row-init : goal.loop-row-init
-loop-row-init c = rw (c.into_iter-row-iterator.ensures.into_iter_gives, c.rows-row-items.ensures, c.in_ok-index_keys.ensures.items) (indexing_begins (index_number c.args.by) c.args.rows.now)
+loop-row-init c = rw (c.into_iter-row-iterator.ensures.into_iter_gives, c.rows-row-items.ensures, c.new-index.ensures) (indexing_begins (index_number c.args.by) c.args.rows.now)
 
 pub loop-row-preserved : goal.loop-row-preserved
 loop-row-preserved c =
@@ -14,11 +13,10 @@ loop-row-preserved c =
     let row = row_view c.in-Some.row.now in
     let left = c.next.new.self in
     let is : c.loop-row.row-iterator ≡ row ∷ left = search (rules, c.in-Some) in
-    rw c.in_ok-push.ensures.items
-    (indexing_goes_on end c.args.rows.now left row c.index_key_of.result c.loop-row.index_keys.items c.len.ensures.rising c.index_key_of.ensures (subst (λ l. HasIndexed end c.args.rows.now l c.loop-row.index_keys.items) is c.loop-row.invariant))
+    indexing_goes_on end c.args.rows.now left row c.in_ok-index_row_of.field-0 c.loop-row.index c.add.new.self c.len-count.ensures.rising c.in_ok-index_row_of.ensures c.in_ok-add.ensures.ok c.in_ok-add.ensures.rows
+    (subst (λ l. HasIndexed end c.args.rows.now l c.loop-row.index) is c.loop-row.invariant)
 
 pub returns : goal.returns
 returns c =
     let none : c.loop-row.row-iterator ≡ [] = search (rules, c.in-None) in
-    let index = indexing_ends (index_number c.args.by) c.args.rows.now c.loop-row.row-iterator c.loop-row.index_keys.items none c.loop-row.invariant in
-    IfOk-weaker c.of_keys.result _ _ (λ made holds q. holds q ∙ index q) c.of_keys.ensures
+    indexing_ends (index_number c.args.by) c.args.rows.now c.loop-row.row-iterator c.loop-row.index none c.loop-row.invariant

@@ -1,22 +1,19 @@
-use Rattle.std.proofs.Common.{rules, ◌≡◌, true, false, sym, ◌∙◌, arith}
-use Rattle.row_map.specs.EndKeys.{index_number}
-use Rattle.row_map.proofs.IndexKeys.{swept_standing, swept_away}
+use Rattle.std.proofs.Common.{◌+◌, drop, refl, subst, arith}
+use Rattle.std.proofs.lemmas.List.{drop_all}
+use Rattle.row_map.specs.EndKeys.{index_number, IsCovered}
+use Rattle.row_map.proofs.IndexKeys.{dropped_less, all_settled}
 use Rattle.row_map.proofs.end_keys.sweep.Goals as goal
-use Rattle.row_map.proofs.end_keys.sweep.Goals.{then-not-is_standing, else-not-is_standing}
 
-pub loop-index_key-preserved : goal.loop-index_key-preserved
-loop-index_key-preserved c =
-    let end = index_number c.args.by in
-    let rows = c.args.rows.now in
-    let now = c.loop-index_key.index in
-    let index_keys = c.args.index_keys.now in
-    let i = c.loop-index_key.index_key-index in
-    let p = c.index_key-item.result in
-    elim c.if-not-is_standing.branch [
-      | then-not-is_standing w ↦
-          let empty : c.is_standing.result ≡ false = search (rules, w) in
-          rw w.index-is (swept_away end rows now index_keys i p (omega arith) c.index_key-item.is c.loop-index_key.invariant w.remove.new.self (sym c.is_standing.ensures ∙ empty) w.remove.ensures)
-      | else-not-is_standing w ↦
-          let there : c.is_standing.result ≡ true = search (rules, w) in
-          rw w.index-is (swept_standing end rows now index_keys i p (omega arith) c.index_key-item.is c.loop-index_key.invariant (sym c.is_standing.ensures ∙ there))
-    ]
+pub loop-index_row-preserved : goal.loop-index_row-preserved
+loop-index_row-preserved c =
+    let touched = c.args.touched.now in
+    let i = c.loop-index_row.index_row-index in
+    c.if-not-settle.ensures refl (drop (i + 1) touched)
+    (subst (λ l. IsCovered (index_number c.args.by) c.args.rows.now l c.loop-index_row.index) (dropped_less touched i c.index_row-item.result (omega arith) c.index_row-item.is) c.loop-index_row.invariant)
+
+pub returns : goal.returns
+returns c = λ e.
+    let touched = c.args.touched.now in
+    let i = c.loop-index_row.index_row-index in
+    all_settled (index_number c.args.by) c.args.rows.now c.loop-index_row.index
+    (subst (λ l. IsCovered (index_number c.args.by) c.args.rows.now l c.loop-index_row.index) (drop_all i touched (omega arith)) c.loop-index_row.invariant)

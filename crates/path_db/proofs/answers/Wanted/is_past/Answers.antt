@@ -4,8 +4,7 @@ use Rattle.std.specs.Cmp.Lexicographic.{slice_cmp}
 use Rattle.std.specs.declared.cmp.Ordering.{Ordering}
 use Rattle.std.specs.declared.cmp.Ordering.TheVariants.{Less, Equal, Greater}
 use Rattle.std.proofs.lemmas.Cmp.{nat_list_cmp_total}
-use Rattle.row_map.specs.Database.{key, key_of}
-use Rattle.row_map.specs.Row.{row_view}
+use Rattle.row_map.specs.Database.{RowView, key, key_of}
 use Rattle.row_map.specs.Ranges.{is_after}
 use Rattle.path_db.proofs.answers.Wanted.is_past.Goals as goal
 
@@ -17,7 +16,7 @@ turned Greater = refl
 pub returns-in-Some : goal.returns-in-Some
 returns-in-Some c =
     let kind = c.args.self.now.kind in
-    let row = row_view c.args.row.now in
+    let row : RowView = (c.args.kind, c.args.segment.now) in
     let id = c.in-Some.id in
     let above : c.is_gt.result ≡ is_after kind id row =
     c.is_gt.ensures ∙ ap is_gt (c.cmp_key.ensures ∙ nat_list_cmp_total.antisymm (key_of row) (key kind id)) ∙ turned (slice_cmp nat_cmp (key kind id) (key_of row)) in

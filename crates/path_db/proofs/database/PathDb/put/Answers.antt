@@ -1,5 +1,6 @@
 use Rattle.std.proofs.Common.{rules, ◌≡◌, List, map, OnOk, vec_len, sym, ap, ◌∙◌, subst, arith}
 use Rattle.std.proofs.lemmas.Bool.{false≢true}
+use Rattle.std.proofs.lemmas.Grind.{common_steps}
 use Rattle.row_map.specs.declared.end.End.TheVariants.{First, Last}
 use Rattle.row_map.specs.declared.end.By.TheVariants.{OneEnd, BothEnds}
 use Rattle.row_map.specs.Put.{database_after_puts, changes_of}
@@ -12,9 +13,10 @@ use Rattle.row_map.proofs.Exports.{no_items}
 use Rattle.path_db.proofs.Restored.{stood_under}
 use Rattle.path_db.proofs.Steps.{nothing_after, none_counted}
 use Rattle.path_db.proofs.database.PathDb.put.Goals as goal
+use Rattle.path_db.proofs.database.PathDb.put.Goals.{then-first, else-first, then-last, else-last}
 
-pub sweep-requires : goal.sweep-requires
-sweep-requires c =
+pub sweep-first-requires-clause-covered : goal.sweep-first-requires-clause-covered
+sweep-first-requires-clause-covered c =
     let end = index_number (OneEnd First) in
     let rows = c.self.inside.rows in
     let new = row_views c.args.new.items in
@@ -29,8 +31,8 @@ sweep-requires c =
     (seen_from end rows touched new (subst (λ (l : List Stood). AreSeenTo end touched new l) each seen))
     (c.self.invariant.first c.if-not-self.false) grown added c.put_after-put.ensures.added c.put_after-put.ensures.rows c.put_after-put.ensures.err)
 
-pub sweep-requires-2 : goal.sweep-requires-2
-sweep-requires-2 c =
+pub sweep-last-requires-clause-covered : goal.sweep-last-requires-clause-covered
+sweep-last-requires-clause-covered c =
     let end = index_number (OneEnd Last) in
     let rows = c.self.inside.rows in
     let new = row_views c.args.new.items in
@@ -45,8 +47,8 @@ sweep-requires-2 c =
     (seen_from end rows touched new (subst (λ (l : List Stood). AreSeenTo end touched new l) each seen))
     (c.self.invariant.last c.if-not-self.false) grown added c.put_after-put.ensures.added c.put_after-put.ensures.rows c.put_after-put.ensures.err)
 
-pub sweep-requires-3 : goal.sweep-requires-3
-sweep-requires-3 c =
+pub sweep-isds-requires-clause-covered : goal.sweep-isds-requires-clause-covered
+sweep-isds-requires-clause-covered c =
     let end = index_number BothEnds in
     let rows = c.self.inside.rows in
     let new = row_views c.args.new.items in
@@ -78,9 +80,30 @@ pub invariant_of-self-2 : goal.invariant_of-self-2
 invariant_of-self-2 c = record {
   database = database_either c.self.inside.rows (row_views c.args.new.items) c.put_after-put.new.rows c.put_after-put.result c.self.invariant.database c.requires c.put_after-put.ensures.rows c.put_after-put.ensures.err;
   counted = c.put_after-put.ensures.bytes;
-  first = λ e. c.sweep.ensures;
-  last = λ e. c.sweep-2.ensures;
-  isds = λ e. c.sweep-3.ensures;
+  first = λ e. c.sweep-first.ensures
+      (elim c.if-last.branch [
+        | then-last w ↦ elim c.if-first.branch [
+          | then-first v ↦ first_of (search rules, grind (arith, common_steps))
+          | else-first v ↦ first_of (search rules, grind (arith, common_steps))
+        ]
+        | else-last w ↦ first_of (search rules, grind (arith, common_steps))
+      ]);
+  last = λ e. c.sweep-last.ensures
+      (elim c.if-last.branch [
+        | then-last w ↦ elim c.if-first.branch [
+          | then-first v ↦ first_of (search rules, grind (arith, common_steps))
+          | else-first v ↦ first_of (search rules, grind (arith, common_steps))
+        ]
+        | else-last w ↦ first_of (search rules, grind (arith, common_steps))
+      ]);
+  isds = λ e. c.sweep-isds.ensures
+      (elim c.if-last.branch [
+        | then-last w ↦ elim c.if-first.branch [
+          | then-first v ↦ first_of (search rules, grind (arith, common_steps))
+          | else-first v ↦ first_of (search rules, grind (arith, common_steps))
+        ]
+        | else-last w ↦ first_of (search rules, grind (arith, common_steps))
+      ]);
 }
 
 pub returns-clause-whole : goal.returns-clause-whole

@@ -1,4 +1,5 @@
-use Rattle.std.proofs.Common.{not, sym, ap, ◌∙◌, subst, arith}
+use Rattle.std.proofs.Common.{rules, ◌≡◌, true, not, sym, ap, ◌∙◌, subst, arith}
+use Rattle.std.proofs.lemmas.Grind.{common_steps}
 use Rattle.row_map.specs.declared.end.End.TheVariants.{First, Last}
 use Rattle.row_map.specs.declared.end.By.TheVariants.{OneEnd, BothEnds}
 use Rattle.row_map.specs.Database.{key, is_under, rows_len, IsDatabase}
@@ -7,6 +8,7 @@ use Rattle.row_map.specs.Row.{row_view}
 use Rattle.row_map.proofs.Exports.{database_filtered}
 use Rattle.path_db.proofs.Removed.{removed_index, kept_index, none_to_remove}
 use Rattle.path_db.proofs.database.PathDb.remove.Goals as goal
+use Rattle.path_db.proofs.database.PathDb.remove.Goals.{then-self, then-first, else-first, then-last, else-last, else-self}
 
 pub invariant_of-self : goal.invariant_of-self
 invariant_of-self c =
@@ -31,13 +33,46 @@ invariant_of-self-2 c =
     let l = key c.args.kind c.args.id.now in
     let row = row_view c.in-Some.row in
     let there = sym c.in-Some.ensures.old in
-    record {
-      database = subst IsDatabase (sym c.in-Some.ensures.left) (database_filtered (λ r. not (is_under l r)) rows table.database);
-      counted = omega (arith, c.in-Some.ensures.bytes, c.len.ensures.same, c.from.ensures, table.counted);
-      first = λ e. removed_index (index_number (OneEnd First)) rows table.database.rising l row there c.index_key_of.result c.index_key_of.ensures c.self.inside.by_first c.remove-2.new.self c.remove.new.self c.in-Some.ensures.left (table.first e) c.remove-2.ensures;
-      last = λ e. removed_index (index_number (OneEnd Last)) rows table.database.rising l row there c.index_key_of-2.result c.index_key_of-2.ensures c.self.inside.by_last c.remove-3.new.self c.remove.new.self c.in-Some.ensures.left (table.last e) c.remove-3.ensures;
-      isds = λ e. removed_index (index_number BothEnds) rows table.database.rising l row there c.index_key_of-3.result c.index_key_of-3.ensures c.self.inside.by_isds c.remove-4.new.self c.remove.new.self c.in-Some.ensures.left (table.isds e) c.remove-4.ensures;
-    }
+    let database = subst IsDatabase (sym c.in-Some.ensures.left) (database_filtered (λ r. not (is_under l r)) rows table.database) in
+    elim c.if-self.branch [
+      | then-self w ↦
+          let had : c.self.inside.indexed ≡ true = search rules in
+          rw w.self-inside-is (record {
+            database = database;
+            counted = omega (arith, c.in-Some.ensures.bytes, c.len.ensures.same, c.from.ensures, table.counted);
+            first = λ e. removed_index (index_number (OneEnd First)) rows l row c.self.inside.by_first w.take_out-first.new.index c.remove.new.self table.database.rising there c.in-Some.ensures.left (table.first had)
+                (w.take_out-first.ensures (elim w.if-last.branch [
+                  | then-last v ↦ elim w.if-first.branch [
+                    | then-first u ↦ first_of (search rules, grind (arith, common_steps))
+                    | else-first u ↦ first_of (search rules, grind (arith, common_steps))
+                  ]
+                  | else-last v ↦ first_of (search rules, grind (arith, common_steps))
+                ]));
+            last = λ e. removed_index (index_number (OneEnd Last)) rows l row c.self.inside.by_last w.take_out-last.new.index c.remove.new.self table.database.rising there c.in-Some.ensures.left (table.last had)
+                (w.take_out-last.ensures (elim w.if-last.branch [
+                  | then-last v ↦ elim w.if-first.branch [
+                    | then-first u ↦ first_of (search rules, grind (arith, common_steps))
+                    | else-first u ↦ first_of (search rules, grind (arith, common_steps))
+                  ]
+                  | else-last v ↦ first_of (search rules, grind (arith, common_steps))
+                ]));
+            isds = λ e. removed_index (index_number BothEnds) rows l row c.self.inside.by_isds w.take_out-isds.new.index c.remove.new.self table.database.rising there c.in-Some.ensures.left (table.isds had)
+                (w.take_out-isds.ensures (elim w.if-last.branch [
+                  | then-last v ↦ elim w.if-first.branch [
+                    | then-first u ↦ first_of (search rules, grind (arith, common_steps))
+                    | else-first u ↦ first_of (search rules, grind (arith, common_steps))
+                  ]
+                  | else-last v ↦ first_of (search rules, grind (arith, common_steps))
+                ]));
+          })
+      | else-self w ↦ rw w.self-inside-is (record {
+        database = database;
+        counted = omega (arith, c.in-Some.ensures.bytes, c.len.ensures.same, c.from.ensures, table.counted);
+        first = λ e. first_of (search rules, grind (arith, common_steps));
+        last = λ e. first_of (search rules, grind (arith, common_steps));
+        isds = λ e. first_of (search rules, grind (arith, common_steps));
+      })
+    ]
 
 pub returns-clause-whole : goal.returns-clause-whole
 returns-clause-whole c = (invariant_of-self-2 c).database

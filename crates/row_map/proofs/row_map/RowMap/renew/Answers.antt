@@ -1,21 +1,18 @@
-use Rattle.std.proofs.Common.{rules, arith, ◌≡◌, false, true, [], Some, refl, sym, ap, ◌∙◌, subst}
+use Rattle.std.proofs.Common.{rules, arith, ◌≡◌, false, true, Some, refl, sym, ap, ◌∙◌, subst}
 use Rattle.std.specs.List.{AllByRecursion}
 use Rattle.std.specs.Map.{lookup, set_value}
 use Rattle.std.specs.Option.{option_map, is_some}
 use Rattle.row_map.specs.declared.change.Change.TheVariants.{Kept, Updated}
 use Rattle.std.specs.BTreeMap.{insert_entry, is_at}
 use Rattle.row_map.specs.Database.{key_of, row_under, row_len, rows_len}
-use Rattle.row_map.specs.EndKeys.{index_number}
 use Rattle.row_map.specs.Row.{row_view}
 use Rattle.row_map.specs.RowMap.{views_of, len_if_any, IsRowMap, AreUnderTheirKeys}
 use Rattle.row_map.specs.Buckets.{IsBoundedBy}
 use Rattle.row_map.specs.TypeCounts.{AreCounted}
 use Rattle.row_map.specs.Saved.{wins}
 use Rattle.row_map.proofs.Keyed.{key_cmp, rising_from, set_by, own_set, set_sum, placed_is_set, placed_same, found_at}
-use Rattle.row_map.proofs.Keys.{its_key}
-use Rattle.row_map.proofs.IndexKeys.{seen_alike}
 use Rattle.row_map.proofs.Tallied.{replaced_counts}
-use Rattle.row_map.proofs.PutRow.{found_is_under, kept_rows, kept_change, new_rows, updated_change}
+use Rattle.row_map.proofs.PutRow.{kept_rows, kept_change, new_rows, updated_change}
 use Rattle.row_map.proofs.Bucketed.{all_implied}
 use Rattle.row_map.proofs.Purged.{all_set}
 use Rattle.row_map.proofs.row_map.RowMap.renew.Goals as goal
@@ -84,8 +81,7 @@ returns-then-timestamp-clause-alike c =
     let is : lookup (is_at (key_cmp c.key_of_row-key.result)) es ≡ Some old = sym c.in_ok-old.ensures.value in
     let its = c.key_of_row-key.ensures in
     let found : row_under (key_of (row_view c.args.row)) (views_of es) ≡ Some (row_view old) = found_at c.key_of_row-key.result c.args.row old es its c.self.invariant.own is in
-    let keys = its_key (key_of (row_view c.args.row)) (row_view old) (found_is_under (key_of (row_view c.args.row)) (views_of es) (row_view old) found) in
-    λ x e by. rw (← c.self.view_is) (seen_alike (index_number by) [] (row_view c.args.row) (row_view old) (row_under (key_of (row_view c.args.row)) (views_of es)) found keys (c.if-not-keeps_keys.ensures refl by))
+    λ x e by. rw (← c.self.view_is) (row_view old, found, c.if-not-keeps_keys.ensures refl by)
 
 pub returns-then-timestamp-clause-bytes : goal.returns-then-timestamp-clause-bytes
 returns-then-timestamp-clause-bytes c =
@@ -163,8 +159,7 @@ returns-clause-alike c =
     let is : lookup (is_at (key_cmp c.key_of_row-key.result)) es ≡ Some old = sym c.in_ok-old.ensures.value in
     let its = c.key_of_row-key.ensures in
     let found : row_under (key_of (row_view c.args.row)) (views_of es) ≡ Some (row_view old) = found_at c.key_of_row-key.result c.args.row old es its c.self.invariant.own is in
-    let keys = its_key (key_of (row_view c.args.row)) (row_view old) (found_is_under (key_of (row_view c.args.row)) (views_of es) (row_view old) found) in
-    λ x e by. rw (← c.self.view_is) (seen_alike (index_number by) [] (row_view c.args.row) (row_view old) (row_under (key_of (row_view c.args.row)) (views_of es)) found keys (c.if-not-keeps_keys.ensures refl by))
+    λ x e by. rw (← c.self.view_is) (row_view old, found, c.if-not-keeps_keys.ensures refl by)
 
 pub returns-clause-bytes : goal.returns-clause-bytes
 returns-clause-bytes c =

@@ -1,5 +1,0 @@
-use Rattle.path_db.proofs.Commands.{commands_append}
-use Rattle.path_db.proofs.command_laws.commands_append.Goals as goal
-
-pub returns : goal.returns
-returns c = commands_append

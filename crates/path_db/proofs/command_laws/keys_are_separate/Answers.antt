@@ -1,5 +1,0 @@
-use Rattle.path_db.proofs.Commands.{keys_are_separate}
-use Rattle.path_db.proofs.command_laws.keys_are_separate.Goals as goal
-
-pub returns : goal.returns
-returns c = keys_are_separate

@@ -1,5 +1,0 @@
-use Rattle.path_db.proofs.Counts.{rows_are_counted}
-use Rattle.path_db.proofs.outcome_laws.rows_are_counted.Goals as goal
-
-pub returns : goal.returns
-returns c = rows_are_counted

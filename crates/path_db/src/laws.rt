@@ -1,0 +1,5 @@
+//! The laws of this crate. Each is the contract of a function that does nothing.
+
+pub(crate) mod agreement;
+pub(crate) mod command;
+pub(crate) mod outcome;
