@@ -16,7 +16,7 @@ _pathd() {
       show) words="--layout --json -h --help" ;;
       status | upgrade) words="-h --help" ;;
       run) words="--listen --lookups --lookup-seats --status --cores --key --sessions --peer-sessions --idle --future --spare --purge --stop-on-end-of-input --grace --quiet --log-priority -h --help" ;;
-      ask) words="--json --timeout -h --help" ;;
+      ask) words="--json --at-once --timeout -h --help" ;;
       help) words="once format copy show status upgrade run ask help" ;;
       *) return ;;
     esac

@@ -86,6 +86,7 @@ _pathd() {
     ask)
       _arguments $help \
         '--json[print lines of JSON]' \
+        '--at-once[purge by one command, and not in steps]' \
         '--timeout[how long the connection and each reply may take]:SECONDS:' \
         '1:ADDR:' \
         '2:REQUEST:(lookup list register purge remove)' \

@@ -88,7 +88,7 @@ expect "a purge is acknowledged without a client" sh_inside '
   setpriv --reuid pathd --regid pathd --clear-groups \
     pathd run store --listen 127.0.0.1:39253 --cores 1-ff00:0:110 &
   MAINPID=$! /usr/lib/pathd/pathd-probe --wait 127.0.0.1:39253
-  pathd ask 127.0.0.1:39253 purge | grep -x "place 0: 0 inserted, 0 updated, 0 kept, 0 purged"
+  pathd ask 127.0.0.1:39253 purge --at-once | grep -x "place 0: 0 inserted, 0 updated, 0 kept, 0 purged"
   kill $!'
 echo CORES=1-ff00:0:110 >"$root/etc/default/pathd"
 store=$(sha256sum <"$root/var/lib/pathd/store")

@@ -10,6 +10,7 @@ from .isd_as import isd_as_of
 from .replies import Ack, Page, Reply, ack_of, next_of, page_of, rows_of
 from .requests import List, Lookup, Purge, Register, Remove, Request
 from .segments import Row, SegmentType
+from .steps import Step
 
 
 def purge_of(moment: datetime | None) -> Purge:
@@ -75,8 +76,21 @@ class Calls(ABC):
         return page_of(self.ask(list_of(kind, start, end, after), within=within))
 
     def purge(self, moment: datetime | None = None, *, within: float | None = None) -> Ack:
-        """Drops the segments that have expired by a moment, or by this machine's clock."""
+        """Drops the segments that have expired by a moment, or by this machine's clock, by one
+        command. Other sessions' commands wait until all are dropped."""
         return ack_of(self.ask(purge_of(moment), within=within))
+
+    def purge_in_steps(
+        self, moment: datetime | None = None, *, within: float | None = None
+    ) -> Iterator[Ack]:
+        """The same by several commands, whose moments rise, so that each drops few segments. Each
+        gives its Ack; `within` bounds each of them, and other calls may be made between. Segments
+        of one expiry are dropped by one command."""
+        step: Step | None = Step.first(purge_of(moment))
+        while step is not None:
+            ack = ack_of(self.ask(step.request(), within=within))
+            yield ack
+            step = step.next(ack.purged)
 
     def remove(self, kind: SegmentType, segment_id: bytes, *, within: float | None = None) -> Ack:
         """Drops the segment of a type with an id."""
@@ -122,6 +136,16 @@ class AsyncCalls(ABC):
     async def purge(self, moment: datetime | None = None, *, within: float | None = None) -> Ack:
         """As `Calls.purge`."""
         return ack_of(await self.ask(purge_of(moment), within=within))
+
+    async def purge_in_steps(
+        self, moment: datetime | None = None, *, within: float | None = None
+    ) -> AsyncIterator[Ack]:
+        """As `Calls.purge_in_steps`: `async for ack in session.purge_in_steps()`."""
+        step: Step | None = Step.first(purge_of(moment))
+        while step is not None:
+            ack = ack_of(await self.ask(step.request(), within=within))
+            yield ack
+            step = step.next(ack.purged)
 
     async def remove(
         self, kind: SegmentType, segment_id: bytes, *, within: float | None = None

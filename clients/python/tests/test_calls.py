@@ -5,6 +5,7 @@ import asyncio
 import shutil
 import socket
 import ssl
+import struct
 import subprocess
 import tempfile
 import threading
@@ -101,6 +102,54 @@ class Calls(unittest.TestCase):
         with Session(*address, retry=NO_RETRY) as session:
             with self.assertRaisesRegex(ConnectionEnded, f"no connection with {address}: "):
                 session.purge()
+
+
+class Steps(unittest.TestCase):
+    """Purges in steps."""
+
+    LAST = 3_400_000_000
+    # How far before the last moment the first steps are, where nothing is dropped.
+    OF_NOTHING = [262_144, 229_376, 200_704, 175_616, 153_664, 134_456]
+
+    @staticmethod
+    def drops(counts: list[int]) -> list[bytes]:
+        """The acknowledgements of commands that drop so many segments each."""
+        return [
+            struct.pack(">BQ4I", 0x83, place, 0, 0, 0, count) for place, count in enumerate(counts)
+        ]
+
+    def assert_moments(self, requests: list[bytes], before: list[int], last: int) -> None:
+        """Sees purges by these moments: each is so far before the last one."""
+        wanted = [Purge(half_seconds=last - it) for it in before]
+        self.assertEqual(requests, contents(*wanted))
+
+    def test_nothing_is_dropped(self) -> None:
+        script = answers(*self.drops([0] * 35))
+        with FakeServer(script) as server, Session(*server.address) as session:
+            acks = list(session.purge_in_steps(moment_of(self.LAST)))
+        self.assertEqual([it.place for it in acks], list(range(35)))
+        self.assert_moments(server.requests[0][:6], self.OF_NOTHING, self.LAST)
+        self.assertEqual(server.requests[0][-1:], contents(Purge(half_seconds=self.LAST)))
+
+    def test_many_are_dropped(self) -> None:
+        counts = [0, 256, 1024, 1025, 255, 5000, 512, 100_000, 1500, 3, 0]
+        before = [
+            20_000, 17_500, 15_313, 13_399, 12_761, 11_485, 11_358, 11_231, 11_230, 11_229, 11_227,
+        ]
+        script = answers(*self.drops(counts))
+        with FakeServer(script) as server, Session(*server.address) as session:
+            steps = session.purge_in_steps(moment_of(20_000))
+            self.assertEqual([next(steps).purged for _ in counts], counts)
+        self.assert_moments(server.requests[0], before, 20_000)
+
+    def test_a_refusal(self) -> None:
+        script = answers(*self.drops([3]), refusal(0x51))
+        with FakeServer(script) as server, Session(*server.address, retry=NO_RETRY) as session:
+            steps = session.purge_in_steps(moment_of(7))
+            self.assertEqual(next(steps).purged, 3)
+            with self.assertRaises(Refused):
+                next(steps)
+        self.assert_moments(server.requests[0], [7, 0], 7)
 
 
 class Lists(unittest.TestCase):
@@ -297,6 +346,15 @@ class Tasks(unittest.IsolatedAsyncioTestCase):
                     await session.remove(REMOVE.type, REMOVE.id)
         self.assertEqual(caught.exception.code, Code.FULL)
         self.assertEqual(server.requests, [contents(registration(0), LOOKUP, PURGE, REMOVE)])
+
+    async def test_purges_in_steps(self) -> None:
+        with FakeServer(answers(*Steps.drops([3, 4]))) as server:
+            async with AsyncSession(*server.address) as session:
+                counts = [ack.purged async for ack in session.purge_in_steps(moment_of(7))]
+        self.assertEqual(counts, [3, 4])
+        self.assertEqual(
+            server.requests, [contents(Purge(half_seconds=0), Purge(half_seconds=7))]
+        )
 
     async def test_lists(self) -> None:
         rows = in_order([row(number) for number in range(5)])

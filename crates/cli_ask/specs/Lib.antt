@@ -1,3 +1,4 @@
 pub mod Requests
 pub mod Lines
 pub mod Faults
+pub mod Steps

@@ -5,6 +5,7 @@ use crate::error::AskError;
 use crate::lines::{print_ack, print_segments};
 use crate::link::Link;
 use crate::listing::list;
+use crate::purging::{purge, purge_at_once};
 use crate::question::Question;
 use crate::request::{frame_of, lookup_body};
 use isd_as::IsdAs;
@@ -32,6 +33,9 @@ pub fn ask<L: Link, W: Write>(
             list(alloc, link, *kind, (*start, *end), form, writer)
         }
         Question::Purge(moment) => { purge(alloc, link, moment.unwrap_or(now), form, writer) }
+        Question::PurgeAtOnce(moment) => {
+            purge_at_once(alloc, link, moment.unwrap_or(now), form, writer)
+        }
         Question::Remove(kind, id) => remove(alloc, link, *kind, *id, form, writer),
     }
 }
@@ -65,20 +69,6 @@ fn look_up<L: Link, W: Write>(
         Reply::Found(kind, segments) => {
             print_segments(alloc, form, kind, segments.as_slice(), writer)
         }
-        _ => Err(AskError::Unasked),
-    }
-}
-
-/// Prints what a purge has done.
-fn purge<L: Link, W: Write>(
-    alloc: Global,
-    link: &mut L,
-    moment: u64,
-    form: RowForm,
-    writer: &mut W,
-) -> Result<(), AskError> {
-    match exchange(alloc, link, &Message::Purge(moment))? {
-        Reply::Purged(ack) => print_ack(alloc, form, &ack, writer),
         _ => Err(AskError::Unasked),
     }
 }

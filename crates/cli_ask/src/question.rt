@@ -2,6 +2,7 @@
 
 ghost use Rattle.std.specs.Prelude.{◌≡◌};
 ghost use Rattle.cli_ask.specs.Faults.{word_number};
+ghost use Rattle.cli_ask.specs.Steps.{at_once_of};
 
 use cli_words::Request;
 use isd_as::{IaError, IsdAs, parse};
@@ -26,10 +27,24 @@ pub enum Question {
     /// All segments of a type, or of all types, whose ends these patterns cover.
     List(Option<SegType>, IsdAs, IsdAs),
     /// What expires at this moment or before, in half seconds since 1970, is dropped, or what has
-    /// expired now.
+    /// expired now. It is dropped by several commands, each of which drops a part.
     Purge(Option<u64>),
+    /// The same, by one command.
+    PurgeAtOnce(Option<u64>),
     /// The segment of the type and the id is dropped.
     Remove(SegType, [u8; 32]),
+}
+
+impl Question {
+    /// The same, but that a purge is one command.
+    pub fn at_once(self) -> Question
+        ensures { result ≡ at_once_of self }
+    {
+        match self {
+            Question::Purge(moment) => Question::PurgeAtOnce(moment),
+            other => other,
+        }
+    }
 }
 
 /// Why a word is none that its request has: the number of the word, from 1 on, and the reason.

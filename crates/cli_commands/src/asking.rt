@@ -7,7 +7,7 @@ use cli_ask::{
     AskError, Asked, NamedCode, Question, Refusals, TcpLink, WordError, ask, asked_of, register,
 };
 use cli_lines::Failure;
-use cli_words::{Request, SERVER, TIMEOUT, request_in, words_in};
+use cli_words::{AT_ONCE, Request, SERVER, TIMEOUT, request_in, words_in};
 use row_lines::RowForm;
 use session_clock::{Now, SystemNow};
 use std::fs::File;
@@ -48,7 +48,14 @@ pub fn ask_server<
     let answered = match wanted {
         Asked::Registration(INPUT) => way.register(input, form_in(options), &mut writer),
         Asked::Registration(path) => way.register_file(path, form_in(options), &mut writer),
-        Asked::Question(question) => way.ask(&question, form_in(options), &mut writer),
+        Asked::Question(question) => {
+            let question = if options.get_flag(AT_ONCE) {
+                question.at_once()
+            } else {
+                question
+            };
+            way.ask(&question, form_in(options), &mut writer)
+        }
     };
     let flushed = writer.flush();
     match answered {

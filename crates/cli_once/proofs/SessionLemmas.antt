@@ -5,9 +5,10 @@ use Rattle.std.specs.Io.KnownBytes.{Consumes, Appends, IsAtEnd}
 use Rattle.std.proofs.KnownBytes.{Consumes-nil, Consumes-trans}
 use Rattle.std.proofs.lemmas.List.{append-nil}
 use Rattle.std.proofs.lemmas.List.Folds.{flat_map-map}
-use Rattle.session_core.specs.Frames.{MessageView, Rest, IsPartial, AreWholeFrames, AreFrames}
+use Rattle.session_core.specs.Frames.{MessageView, Rest, AreWholeFrames, AreFrames}
 use Rattle.session_core.specs.Reply.{ReplyView, reply_frame}
 use Rattle.session_core.specs.Service.{Exchange, messages_of, replies_of, AreAnswered}
+use Rattle.session_core.proofs.AtOnce.{nothing_is_partial}
 use Rattle.session_core.proofs.OneDecoding.{one_decoding_of}
 use Rattle.cli_once.specs.Memory.{Served, message_step, Answers}
 use Rattle.cli_once.specs.SessionLaws.{replies_from, HasMemory, OnlyReplies, WholeSession}
@@ -38,10 +39,6 @@ module _ {R : Type 0} (remaining : R → Option (List ℕ)) where
 read_all : (input read : List ℕ) (left : Option (List ℕ)) → Consumes (Some input) left read → IsAtEnd left → input ≡ read
 read_all input read None c end = absurd c
 read_all input read (Some rest) c end = c ∙ ap (λ (t : List ℕ). read ++ t) end ∙ append-nil read
-
--- no bytes are less than a frame
-pub nothing_is_partial : IsPartial []
-nothing_is_partial = record { length_is_right = λ le. absurd (omega (arith, le)); kind_is_right = λ le. absurd (omega (arith, le)); incomplete = λ le. absurd (omega (arith, le)) }
 
 all_frames : (bytes rest : List ℕ) (messages : List MessageView) → AreWholeFrames bytes messages rest → rest ≡ [] → AreFrames bytes messages (Rest [])
 all_frames bytes rest messages framed none = record { rest = []; whole = subst (AreWholeFrames bytes messages) none framed; ends = (refl, nothing_is_partial) }

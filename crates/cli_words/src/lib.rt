@@ -113,6 +113,9 @@ pub const WORDS: &str = "words";
 /// The name of its option with the seconds that a connection or a reply may take.
 pub const TIMEOUT: &str = "timeout";
 
+/// The name of its flag by which a purge is one command.
+pub const AT_ONCE: &str = "at-once";
+
 /// The name of the request for the segments between two ASes.
 pub const LOOKUP: &str = "lookup";
 
@@ -184,7 +187,7 @@ const ASK_NOTES: &str = concat!(
     "  lookup SRC DST             The segments that a lookup from SRC to DST finds{n}",
     "  list [TYPE [START [END]]]  All segments, or those of a type whose ends START and END cover{n}",
     "  register FILE              Register the segments of lines that --json has printed; - is standard input{n}",
-    "  purge [T]                  Drop what expires by T or has expired now{n}",
+    "  purge [T]                  Drop what expires by T or has expired now, in steps{n}",
     "  remove TYPE ID             Drop one segment{n}{n}",
     "SRC, DST, START and END are ISD-AS texts; a part that is 0 covers all. TYPE is up, down or core.{n}",
     "T is in half seconds since 1970. ID has 64 hexadecimal digits.{n}{n}",
@@ -508,10 +511,12 @@ fn ask_command<'a>(alloc: Global) -> Result<Command<'a>, AllocError>
 {
     let timeout =
         "The seconds that the connection and each reply may take, at least 1 [default: 10]";
+    let at_once = "Purge by one command, and not in steps; others wait until it is done";
     let command = with_arg(bare_ask(alloc), ASK, server_argument(alloc));
     let command = with_arg(command, ASK, request_argument(alloc));
     let command = with_arg(command, ASK, request_words(alloc));
     let command = with_arg(command, ASK, flag(alloc, JSON, JSON_HELP));
+    let command = with_arg(command, ASK, flag(alloc, AT_ONCE, at_once));
     let timeout = within(
         option(alloc, TIMEOUT, "SECONDS", timeout),
         1,

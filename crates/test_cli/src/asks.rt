@@ -130,14 +130,14 @@ fn assert_comes(rt: &impl Abort, exchange: &Exchange, fault: Option<AskFault>, p
     }
 }
 
-/// Asks over a link, and sees what is printed.
+/// Asks over a link, with a purge as one command, and sees what is printed.
 fn assert_asked(
     rt: &impl Abort,
     alloc: Global,
     link: &mut Script,
     exchange: &Exchange,
 ) -> Result<(), Fail> {
-    let question = question_of(exchange)?;
+    let question = question_of(exchange)?.at_once();
     let mut output = Vec::new(alloc);
     let came = ask(alloc, link, &question, 9, RowForm::Text, &mut output);
     assert_comes(rt, exchange, fault_of(came), output.as_slice());
@@ -155,6 +155,153 @@ fn assert_exchange(rt: &(impl Abort + AllocGlobal), exchange: &Exchange) -> Resu
 fn replies_of_a_script(rt: HostRuntime) -> Result<(), Fail> {
     for exchange in exchanges() {
         assert_exchange(&rt, exchange)?;
+    }
+    Ok(())
+}
+
+/// A purge in steps: how many segments its commands drop in turn, what the server sends after these
+/// replies, how far before the last moment each command's is, and what comes of it.
+struct Purging {
+    moment: u64,
+    drops: &'static [u32],
+    behind: &'static str,
+    before: &'static [u64],
+    printed: &'static str,
+    fault: Option<AskFault>,
+}
+
+/// How far before the last moment those of a purge are that drops nothing.
+const OF_NOTHING: &[u64] = &[
+    262_144, 229_376, 200_704, 175_616, 153_664, 134_456, 117_649, 102_943, 90_076, 78_817, 68_965,
+    60_345, 52_802, 46_202, 40_427, 35_374, 30_953, 27_084, 23_699, 20_737, 18_145, 15_877, 13_893,
+    12_157, 10_638, 9_309, 8_146, 7_122, 6_098, 5_074, 4_050, 3_026, 2_002, 978, 0,
+];
+
+/// How many segments some commands drop, and how far before the moment 20,000 theirs are.
+const DROPS: &[u32] = &[
+    0,
+    256,
+    1_024,
+    1_025,
+    255,
+    5_000,
+    512,
+    100_000,
+    1_500,
+    3,
+    0,
+    4_293_800_000,
+    0,
+    0,
+    0,
+    0,
+    0,
+    0,
+    0,
+    0,
+    0,
+    0,
+    0,
+    0,
+    0,
+    0,
+    0,
+    0,
+    0,
+    0,
+    0,
+    0,
+];
+
+const OF_DROPS: &[u64] = &[
+    20_000, 17_500, 15_313, 13_399, 12_761, 11_485, 11_358, 11_231, 11_230, 11_229, 11_227, 11_223,
+    11_222, 11_220, 11_216, 11_208, 11_192, 11_160, 11_096, 10_968, 10_712, 10_200, 9_176, 8_029,
+    7_005, 5_981, 4_957, 3_933, 2_909, 1_885, 861, 0,
+];
+
+#[rattlefmt::skip]
+const PURGINGS: &[Purging] = &[
+    Purging { moment: 3_400_000_000, drops: &[0; 35], behind: "", before: OF_NOTHING, printed: "place 34: 0 inserted, 0 updated, 0 kept, 0 purged\n", fault: None },
+    Purging { moment: u64::MAX, drops: &[0; 35], behind: "", before: OF_NOTHING, printed: "place 34: 0 inserted, 0 updated, 0 kept, 0 purged\n", fault: None },
+    Purging { moment: 20_000, drops: DROPS, behind: "", before: OF_DROPS, printed: "place 31: 0 inserted, 0 updated, 0 kept, 4293909575 purged\n", fault: None },
+    Purging { moment: 0, drops: &[9], behind: "", before: &[0], printed: "place 0: 0 inserted, 0 updated, 0 kept, 9 purged\n", fault: None },
+    Purging { moment: 7, drops: &[4_294_967_295, 0, 0, 0], behind: "", before: &[7, 6, 4, 0], printed: "place 3: 0 inserted, 0 updated, 0 kept, 4294967295 purged\n", fault: None },
+    Purging { moment: 7, drops: &[4_294_967_295, 1], behind: "", before: &[7, 6], printed: "place 0: 0 inserted, 0 updated, 0 kept, 4294967295 purged\n", fault: Some(AskFault::Reply) },
+    Purging { moment: 7, drops: &[0], behind: PURGED, before: &[7, 0], printed: "place 5: 1 inserted, 2 updated, 3 kept, 4294967295 purged\n", fault: None },
+    Purging { moment: 7, drops: &[3], behind: "00000002ff51", before: &[7, 0], printed: "place 0: 0 inserted, 0 updated, 0 kept, 3 purged\n", fault: Some(AskFault::Refused(0x51)) },
+    Purging { moment: 7, drops: &[3], behind: "0000000182", before: &[7, 0], printed: "place 0: 0 inserted, 0 updated, 0 kept, 3 purged\n", fault: Some(AskFault::Reply) },
+    Purging { moment: 7, drops: &[3], behind: "00000019", before: &[7, 0], printed: "place 0: 0 inserted, 0 updated, 0 kept, 3 purged\n", fault: Some(AskFault::Cut) },
+    Purging { moment: 7, drops: &[], behind: "00000002ff51", before: &[7], printed: "", fault: Some(AskFault::Refused(0x51)) },
+];
+
+/// These purges.
+fn purgings() -> &'static [Purging] {
+    PURGINGS
+}
+
+/// The replies of a server to a purge in steps, from the place 0 on.
+fn replies_to(alloc: Global, purging: &Purging) -> Result<Vec<u8>, Fail> {
+    let mut replies = Vec::new(alloc);
+    for (place, dropped) in purging.drops.iter().enumerate() {
+        replies.extend_from_slice(b"\0\0\0\x19\x83")?;
+        replies.extend_from_slice(&(place as u64).to_be_bytes())?;
+        replies.extend_from_slice(&[0; 12])?;
+        replies.extend_from_slice(&dropped.to_be_bytes())?;
+    }
+    let behind = hex::decode(alloc, purging.behind)?;
+    replies.extend_from_slice(behind.as_slice())?;
+    Ok(replies)
+}
+
+/// The frames of the commands of a purge in steps.
+fn frames_of(alloc: Global, purging: &Purging) -> Result<Vec<u8>, Fail> {
+    let mut frames = Vec::new(alloc);
+    for before in purging.before {
+        let moment = purging.moment.saturating_sub(*before);
+        frames.extend_from_slice(b"\0\0\0\x09\x03")?;
+        frames.extend_from_slice(&moment.to_be_bytes())?;
+    }
+    Ok(frames)
+}
+
+/// Purges in steps over a link: the fault, if there is one.
+fn purge_over(
+    alloc: Global,
+    link: &mut Script,
+    moment: u64,
+    output: &mut Vec<u8>,
+) -> Option<AskFault> {
+    let question = Question::Purge(Some(moment));
+    fault_of(ask(alloc, link, &question, 9, RowForm::Text, output))
+}
+
+/// Purges in steps over a script, and sees what was sent and printed.
+fn assert_purging(rt: &(impl Abort + AllocGlobal), purging: &Purging) -> Result<(), Fail> {
+    let alloc = rt.alloc();
+    let mut link = Script {
+        replies: replies_to(alloc, purging)?,
+        at: 0,
+        sent: Vec::new(alloc),
+    };
+    let mut output = Vec::new(alloc);
+    let fault = purge_over(alloc, &mut link, purging.moment, &mut output);
+    let printed = purging.printed.as_bytes();
+    assert_same(rt, &fault, &purging.fault, &purging.printed);
+    assert_same(rt, &output.as_slice(), &printed, &purging.printed);
+    let frames = frames_of(alloc, purging)?;
+    assert_same(
+        rt,
+        &link.sent.as_slice(),
+        &frames.as_slice(),
+        &purging.printed,
+    );
+    Ok(())
+}
+
+#[test]
+fn purges_in_steps(rt: HostRuntime) -> Result<(), Fail> {
+    for purging in purgings() {
+        assert_purging(&rt, purging)?;
     }
     Ok(())
 }

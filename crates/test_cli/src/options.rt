@@ -5,10 +5,10 @@ use crate::checks::assert_same;
 use clap::ArgMatches;
 use clap::error::ErrorKind;
 use cli_words::{
-    ASK, CHECKPOINT, CORES, CommandLine, DEVICE, FORCE, FORMAT, FUTURE, GRACE, HEX, IDLE, JOURNAL,
-    JSON, KEY, LAYOUT, LISTEN, LOG_PRIORITY, LOOKUP_SEATS, LOOKUPS, NEW, NOW, ONCE, PEER_SESSIONS,
-    PURGE, QUIET, REQUEST, RESERVE, RUN, SERVER, SESSIONS, SHOW, SPARE, STATUS, STATUS_LISTEN,
-    STOP_ON_END_OF_INPUT, Subcommand, TIMEOUT, UPGRADE, WORDS, read,
+    ASK, AT_ONCE, CHECKPOINT, CORES, CommandLine, DEVICE, FORCE, FORMAT, FUTURE, GRACE, HEX, IDLE,
+    JOURNAL, JSON, KEY, LAYOUT, LISTEN, LOG_PRIORITY, LOOKUP_SEATS, LOOKUPS, NEW, NOW, ONCE,
+    PEER_SESSIONS, PURGE, QUIET, REQUEST, RESERVE, RUN, SERVER, SESSIONS, SHOW, SPARE, STATUS,
+    STATUS_LISTEN, STOP_ON_END_OF_INPUT, Subcommand, TIMEOUT, UPGRADE, WORDS, read,
 };
 use std::alloc::Global;
 use std::process::Abort;
@@ -60,7 +60,7 @@ const ALL_OF_ONCE: &str = "once --cores 1-1,2-2 --now 5 --key 00ff --hex";
 const ALL_OF_RUN: &str =
     "run --quiet --grace 4294967295 --stop-on-end-of-input --peer-sessions 18446744073709551615 --idle 4294967295 --future 4294967295 --spare 56 --purge 4294967295 --lookup-seats 56 --lookups [::1]:2 --log-priority --sessions 18446744073709551615 --key 00 --cores 1-1 --status [::1]:1 --listen [::1]:0 d";
 
-const ALL_OF_ASK: &str = "ask --timeout 4294967295 a list up --json 1-0 0-0";
+const ALL_OF_ASK: &str = "ask --timeout 4294967295 a list up --json --at-once 1-0 0-0";
 
 #[rattlefmt::skip]
 const VALUES: &[Value] = &[
@@ -160,6 +160,8 @@ const FLAGS: &[Flag] = &[
     Flag { line: "show d --json", command: SHOW, flag: JSON, is_given: true },
     Flag { line: "ask a list", command: ASK, flag: JSON, is_given: false },
     Flag { line: ALL_OF_ASK, command: ASK, flag: JSON, is_given: true },
+    Flag { line: "ask a purge 5", command: ASK, flag: AT_ONCE, is_given: false },
+    Flag { line: ALL_OF_ASK, command: ASK, flag: AT_ONCE, is_given: true },
     Flag { line: "run d --listen a", command: RUN, flag: QUIET, is_given: false },
     Flag { line: ALL_OF_RUN, command: RUN, flag: QUIET, is_given: true },
     Flag { line: "run d --listen a", command: RUN, flag: LOG_PRIORITY, is_given: false },

@@ -4,13 +4,15 @@
 
 200 segments of three types are registered from lines of JSON, listed by pages, compared with `show`
 of the store at rest, and registered again at another server. Refused lines, removals, purges and
-lookups follow. Then there is no server, a silent one, one that cuts a reply, one that drips it, and
+lookups follow. 20,000 segments that expire one after the other are purged in steps, whose moments
+and number are those that the page of the protocol says. Then there is no server, a silent one, one that cuts a reply, one that drips it, and
 ones whose replies are changed at random, for 300 turns of a printed seed: the program has to end by
 a status and a line of its own. It needs Python 3 and the loopback, and ends with the status 1 where
 something else comes.
 """
 from __future__ import annotations
 
+import bisect
 import json
 import random
 import socket
@@ -33,6 +35,12 @@ TYPES = {1: "up", 2: "down", 3: "core"}
 COUNTS = {1: 5, 2: 150, 3: 45}
 # How often a reply is changed at random, and the seed of it.
 TURNS, SEED = 300, 61
+# How many segments are purged in steps, within how many half seconds they expire, and how many are
+# registered as one.
+SPREAD, WITHIN, TOGETHER = 20_000, 172_800, 16
+# The steps of docs/PROTOCOL.md: how far before the moment the first one is, and the most commands
+# for a store that has nothing to purge.
+REACH, OF_NOTHING = 262_144, 35
 # How long a command may take, in seconds.
 PATIENCE = 60
 
@@ -184,6 +192,7 @@ def commands(program: str, folder: Path) -> None:
         expect("purge of now", [it.split(": ")[1] for it in asker.well("purge")], ["0 inserted, 0 updated, 0 kept, 0 purged"])
         all_of = 2 * runs.MADE + 10_000_000
         expect("purge", [it.split(": ")[1] for it in asker.well(f"purge {all_of}")], [f"0 inserted, 0 updated, 0 kept, {place - 1} purged"])
+        expect("purge at once", [it.split(": ")[1] for it in asker.well("purge --at-once")], ["0 inserted, 0 updated, 0 kept, 0 purged"])
         expect("after it", asker.well("list"), [])
     for line, error in {
         "lookup 1 2": "word 1", "lookup 1-1 1-x": "word 2", "list sideways": "word 1", "purge +1": "word 1", "remove up 00": "word 2",
@@ -192,6 +201,51 @@ def commands(program: str, folder: Path) -> None:
     for line in ("lookup 1-1", "list up 1-1 1-1 1-1", "register", "purge 1 2", "remove up", "sideways", "list --timeout 0"):
         status, out, err = asker.run(line)
         expect(line, (status, out), (2, ""))
+
+
+def next_moment(before: int, width: int, dropped: int, last: int) -> tuple[int, int]:
+    """The moment of the next step of a purge, and the time that the step covers, as docs/PROTOCOL.md has it."""
+    if dropped > 1024:
+        width //= dropped // 512 + 1
+    elif dropped < 256:
+        width *= 2
+    left = last - before
+    width = min(max(width, 1), max(left // 8, 1024), left)
+    return before + width, width
+
+
+def steps_of(last: int, expiries: list[int]) -> list[tuple[int, int]]:
+    """The moments of a purge in steps of rows with these expiries, in order, and how many rows each one drops."""
+    moment, width, made, gone = max(last - REACH, 0), REACH, [], 0
+    while True:
+        dropped = bisect.bisect_right(expiries, moment) - gone
+        gone += dropped
+        made.append((moment, dropped))
+        if moment == last:
+            return made
+        moment, width = next_moment(moment, width, dropped, last)
+
+
+def purges_in_steps(program: str, folder: Path) -> None:
+    """A purge of many rows is several commands, and its counts are the sum of theirs."""
+    store = folder / "spread"
+    runs.format_store(program, store, model.Layout(2 * SPREAD, 40_000))
+    made = [segment(number, runs.MADE + number * (WITHIN // 2) // SPREAD) for number in range(SPREAD)]
+    expiries = sorted(model.row_of(data).expiry for data in made)
+    last = expiries[-1] + 5_000
+    with server(program, store) as asker:
+        with runs.connected(int(asker.address.split(":")[1])) as peer:
+            for first in range(0, SPREAD, TOGETHER):
+                peer.sendall(messages.registration([(model.DOWN, data) for data in made[first : first + TOGETHER]]))
+                expect("a registration", peer.recv(64)[4], 0x81)
+        place = SPREAD // TOGETHER
+        wanted = steps_of(last, expiries)
+        print(f"{len(wanted)} commands drop {SPREAD} segments, {max(dropped for _, dropped in wanted)} of them at most", flush=True)
+        place += len(wanted)
+        expect("a purge in steps", asker.well(f"purge {last}"), [f"place {place - 1}: 0 inserted, 0 updated, 0 kept, {SPREAD} purged"])
+        place += OF_NOTHING
+        expect("one of nothing", asker.well(f"purge {last}"), [f"place {place - 1}: 0 inserted, 0 updated, 0 kept, 0 purged"])
+        expect("one at once", asker.well(f"purge --at-once {last}"), [f"place {place}: 0 inserted, 0 updated, 0 kept, 0 purged"])
 
 
 @contextmanager
@@ -253,11 +307,15 @@ def false_servers(program: str) -> None:
         if not 0.9 < time.monotonic() - began < 3:
             raise Wrong(f"a silent server was waited for {time.monotonic() - began} s")
     with false_server(drip) as port:
-        Asker(program, port).fails("purge --timeout 1", "timeout")
+        Asker(program, port).fails("purge --at-once --timeout 1", "timeout")
     ack = struct.pack(">IBQ4I", 25, 0x83, 5, 0, 0, 0, 7)
     with false_server(answer(ack)) as port:
-        expect("an acknowledgement", Asker(program, port).well("purge"), ["place 5: 0 inserted, 0 updated, 0 kept, 7 purged"])
+        expect("an acknowledgement", Asker(program, port).well("purge --at-once"), ["place 5: 0 inserted, 0 updated, 0 kept, 7 purged"])
         Asker(program, port).fails("list", "reply")
+        # The reply to the first step is printed, and there is none to the second one.
+        Asker(program, port).fails("purge", "cut", printed=1)
+    with false_server(answer(ack + bytes.fromhex("00000002ff51"))) as port:
+        Asker(program, port).fails("purge", "refused 0x51", printed=1)
     for length in (0, 1, 4, 5, 28):
         with false_server(answer(ack[:length])) as port:
             Asker(program, port).fails("purge", "cut")
@@ -323,6 +381,7 @@ def main(words: list[str]) -> int:
         with runs.scratch() as folder:
             register_and_list(program, folder)
             commands(program, folder)
+            purges_in_steps(program, folder)
             false_servers(program)
             changed_replies(program)
     except Wrong as wrong:

@@ -3,7 +3,7 @@ use Rattle.std.proofs.Common.{◌≡◌, ◌+◌, ◌∷◌, drop, ap, ◌∙◌
 use Rattle.std.proofs.lemmas.List.{drop_more}
 use Rattle.row_lines.specs.Form.{line_as}
 use Rattle.cli_ask.specs.Lines.{segment_lines}
-use Rattle.cli_ask.proofs.Written.{HasWritten-next}
+use Rattle.whole_writes.proofs.Fronts.{HasWritten-next}
 use Rattle.cli_ask.proofs.lines.print_segments.Goals as goal
 
 pub loop-segment-preserved : goal.loop-segment-preserved

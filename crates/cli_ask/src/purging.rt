@@ -1,0 +1,81 @@
+//! Purging, in steps or at once.
+
+use crate::asking::exchange;
+use crate::error::AskError;
+use crate::lines::print_ack;
+use crate::link::Link;
+use crate::steps::{Step, total_of};
+use row_lines::RowForm;
+use session_core::{Ack, Message, Reply};
+use std::alloc::Global;
+use std::io::Write;
+
+/// Purges by a moment in steps, and prints what all of them did as one line, with the place of the
+/// last one. Where a step fails, no further one is sent, and the line is of those before it.
+pub(crate) fn purge<L: Link, W: Write>(
+    alloc: Global,
+    link: &mut L,
+    moment: u64,
+    form: RowForm,
+    writer: &mut W,
+) -> Result<(), AskError> {
+    let mut total = None;
+    let came = drop_in_steps(alloc, link, moment, &mut total);
+    if let Some(ack) = total {
+        print_ack(alloc, form, &ack, writer)?;
+    }
+    came
+}
+
+/// Purges by a moment, and prints what that did.
+pub(crate) fn purge_at_once<L: Link, W: Write>(
+    alloc: Global,
+    link: &mut L,
+    moment: u64,
+    form: RowForm,
+    writer: &mut W,
+) -> Result<(), AskError> {
+    let ack = drop_by(alloc, link, moment)?;
+    print_ack(alloc, form, &ack, writer)
+}
+
+/// Purges by rising moments, of which the last is this one. `total` is what all steps so far did, if
+/// there is one.
+fn drop_in_steps<L: Link>(
+    alloc: Global,
+    link: &mut L,
+    moment: u64,
+    total: &mut Option<Ack>,
+) -> Result<(), AskError> {
+    let mut step = Step::first(moment);
+    let mut dropped = drop_more(alloc, link, step.moment, total)?;
+    while step.moment < moment {
+        step = step.next(dropped, moment);
+        dropped = drop_more(alloc, link, step.moment, total)?;
+    }
+    Ok(())
+}
+
+/// Drops what expires at a moment or before, and adds what that did to the total. Returns how many
+/// segments were dropped.
+fn drop_more<L: Link>(
+    alloc: Global,
+    link: &mut L,
+    moment: u64,
+    total: &mut Option<Ack>,
+) -> Result<u32, AskError> {
+    let ack = drop_by(alloc, link, moment)?;
+    *total = match *total {
+        Some(before) => Some(total_of(before, ack)?),
+        None => Some(ack),
+    };
+    Ok(ack.outcome.purged)
+}
+
+/// Drops what expires at a moment or before, by one command.
+fn drop_by<L: Link>(alloc: Global, link: &mut L, moment: u64) -> Result<Ack, AskError> {
+    match exchange(alloc, link, &Message::Purge(moment))? {
+        Reply::Purged(ack) => Ok(ack),
+        _ => Err(AskError::Unasked),
+    }
+}
