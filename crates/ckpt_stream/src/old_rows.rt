@@ -125,8 +125,20 @@ pub(crate) fn rows_on<D: Device>(
     if rows.first == sectors_before_end(rows.front.size) {
         return Ok(HalfRead::Settled(settle_rows(rows)?));
     }
+    make_room(&mut rows.sums, rows.first, rows.front.size)?;
     read_row_sectors(alloc, device, geometry.area_at(half), &mut rows)?;
     Ok(HalfRead::Rows(rows))
+}
+
+/// Takes the memory for the sums of all sectors up to the end of rows of `size` bytes, where no
+/// sector is read. A list that grows would be copied by one call.
+fn make_room(sums: &mut Vec<u64>, first: u64, size: u32) -> Result<(), AllocError>
+    ensures { sums.new.items ≡ sums.old.items }
+{
+    if first == 0 {
+        sums.reserve_exact(sectors_before_end(size) as usize)?;
+    }
+    Ok(())
 }
 
 /// Has the planner plan for the next commands of the journal.

@@ -29,7 +29,7 @@ pub record Moves (more : List Command) (old new : StateView) : Type 0 where
   pub pending : new.pending ≡ drop shown old.pending ++ more
   pub geometry : new.geometry ≡ old.geometry
 
-length_drop : {A : Type 0} (n : ℕ) (list : List A) → n ≤ length list → length (drop n list) + n ≡ length list
+pub length_drop : {A : Type 0} (n : ℕ) (list : List A) → n ≤ length list → length (drop n list) + n ≡ length list
 length_drop n list inside = omega (arith, length-drop n list)
 
 -- two fronts, one after the other
@@ -39,7 +39,7 @@ in_parts value front behind =
     let place : value.place + length front + length behind ≡ value.place + length (front ++ behind) = omega (arith, length-append front behind) in
     λ i. record { db = db i; place = place i }
 
-then_front : (value : StoreValue (List RowView)) (order : List Command) (done n : ℕ) → value_after store_format (value_after store_format value (take done order)) (take n (drop done order)) ≡ value_after store_format value (take (done + n) order)
+pub then_front : (value : StoreValue (List RowView)) (order : List Command) (done n : ℕ) → value_after store_format (value_after store_format value (take done order)) (take n (drop done order)) ≡ value_after store_format value (take (done + n) order)
 then_front value order done n =
     in_parts value (take done order) (take n (drop done order)) ∙ ap (λ (l : List Command). value_after store_format value l) (sym (take-add done n order))
 
@@ -78,10 +78,10 @@ module _ (start mid : StateView) (order : List Command) (is : IsFrontCommitted s
       }
 
 -- a smaller lower bound, and a longer order
-less_prefix : (start : StateView) (order : List Command) (least fewer : ℕ) → fewer ≤ least → (image : List ℕ) → OpensToPrefix start order least image → OpensToPrefix start order fewer image
+pub less_prefix : (start : StateView) (order : List Command) (least fewer : ℕ) → fewer ≤ least → (image : List ℕ) → OpensToPrefix start order least image → OpensToPrefix start order fewer image
 less_prefix start order least fewer less image opens = record { kept = opens.kept; enough = omega (arith, less, opens.enough); inside = opens.inside; opens = opens.opens }
 
-longer_prefix : (start : StateView) (order more : List Command) (least : ℕ) (image : List ℕ) → OpensToPrefix start order least image → OpensToPrefix start (order ++ more) least image
+pub longer_prefix : (start : StateView) (order more : List Command) (least : ℕ) (image : List ℕ) → OpensToPrefix start order least image → OpensToPrefix start (order ++ more) least image
 longer_prefix start order more least image opens = record {
   kept = opens.kept;
   enough = opens.enough;
@@ -101,10 +101,10 @@ exit_so start end order is exit honest image left =
     subst (λ (n : ℕ). OpensToPrefix start order n image) (sym (done_is start end order is)) (to_prefix start end order is image (exit honest image left))
 
 -- the bytes after the store, compared with the state at the start
-abbrev Behind : StateView → List ℕ → Type 0
+abbrev pub Behind : StateView → List ℕ → Type 0
 Behind view = IsFromImage view.disk.history.now (SameBehind view.geometry)
 
-behind_then : (start mid new : StateView) → mid.geometry ≡ start.geometry → Stretch start.disk mid.disk (Behind start) → Stretch mid.disk new.disk (Behind mid) → Stretch start.disk new.disk (Behind start)
+pub behind_then : (start mid new : StateView) → mid.geometry ≡ start.geometry → Stretch start.disk mid.disk (Behind start) → Stretch mid.disk new.disk (Behind mid) → Stretch start.disk new.disk (Behind start)
 behind_then start mid new same so_far more =
     stretch_then (Behind start) start.disk mid.disk new.disk so_far
     (stretch_honest (Behind mid) (Behind start) mid.disk new.disk

@@ -54,7 +54,7 @@ module _ (image : List ℕ) where
   refuses_no_store e refused value so = by_error e (opening_read store_format latest image so.opening so.is) refused
 
 -- images that open alike open to the same value
-alike_opens : (value : StoreValue (List RowView)) (before behind : List ℕ) → OpensTo store_format latest before value → OpensAlike before behind → OpensTo store_format latest behind value
+pub alike_opens : (value : StoreValue (List RowView)) (before behind : List ℕ) → OpensTo store_format latest before value → OpensAlike before behind → OpensTo store_format latest behind value
 alike_opens value before behind opens (inl same) = subst (λ (image : List ℕ). OpensTo store_format latest image value) (sym same) opens
 alike_opens value before behind opens (inr both) = record {
   opening = both.opening;

@@ -11,16 +11,16 @@ mod events;
 mod follow_events;
 mod group_events;
 mod holding;
+mod laws;
 mod plan_events;
 mod reopening;
-mod run_laws;
 mod run_state;
 mod running;
 mod ticket_events;
 mod winding;
 
 pub use events::{Event, PublishRefusal, Reply, StepRefusal};
+pub use laws::run::{events_keep_the_books, events_make_machine_steps, stops_reopen_machines};
 pub use reopening::{NotReopened, reopen, reopen_state};
-pub use run_laws::{events_keep_the_books, events_make_machine_steps, stops_reopen_machines};
 pub use run_state::Run;
 pub use running::run;

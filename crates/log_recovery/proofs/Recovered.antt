@@ -23,7 +23,7 @@ use Rattle.command_log.specs.declared.rule.Claim.{Claim}
 use Rattle.command_log.specs.Log.{since_of}
 use Rattle.group_core.specs.Starting.{value_of_store}
 use Rattle.group_recovery.specs.Reopening.{HasValueOf, RefusesNoStore, SaysNothingOfTheImage}
-use Rattle.prefix_recovery.proofs.Recovered.{alike_opens}
+use Rattle.group_recovery.proofs.Reopened.{alike_opens}
 use Rattle.logged_state.specs.Left.{OpensToFrontOf}
 use Rattle.logged_state.specs.LeftView.{LeftView}
 use Rattle.logged_state.specs.Kept.{IsClaimKept, AllClaimsKept, IsFrontKept, IsShownKept, AllShownKept}

@@ -1,31 +1,14 @@
 -- Values after fronts of an order.
-use Rattle.std.proofs.Common.{◌≡◌, ℕ, suc, ◌+◌, ◌≤◌, List, [], ◌∷◌, ◌++◌, length, take, drop, refl, sym, ◌∙◌, ap, arith, length-append, length-drop}
+use Rattle.std.proofs.Common.{◌≡◌, ℕ, suc, ◌+◌, ◌≤◌, List, [], ◌∷◌, ◌++◌, length, take, refl, sym, ◌∙◌, ap, arith, length-append}
 use Rattle.std.proofs.lemmas.List.{length-take-le}
-use Rattle.std.proofs.Math.Seq.{take-add}
 use Rattle.row_map.specs.Database.{RowView}
 use Rattle.path_db.specs.declared.command.Command.{Command}
 use Rattle.path_db.specs.Command.{database_after, database_after_all}
 use Rattle.store_layout.specs.Opening.{StoreValue}
 use Rattle.store_layout.specs.StoreFormat.{db_after}
 use Rattle.store_layout.specs.StoreValues.{value_after}
-use Rattle.store_layout.proofs.Exports.{folds_in_parts}
 use Rattle.store_open.specs.PathStores.{store_format}
 use Rattle.prefix_recovery.specs.Survival.{IsAfterFront}
-
-pub length_drop : {A : Type 0} (n : ℕ) (list : List A) → n ≤ length list → length (drop n list) + n ≡ length list
-length_drop n list inside = omega (arith, length-drop n list)
-
--- two fronts, one after the other
-in_parts : (value : StoreValue (List RowView)) (front behind : List Command) → value_after store_format (value_after store_format value front) behind ≡ value_after store_format value (front ++ behind)
-in_parts value front behind =
-    let db = sym (folds_in_parts (List RowView) Command store_format value.db front behind) in
-    let place : value.place + length front + length behind ≡ value.place + length (front ++ behind) = omega (arith, length-append front behind) in
-    λ i. record { db = db i; place = place i }
-
-pub then_front : (value : StoreValue (List RowView)) (order : List Command) (done n : ℕ)
-    → value_after store_format (value_after store_format value (take done order)) (take n (drop done order)) ≡ value_after store_format value (take (done + n) order)
-then_front value order done n =
-    in_parts value (take done order) (take n (drop done order)) ∙ ap (λ (l : List Command). value_after store_format value l) (sym (take-add done n order))
 
 -- the value after no commands
 pub none_after : (value : StoreValue (List RowView)) → value ≡ value_after store_format value []

@@ -3,18 +3,15 @@ use Rattle.std.proofs.Common.{◌≡◌, ℕ, ◌+◌, ◌-◌, ◌≤◌, List,
 use Rattle.std.proofs.lemmas.List.{take-append-le, drop-append-le, drop-drop, length-take-le}
 use Rattle.row_map.specs.Database.{RowView}
 use Rattle.path_db.specs.declared.command.Command.{Command}
-use Rattle.sector_dev.specs.Image.{IsFromImage}
-use Rattle.sector_dev.specs.Stretch.{Stretch}
-use Rattle.sector_dev.proofs.Stretches.{honest_before, at_exit, stretch_weaker, stretch_then, stretch_here, stretch_honest}
-use Rattle.store_layout.specs.Layout.{Geometry}
+use Rattle.sector_dev.proofs.Stretches.{stretch_weaker, stretch_then, stretch_here}
 use Rattle.store_layout.specs.Opening.{StoreValue, OpensTo}
 use Rattle.store_layout.specs.StoreValues.{value_after}
 use Rattle.store_layout.specs.Limits.{latest}
-use Rattle.store_open.specs.Behind.{SameBehind}
 use Rattle.store_open.specs.PathStores.{store_format}
 use Rattle.group_core.specs.StateView.{StateView}
 use Rattle.group_recovery.specs.RunLeaves.{IsFrontCommitted, OpensToPrefix, RunLeaves}
-use Rattle.prefix_recovery.proofs.Fronts.{length_drop, then_front, none_after}
+use Rattle.group_recovery.proofs.Prefix.{length_drop, then_front, less_prefix, longer_prefix, Behind, behind_then}
+use Rattle.prefix_recovery.proofs.Fronts.{none_after}
 
 module _ (a b : StateView) (o more : List Command) (first : IsFrontCommitted a o b) where
   -- what is pending in the middle, with what is accepted later, is the rest of the whole order
@@ -53,35 +50,6 @@ module _ (a b : StateView) (o more : List Command) (first : IsFrontCommitted a o
   place_joined : b.value.place ≡ a.value.place + first.done
   place_joined = ap (λ (v : StoreValue (List RowView)). v.place) first.value ∙ ap (λ (n : ℕ). a.value.place + n) (length-take-le first.done o first.inside)
 
--- a smaller lower bound, and a longer order
-less_prefix : (start : StateView) (order : List Command) (least fewer : ℕ) → fewer ≤ least → (image : List ℕ) → OpensToPrefix start order least image → OpensToPrefix start order fewer image
-less_prefix start order least fewer less image opens = record { kept = opens.kept; enough = omega (arith, less, opens.enough); inside = opens.inside; opens = opens.opens }
-
-longer_prefix : (start : StateView) (order more : List Command) (least : ℕ) (image : List ℕ) → OpensToPrefix start order least image → OpensToPrefix start (order ++ more) least image
-longer_prefix start order more least image opens = record {
-  kept = opens.kept;
-  enough = opens.enough;
-  inside = omega (arith, opens.inside, length-append order more);
-  opens = subst (λ (l : List Command). OpensTo store_format latest image (value_after store_format start.value l)) (sym (take-append-le opens.kept order more opens.inside)) opens.opens;
-}
-
--- the bytes after the store, compared with the state at the start
-abbrev Behind : StateView → List ℕ → Type 0
-Behind view = IsFromImage view.disk.history.now (SameBehind view.geometry)
-
-behind_joined : (a b c : StateView) → b.geometry ≡ a.geometry → Stretch a.disk b.disk (Behind a) → Stretch b.disk c.disk (Behind b) → Stretch a.disk c.disk (Behind a)
-behind_joined a b c same first second =
-    stretch_then (Behind a) a.disk b.disk c.disk first
-    (stretch_honest (Behind b) (Behind a) b.disk c.disk
-    (λ honest content from.
-    let earlier = at_exit (Behind a) a.disk b.disk first (honest_before a.disk b.disk first.keeps honest) from.before from.image in
-    record {
-      before = earlier.before;
-      image = earlier.image;
-      related = λ at n far. subst (λ (g : Geometry). SameBehind g from.before content) same from.related at n far ∙ earlier.related at n far;
-    })
-    second)
-
 pub leaves_joined : (a b c : StateView) (o more : List Command) → RunLeaves a o b → RunLeaves b (b.pending ++ more) c → RunLeaves a (o ++ more) c
 leaves_joined a b c o more first second = record {
   committed = committed_joined a b o more first.committed c second.committed;
@@ -96,7 +64,7 @@ leaves_joined a b c o more first second = record {
       (omega (arith, place_joined a b o more first.committed)) image
       (prefix_joined a b o more first.committed (c.value.place - b.value.place) image (second.exit honest image left));
   geometry = second.geometry ∙ first.geometry;
-  behind = behind_joined a b c first.geometry first.behind second.behind;
+  behind = behind_then a b c first.geometry first.behind second.behind;
 }
 
 -- what a stop leaves of the state at the end of a run

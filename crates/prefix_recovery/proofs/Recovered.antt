@@ -1,15 +1,12 @@
 -- What is opened after a stop.
-use Rattle.std.proofs.Common.{◌≡◌, inl, inr, ℕ, ◌+◌, ◌≤◌, List, [], ◌∷◌, length, take, drop, refl, sym, ◌∙◌, ap, subst, arith, All, Contains}
+use Rattle.std.proofs.Common.{◌≡◌, inl, inr, ℕ, ◌+◌, ◌≤◌, List, [], ◌∷◌, length, take, drop, ◌∙◌, ap, arith, All, Contains}
 use Rattle.std.proofs.lemmas.List.Elements.{All-head, All-tail, All-contains}
 use Rattle.row_map.specs.Database.{RowView}
-use Rattle.path_db.specs.declared.command.Command.{Command}
 use Rattle.sector_dev.specs.Disk.{Moment, Disk, IsHonest, IsWhole, reads_of, moments}
 use Rattle.sector_dev.specs.Image.{EveryImage, IsFromImage}
 use Rattle.sector_dev.proofs.Images.{image_of_reads}
-use Rattle.store_layout.specs.Opening.{StoreValue, OpensTo, opening_value}
+use Rattle.store_layout.specs.Opening.{StoreValue}
 use Rattle.store_layout.specs.StoreValues.{value_after}
-use Rattle.store_layout.proofs.Exports.{has_one_value}
-use Rattle.store_layout.specs.Limits.{latest}
 use Rattle.store_open.specs.Open.{OpensAlike}
 use Rattle.store_open.specs.PathStores.{store_format}
 use Rattle.store_open.specs.Store.{StoreView}
@@ -20,18 +17,9 @@ use Rattle.group_recovery.specs.RunLeaves.{OpensToPrefix}
 use Rattle.group_recovery.specs.Reopening.{HasValueOf, RefusesNoStore, SaysNothingOfTheImage}
 use Rattle.prefix_recovery.specs.Survival.{Attempt, TraceView, runs_of, end_of, IsStopSince, MayBeLeft, IsLeftSince, IsAfterFront, Recovers}
 use Rattle.prefix_recovery.specs.Recoverable.{LeavesFront, OpensAsBefore, IsRecoverable}
-use Rattle.prefix_recovery.proofs.Fronts.{length_drop, then_front, after_front}
-
--- images that open alike open to the same value
-pub alike_opens : (value : StoreValue (List RowView)) (before behind : List ℕ) → OpensTo store_format latest before value → OpensAlike before behind → OpensTo store_format latest behind value
-alike_opens value before behind opens (inl same) = subst (λ (image : List ℕ). OpensTo store_format latest image value) (sym same) opens
-alike_opens value before behind opens (inr both) = record {
-  opening = both.opening;
-  is = both.opens_behind;
-  stands_for =
-      has_one_value (List RowView) Command store_format latest before (opening_value store_format both.opening) value
-      (record { opening = both.opening; is = both.opens_before; stands_for = refl }) opens;
-}
+use Rattle.group_recovery.proofs.Prefix.{length_drop, then_front}
+use Rattle.group_recovery.proofs.Reopened.{alike_opens}
+use Rattle.prefix_recovery.proofs.Fronts.{after_front}
 
 module _ (trace : TraceView) (run : RunView) (front : LeavesFront trace run) where
   -- the image opens to what was committed in this state, with a front of the rest of the order

@@ -7,6 +7,7 @@ mod ResponseLengths
 mod WriteLemmas
 mod AheadLemmas
 mod Exchanges
+pub mod AtOnce
 mod SessionLemmas
 mod InboxLemmas
 mod Behind

@@ -6,7 +6,7 @@ use Rattle.std.proofs.lemmas.List.Folds.{concat-append}
 use Rattle.std.proofs.lemmas.Fn.{FoldsTo-push}
 use Rattle.std.specs.List.{AllByRecursion, FoldsTo, concat}
 use Rattle.std.specs.Io.KnownBytes.{Appends, Keeps}
-use Rattle.std.proofs.KnownBytes.{Appends-nil, Appends-trans, Appends-kept}
+use Rattle.std.proofs.KnownBytes.{Appends-trans, Appends-kept}
 use Rattle.session_core.specs.declared.error.FrameError.{FrameError}
 use Rattle.session_core.specs.declared.error.FrameError.TheVariants as error
 use Rattle.session_core.specs.declared.source.TheConstants.{MOST_PIECE}
@@ -18,9 +18,9 @@ use Rattle.session_core.specs.declared.reply.Form.TheVariants.{Frames}
 use Rattle.session_core.specs.Source.{AreReads, TakesIn, FailsToTakeIn}
 use Rattle.session_core.specs.Session.{WritesReplies, LeavesAhead, TellsFrontOfLast, IsPrompt, EndsFor, IsServed, IsSentFor}
 use Rattle.session_core.specs.Answered.{AreFrontsAnswered}
-use Rattle.session_core.specs.Lines.{IsServedInLines}
 use Rattle.session_core.proofs.AheadLemmas.{none_ahead, all_ahead}
-use Rattle.session_core.proofs.Streams.{AreWholeFrames-none, AreWholeFrames-append, AreWholeFrames-more}
+use Rattle.session_core.proofs.AtOnce.{nothing_is_partial}
+use Rattle.session_core.proofs.Streams.{AreWholeFrames-append, AreWholeFrames-more}
 use Rattle.session_core.proofs.Exchanges.{HasAnswered, answered_none, sized-append, folds-append, messages-append, replies-append, told-append}
 
 -- ---- one piece
@@ -83,30 +83,11 @@ sent_for P (Err error.Read) p = p
 sent_for P (Err error.Write) p = tt
 sent_for P (Err error.Turns) p = p
 
--- no memory for a session over bytes in memory
-pub ends_in_lines_at_once : {S : Type 0} (answers : S → MessageView → ReplyView → S → Type 0) (bytes : List ℕ) (s : S) (o : Option (List ℕ)) (e : FrameError) → e ≡ error.NoMemory → IsServedInLines answers bytes s s o o (Err e)
-ends_in_lines_at_once answers bytes s o e is = subst (λ (x : FrameError). IsServedInLines answers bytes s s o o (Err x)) (sym is) (record {
-  exchanges = [];
-  rest = bytes;
-  handed = [];
-  ahead = none_ahead bytes;
-  written = [];
-  framed = AreWholeFrames-none bytes;
-  answered = refl;
-  sized = tt;
-  appended = Appends-nil o;
-  told = record { before = []; last = []; parts = refl; one = omega arith; written_is = refl };
-  ended = tt;
-})
-
 -- ---- all pieces
 
 pub pieces-append : (ps qs : List (List ℕ)) → AllByRecursion (λ piece. length piece ≤ MOST_PIECE) ps → AllByRecursion (λ piece. length piece ≤ MOST_PIECE) qs → AllByRecursion (λ piece. length piece ≤ MOST_PIECE) (ps ++ qs)
 pieces-append [] qs a b = b
 pieces-append (p ∷ ps) qs a b = (a.0, pieces-append ps qs a.1 b)
-
-pub nothing_is_partial : IsPartial []
-nothing_is_partial = record { length_is_right = λ h. absurd (omega arith); kind_is_right = λ h. absurd (omega arith); incomplete = λ h. absurd (omega arith) }
 
 -- At most this number of reads were made, all whole frames of their pieces were answered, and all
 -- replies were written.
@@ -128,36 +109,6 @@ module _ {S R : Type 0} (answers : S → MessageView → ReplyView → S → Typ
     short = tt;
     done = answered_none Frames answers s [] o 0 (omega arith);
     partial = nothing_is_partial;
-  })
-
-  -- no memory for the first read
-  pub ends_at_once : (turns : ℕ) (s : S) (r : R) (i : Type 0) (o : Option (List ℕ)) (e : FrameError) → e ≡ error.NoMemory → IsServed answers gives turns s s r r i o o (Err e)
-  ends_at_once turns s r i o e is = subst (λ (x : FrameError). IsServed answers gives turns s s r r i o o (Err x)) (sym is) (record {
-    pieces = [];
-    exchanges = [];
-    rest = [];
-    handed = [];
-    ahead = none_ahead [];
-    written = [];
-    read = record { made = refl; few = omega arith; short = tt };
-    framed = AreWholeFrames-none [];
-    answered = refl;
-    sized = tt;
-    appended = Appends-nil o;
-    told = record { before = []; last = []; parts = refl; one = omega arith; written_is = refl };
-    prompt = record {
-      earlier = [];
-      last = [];
-      pieces_are = refl;
-      one = omega arith;
-      told = [];
-      others = [];
-      exchanges_are = refl;
-      rest = [];
-      framed = record { rest = []; whole = AreWholeFrames-none []; ends = (refl, nothing_is_partial) };
-      kept = ([], refl);
-    };
-    ended = tt;
   })
 
   module _ (a b : S) (r s : R) (inbox : List ℕ) (o p : Option (List ℕ)) (count turn : ℕ) (h : SoFar answers gives a b r s inbox o p count turn) where

@@ -1,7 +1,7 @@
 use Rattle.std.proofs.Common.{rules, ap}
 use Rattle.std.proofs.lemmas.Result.{err_from_is_err_and}
 use Rattle.session_core.proofs.Behind.{served_in_lines_behind}
-use Rattle.session_core.proofs.SessionLemmas.{ends_in_lines_at_once}
+use Rattle.session_core.proofs.AtOnce.{ends_in_lines_at_once}
 use Rattle.session_core.proofs.lines.serve_in_lines.Goals as goal
 
 pub returns-in_err-ahead : goal.returns-in_err-ahead

@@ -1,6 +1,7 @@
 use Rattle.std.proofs.Common.{rules, ap}
 use Rattle.std.proofs.lemmas.Result.{err_from_is_err_and}
-use Rattle.session_core.proofs.SessionLemmas.{ends_at_once, sent_for}
+use Rattle.session_core.proofs.AtOnce.{ends_at_once}
+use Rattle.session_core.proofs.SessionLemmas.{sent_for}
 use Rattle.session_core.proofs.Behind.{served_behind}
 use Rattle.session_core.proofs.serving.serve.Goals as goal
 

@@ -1,5 +1,5 @@
 use Rattle.group_recovery.proofs.BooksKept.{books_kept, stops_stay}
-use Rattle.group_recovery.proofs.run_laws.events_keep_the_books.Goals as goal
+use Rattle.group_recovery.proofs.laws.run.events_keep_the_books.Goals as goal
 
 pub returns-clause-books : goal.returns-clause-books
 returns-clause-books c = books_kept
