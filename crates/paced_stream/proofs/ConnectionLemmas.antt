@@ -1,86 +1,37 @@
 -- A session over a connection, by the session over what reads it and what writes it: for
 -- `serve_connection`.
-use Rattle.std.proofs.Common.{◌≡◌, ℕ, List, [], ◌∷◌, ◌++◌, Some, Result, Ok, Err, refl, sym, ap, subst, arith}
+use Rattle.std.proofs.Common.{◌≡◌, ℕ, List, [], ◌∷◌, ◌++◌, Some, Result, Ok, Err, refl, sym, ap, subst}
 use Rattle.std.specs.List.{FoldsTo}
+use Rattle.std.proofs.lemmas.List.{append-nil}
 use Rattle.session_core.specs.declared.error.FrameError.{FrameError}
 use Rattle.session_core.specs.declared.error.FrameError.TheVariants as error
 use Rattle.session_core.specs.declared.source.TheConstants.{MOST_READS}
-use Rattle.session_core.specs.Frames.{MessageView, IsPartial, AreWholeFrames}
+use Rattle.session_core.specs.Frames.{MessageView}
 use Rattle.session_core.specs.Reply.{ReplyView}
-use Rattle.session_core.specs.Session.{IsServed, IsSentFor, IsPrompt, AreAhead}
+use Rattle.session_core.specs.Session.{IsServed, IsSentFor}
+use Rattle.session_core.proofs.AtOnce.{ends_at_once, fails_at_once}
 use Rattle.paced_stream.specs.Connection.{IsConnectionServed}
 
 -- ---- before the first read
 
-nothing_is_partial : IsPartial []
-nothing_is_partial = record { length_is_right = λ h. absurd (omega (arith, h)); kind_is_right = λ h. absurd (omega (arith, h)); incomplete = λ h. absurd (omega (arith, h)) }
-
-no_frames : AreWholeFrames [] [] []
-no_frames = record { joined = refl; sized = tt }
-
-no_prompt : IsPrompt [] [] []
-no_prompt = record {
-  earlier = [];
-  last = [];
-  pieces_are = refl;
-  one = omega arith;
-  told = [];
-  others = [];
-  exchanges_are = refl;
-  rest = [];
-  framed = record { rest = []; whole = no_frames; ends = (refl, nothing_is_partial) };
-  kept = ([], refl);
-}
-
-none_ahead : AreAhead [] []
-none_ahead = record { commands = tt; few = omega arith; behind = []; framed = no_frames }
-
 module _ {S T : Type 0} (answers : S → MessageView → ReplyView → S → Type 0) (given taken : T → List ℕ) (is_at_end : T → Type 0) where
+  -- a session that has written nothing leaves nothing unsent
+  connected : (s : S) (input output : T) (e : FrameError)
+      → IsServed answers (λ old bytes new. given new ≡ given old ++ bytes) MOST_READS s s input input (is_at_end input) (Some (taken output)) (Some (taken output)) (Err e)
+      → IsSentFor (◌≡◌ {A = List ℕ} [] []) (Err e) → IsConnectionServed answers given taken is_at_end s s input input output output (Err e)
+  connected s input output e served sent = record {
+    unsent = [];
+    served = subst (λ (written : List ℕ). IsServed answers (λ old bytes new. given new ≡ given old ++ bytes) MOST_READS s s input input (is_at_end input) (Some (taken output)) (Some written) (Err e)) (sym (append-nil (taken output))) served;
+    sent = sent;
+  }
+
   -- the connection could not be set up
   pub not_set_up : (s : S) (input output : T) → IsConnectionServed answers given taken is_at_end s s input input output output (Err error.Read)
-  not_set_up s input output = record {
-    unsent = [];
-    sent = refl;
-    served = record {
-      pieces = [];
-      exchanges = [];
-      rest = [];
-      handed = [];
-      written = [];
-      read = record { made = refl; few = omega arith; short = tt };
-      framed = no_frames;
-      answered = refl;
-      ahead = refl;
-      sized = tt;
-      appended = refl;
-      told = refl;
-      prompt = no_prompt;
-      ended = nothing_is_partial;
-    };
-  }
+  not_set_up s input output = connected s input output error.Read (fails_at_once answers _ MOST_READS s input (is_at_end input) (Some (taken output))) refl
 
   -- there is no memory for the buffer
   pub without_buffer : (s : S) (input output : T) → IsConnectionServed answers given taken is_at_end s s input input output output (Err error.NoMemory)
-  without_buffer s input output = record {
-    unsent = [];
-    sent = refl;
-    served = record {
-      pieces = [];
-      exchanges = [];
-      rest = [];
-      handed = [];
-      written = [];
-      read = record { made = refl; few = omega arith; short = tt };
-      framed = no_frames;
-      answered = refl;
-      ahead = none_ahead;
-      sized = tt;
-      appended = refl;
-      told = record { before = []; last = []; parts = refl; one = omega arith; written_is = refl };
-      prompt = no_prompt;
-      ended = tt;
-    };
-  }
+  without_buffer s input output = connected s input output error.NoMemory (ends_at_once answers _ MOST_READS s input (is_at_end input) (Some (taken output)) error.NoMemory refl) refl
 
 -- ---- a whole session
 
