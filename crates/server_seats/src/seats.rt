@@ -135,7 +135,7 @@ impl Seats {
         }
     }
 
-    /// The number of seats that are taken.
+    /// The number of seats that are taken, by one read of it. No clause says which number that is.
     pub fn taken(&self) -> u64 {
         self.taken.load(Ordering::SeqCst)
     }

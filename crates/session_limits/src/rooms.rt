@@ -24,7 +24,7 @@ pub(crate) struct Room<'a> {
 }
 
 impl Rooms {
-    /// Room for this number of sessions, which all is free.
+    /// Room for this number of sessions, which all is free. No clause says so.
     pub fn new(most: u64) -> Rooms {
         Rooms {
             most,
@@ -32,7 +32,8 @@ impl Rooms {
         }
     }
 
-    /// The number of sessions that have room, by one read of it.
+    /// The number of sessions that have room, by one read of it. No clause says which number that
+    /// is.
     pub fn taken(&self) -> u64 {
         self.taken.load(Ordering::SeqCst)
     }
