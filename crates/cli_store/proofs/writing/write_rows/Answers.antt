@@ -3,7 +3,8 @@ use Rattle.std.proofs.lemmas.Result.{err_from_is_err_and}
 use Rattle.row_map.specs.Row.{row_view}
 use Rattle.row_lines.specs.Form.{line_as}
 use Rattle.cli_store.specs.Text.{rows_text}
-use Rattle.cli_store.proofs.Fronts.{HasWritten-next, fails_behind}
+use Rattle.whole_writes.proofs.Fronts.{HasWritten-next}
+use Rattle.cli_store.proofs.Fronts.{fails_behind}
 use Rattle.cli_store.proofs.writing.write_rows.Goals as goal
 
 pub loop-row-preserved : goal.loop-row-preserved

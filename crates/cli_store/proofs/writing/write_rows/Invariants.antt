@@ -1,5 +1,5 @@
 use Rattle.cli_store.specs.Text.{rows_text}
-use Rattle.cli_store.proofs.Fronts.{HasWritten}
+use Rattle.whole_writes.proofs.Fronts.{HasWritten}
 use Rattle.cli_store.proofs.writing.write_rows.Given as goal
 
 -- The lines of the rows so far were written, and those of the rows that are left are the rest.
