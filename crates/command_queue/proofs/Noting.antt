@@ -2,7 +2,7 @@
 use Rattle.std.proofs.Common.{◌≡◌, ℕ, List, [], ◌∷◌, ◌++◌, length, sym, ap, ◌∙◌}
 use Rattle.std.proofs.lemmas.List.{map-append, length-map}
 use Rattle.path_db.specs.declared.command.Command.{Command}
-use Rattle.command_queue.specs.declared.rule.SentCommand.{SentCommand}
+use Rattle.command_queue.specs.declared.ghosts.rule.SentCommand.{SentCommand}
 use Rattle.command_queue.specs.Orders.{commands_of}
 use Rattle.command_queue.specs.Passes.{AddsOne}
 

@@ -10,9 +10,9 @@ use mathlib.Core.Option.{some, some-ne-none, some-injective}
 use lib.ListN.{get_elem?}
 use Rattle.atomic_table.proofs.Lists.{at_set, at_snoc}
 use Rattle.path_db.specs.declared.command.Command.{Command}
-use Rattle.command_queue.specs.declared.rule.SentCommand.{SentCommand}
-use Rattle.command_queue.specs.declared.rule.SenderList.{SenderList}
-use Rattle.command_queue.specs.declared.rule.QueueView.{QueueView}
+use Rattle.command_queue.specs.declared.ghosts.rule.SentCommand.{SentCommand}
+use Rattle.command_queue.specs.declared.ghosts.rule.SenderList.{SenderList}
+use Rattle.command_queue.specs.declared.ghosts.rule.QueueView.{QueueView}
 use Rattle.command_queue.specs.Orders.{commands_of, is_by, commands_by, IsWithin, IsAllOf}
 use Rattle.command_queue.specs.Passes.{keeper_view, lists_view, number_view, submitted_view, view_with, first_number, first_commands, senders_after, list_with, history_with, HasNumber, AreSubmitted, IsListOf, IsPassOf, AreOfQueue, IsChecked}
 use Rattle.command_queue.proofs.Fronts.{get_front, get_last}

@@ -3,8 +3,8 @@ use Rattle.std.specs.Prelude.{◌≡◌, ◌⊎◌, ℕ, ◌==◌, Bool, List, [
 use Rattle.std.specs.List.{AllByRecursion, filter}
 use Rattle.path_db.specs.declared.command.Command.{Command}
 use Rattle.command_queue.specs.Handed.{Handed}
-use Rattle.command_queue.specs.declared.rule.SentCommand.{SentCommand}
-use Rattle.command_queue.specs.declared.rule.SenderList.{SenderList}
+use Rattle.command_queue.specs.declared.ghosts.rule.SentCommand.{SentCommand}
+use Rattle.command_queue.specs.declared.ghosts.rule.SenderList.{SenderList}
 
 -- The commands alone, without their senders.
 abbrev pub commands_of : List SentCommand → List Command

@@ -6,9 +6,9 @@ use lib.ListN.{get_elem?}
 use Rattle.atomic_table.specs.Seated.{TableId}
 use Rattle.path_db.specs.declared.command.Command.{Command}
 use Rattle.path_db.specs.declared.command.Command.TheVariants.{Purge}
-use Rattle.command_queue.specs.declared.rule.SentCommand.{SentCommand}
-use Rattle.command_queue.specs.declared.rule.SenderList.{SenderList}
-use Rattle.command_queue.specs.declared.rule.QueueView.{QueueView}
+use Rattle.command_queue.specs.declared.ghosts.rule.SentCommand.{SentCommand}
+use Rattle.command_queue.specs.declared.ghosts.rule.SenderList.{SenderList}
+use Rattle.command_queue.specs.declared.ghosts.rule.QueueView.{QueueView}
 use Rattle.command_queue.specs.Orders.{commands_of, commands_by, IsWithin, AreAllOf}
 
 -- The name of no table.

@@ -7,8 +7,8 @@ ghost use Rattle.command_queue.specs.Handed.{handed_with};
 ghost use Rattle.command_queue.specs.Orders.{commands_of, IsWithin, AreAllOf};
 ghost use Rattle.command_queue.specs.Passes.{keeper_view, submitted_view, AddsOne};
 
+use crate::ghosts::rule::{QueuePass, QueueTable};
 use crate::history::QueueName;
-use crate::rule::{QueuePass, QueueTable};
 use crate::sender::{EndedSenders, Sender};
 use crate::steps;
 use crate::submitted::{Numbered, Submitted};
@@ -65,7 +65,7 @@ pub(crate) struct Desk<J: QueueName> {
 impl<J: QueueName> Model for Desk<J> {
     ghost use Rattle.std.specs.Prelude.{◌≡◌, [], List};
     ghost use Rattle.std.specs.Arc.{arc_value};
-    ghost use Rattle.command_queue.specs.declared.rule.SentCommand.{SentCommand};
+    ghost use Rattle.command_queue.specs.declared.ghosts.rule.SentCommand.{SentCommand};
     ghost use Rattle.command_queue.specs.Passes.{IsKeeper};
 
     ghost Value = { List SentCommand };

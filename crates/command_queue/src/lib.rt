@@ -16,21 +16,21 @@
 
 mod claim;
 mod desk;
+mod ghosts;
 mod history;
 mod leave;
 mod not_queued;
 mod numbering;
 mod queue;
-mod rule;
 mod sender;
 mod steps;
 mod submitted;
 
 pub use claim::Claim;
 pub use desk::Queued;
+pub use ghosts::rule::{QueuePass, QueueRule, QueueTable, QueueView, SenderList, SentCommand};
 pub use history::{History, NewHistory, QueueName};
 pub use not_queued::{MOST_WAITING, NotQueued};
 pub use queue::{CommandQueue, HandedIn, NewQueue};
-pub use rule::{QueuePass, QueueRule, QueueTable, QueueView, SenderList, SentCommand};
 pub use sender::{EndedSenders, Sender, Senders};
 pub use submitted::{Numbered, Submitted};

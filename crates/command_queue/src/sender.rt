@@ -6,8 +6,8 @@ ghost use Rattle.command_queue.specs.Handed.{nothing_handed};
 ghost use Rattle.command_queue.specs.Orders.{Keeps};
 ghost use Rattle.command_queue.specs.Passes.{IsLists};
 
+use crate::ghosts::rule::{QueuePass, QueueTable};
 use crate::history::QueueName;
-use crate::rule::{QueuePass, QueueTable};
 use crate::steps;
 use std::alloc::Global;
 use std::marker::{Model, PhantomData};
@@ -44,7 +44,7 @@ pub struct EndedSenders<J: QueueName> {
 
 impl<J: QueueName> Model for EndedSenders<J> {
     ghost use Rattle.std.specs.Prelude.{◌≡◌, [], List};
-    ghost use Rattle.command_queue.specs.declared.rule.SenderList.{SenderList};
+    ghost use Rattle.command_queue.specs.declared.ghosts.rule.SenderList.{SenderList};
     ghost use Rattle.command_queue.specs.Passes.{IsLists};
 
     ghost Value = { List SenderList };

@@ -4,7 +4,7 @@ ghost use Rattle.std.specs.Prelude.{◌≡◌, ◌≤◌, suc, [], ◌∷◌, �
 ghost use Rattle.command_queue.specs.Orders.{AreAllOf};
 ghost use Rattle.command_queue.specs.Passes.{keeper_view, lists_view, number_view, submitted_view, IsKeeper, IsSender, IsLists, IsNumber, IsSubmitter, list_with, first_number, senders_after, history_with, HasNumber, AreSubmitted};
 
-use crate::rule::{
+use crate::ghosts::rule::{
     Begins, Checks, Chosen, Issues, Numbers, QueuePass, QueueTable, Sends, Submits, Takes,
 };
 use path_db::Command;

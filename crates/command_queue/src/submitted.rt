@@ -4,8 +4,8 @@ ghost use Rattle.std.specs.Prelude.{◌≡◌, ◌+◌, ◌-◌, ◌^◌, ◌<�
 ghost use Rattle.std.specs.Arc.{arc_value};
 ghost use Rattle.command_queue.specs.Passes.{submitted_view, IsSubmitter};
 
+use crate::ghosts::rule::{QueuePass, QueueTable};
 use crate::history::QueueName;
-use crate::rule::{QueuePass, QueueTable};
 use crate::steps;
 use std::alloc::Global;
 use std::marker::{Model, PhantomData};

@@ -9,8 +9,8 @@ use Rattle.std.specs.contracts.impls.GlobalAllocator.TheImpl as heap
 use Rattle.command_queue.specs.declared.history.QueueName as queue
 use Rattle.command_queue.proofs.Sent.{claim_send}
 use Rattle.command_log.specs.declared.name.LogName as named
-use Rattle.logged_state.specs.declared.name.StateName as opened
-use Rattle.hub_readers.specs.declared.name.ReaderName as reader
+use Rattle.logged_state.specs.declared.ghosts.name.StateName as opened
+use Rattle.hub_readers.specs.declared.ghosts.name.ReaderName as reader
 use Rattle.hub_readers.proofs.Sent.{receipt_send}
 use Rattle.hub_claims.specs.contracts.answer.Answer as Answer
 use Rattle.hub_claims.specs.contracts.answer.Slot as Slot

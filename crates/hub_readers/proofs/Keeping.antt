@@ -10,7 +10,7 @@ use Rattle.row_map.specs.Database.{RowView}
 use Rattle.path_db.specs.declared.command.Command.{Command}
 use Rattle.store_layout.specs.Opening.{StoreValue}
 use Rattle.hub_readers.specs.declared.published.ShownCommand.{ShownCommand}
-use Rattle.hub_readers.specs.declared.rule.SeenGroups.{SeenGroups}
+use Rattle.hub_readers.specs.declared.ghosts.rule.SeenGroups.{SeenGroups}
 use Rattle.hub_readers.specs.Shown.{PublishedView, published_with, commands_of, newcomer, shown_after, IsShownAfter, KeepsRule, IsSeen, HasSeenGroup}
 use Rattle.hub_readers.specs.Showcase.{AreNext, Publishes}
 use Rattle.hub_readers.proofs.Groups.{prefix_whole, prefix_more, commands_long, same_groups, shown_more, next_is}

@@ -14,7 +14,7 @@ use Rattle.store_layout.specs.Opening.{StoreValue}
 use Rattle.store_layout.specs.StoreValues.{value_after}
 use Rattle.store_open.specs.PathStores.{store_format}
 use Rattle.hub_readers.specs.declared.published.ShownCommand.{ShownCommand}
-use Rattle.hub_readers.specs.declared.rule.SeenGroups.{SeenGroups}
+use Rattle.hub_readers.specs.declared.ghosts.rule.SeenGroups.{SeenGroups}
 
 -- What is published.
 pub record PublishedView : Type 0 where

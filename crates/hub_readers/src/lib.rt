@@ -11,21 +11,20 @@
 #![tactic(auto)]
 
 mod error;
+mod ghosts;
 mod look;
-mod name;
 mod note;
 mod opening;
 mod published;
 mod reader;
-mod rule;
 mod show;
 
 pub use error::ReaderError;
+pub use ghosts::name::ReaderName;
+pub use ghosts::rule::{ReaderRule, SeenGroups, SeesAll};
 pub use look::{Look, Looks};
-pub use name::ReaderName;
 pub use note::{HubNote, HubReceipt};
 pub use opening::{READERS, open_readers};
 pub use published::{Published, ShownCommand};
 pub use reader::HubReader;
-pub use rule::{ReaderRule, SeenGroups, SeesAll};
 pub use show::HubShow;

@@ -4,7 +4,7 @@ ghost use Rattle.std.specs.Prelude.{◌≡◌, [], ◌∷◌, ◌++◌};
 ghost use Rattle.std.specs.List.{AllByRecursion};
 ghost use mathlib.Core.List.{IsPrefix};
 
-use crate::name::ReaderName;
+use crate::ghosts::name::ReaderName;
 use ghost_note::{Note, NoteSource};
 use log_history::PastLog;
 use logged_state::{Fronts, FrontsNote, no_fronts};

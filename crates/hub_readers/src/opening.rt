@@ -6,7 +6,7 @@ ghost use Rattle.log_history.specs.Entries.{new_log};
 ghost use Rattle.hub_readers.specs.Shown.{IsShownAfter};
 
 use crate::error::ReaderError;
-use crate::name::ReaderName;
+use crate::ghosts::name::ReaderName;
 use crate::published::Published;
 use crate::reader::HubReader;
 use crate::show::{HubShow, HubWriter};

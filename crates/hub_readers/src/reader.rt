@@ -14,11 +14,11 @@ ghost use Rattle.hub_readers.specs.Learnt.{learnt};
 ghost use Rattle.hub_readers.specs.Shown.{shown_log};
 
 use crate::error::ReaderError;
+use crate::ghosts::name::ReaderName;
+use crate::ghosts::rule::{ReaderRule, SeenGroups, SeesAll};
 use crate::look::Look;
-use crate::name::ReaderName;
 use crate::note::{HubNote, HubReceipt};
 use crate::published::Published;
-use crate::rule::{ReaderRule, SeenGroups, SeesAll};
 use core::mem::replace_with;
 use left_right::reader::Reader;
 use log_history::PastLog;

@@ -13,11 +13,11 @@ ghost use Rattle.left_right.specs.Sides.{view};
 ghost use Rattle.hub_readers.specs.Shown.{IsShownAfter, groups_with, commands_of};
 ghost use Rattle.hub_readers.specs.Showcase.{IsHanded, AreNext, Publishes};
 
+use crate::ghosts::name::ReaderName;
+use crate::ghosts::rule::{GroupName, PublishesGroup, ReaderRule, SeenGroups};
 use crate::look::Looks;
-use crate::name::ReaderName;
 use crate::note::HubNote;
 use crate::published::{Published, ShownCommand};
-use crate::rule::{GroupName, PublishesGroup, ReaderRule, SeenGroups};
 use core::mem::replace_with;
 use group_core::{Showcase, ShowsRows};
 use left_right::writer::Writer;
@@ -121,7 +121,7 @@ impl<N: ReaderName, R: Wait> Showcase for HubShow<N, R> {
         Ok(())
     }
 
-    fn tell(&mut self) -> HubNote<N>
+    fn give_note(&mut self) -> HubNote<N>
         ensures same { self.new.value ≡ self.old.value }
         ensures same_list { all_of self.new.groups ≡ all_of self.old.groups }
         ensures owed { self.new.owed ≡ self.old.owed }

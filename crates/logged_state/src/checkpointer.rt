@@ -7,7 +7,7 @@ ghost use Rattle.group_core.specs.Stops.{StepLeaves};
 ghost use Rattle.group_core.specs.Steps.{WritesChunk, SyncsChunks, WritesGate, SyncsHalf, SyncsClose};
 ghost use Rattle.group_core.specs.StepCalls.{StepCall, Sync, chunk_write, half_write, close_write};
 
-use crate::name::StateName;
+use crate::ghosts::name::StateName;
 use crate::state::LoggedState;
 use group_core::{
     AtClosing, AtLaid, AtLive, AtPlan, AtSwitched, Closing, Laid, Live, Plan, Showcase, StepError,

@@ -7,7 +7,7 @@ ghost use Rattle.group_core.specs.Stops.{StepLeaves};
 ghost use Rattle.group_core.specs.Steps.{FlushStep};
 ghost use Rattle.group_core.specs.StepCalls.{StepCall, Sync, load_write, gate_write};
 
-use crate::name::StateName;
+use crate::ghosts::name::StateName;
 use crate::state::LoggedState;
 use group_core::{
     AtOpened, AtStable, AtStaged, AtWritten, Durable, Opened, Showcase, Stable, Staged, StepError,

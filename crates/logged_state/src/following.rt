@@ -7,7 +7,7 @@ ghost use Rattle.group_core.specs.Steps.{FlushStep};
 ghost use Rattle.group_core.specs.StepCalls.{StepCall, Sync, follower_write};
 ghost use Rattle.group_core.specs.Following.{Follows};
 
-use crate::name::StateName;
+use crate::ghosts::name::StateName;
 use crate::state::LoggedState;
 use group_core::{
     AtFollowed, AtFollowing, DurableFollowed, FollowError, Followed, Following, Opened, Showcase,

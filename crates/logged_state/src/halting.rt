@@ -4,7 +4,7 @@ ghost use Rattle.std.specs.Prelude.{◌≡◌};
 ghost use Rattle.group_core.specs.Stops.{StepLeaves};
 ghost use Rattle.group_core.specs.Redeeming.{halted};
 
-use crate::name::StateName;
+use crate::ghosts::name::StateName;
 use crate::state::LoggedState;
 use group_core::{Commit, Showcase, Ticket};
 use sector_dev::Device;

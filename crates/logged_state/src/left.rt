@@ -11,7 +11,7 @@ ghost use Rattle.logged_state.specs.Left.{OpensToLog, OpensWith, OpensWithAll};
 ghost use Rattle.logged_state.specs.Kept.{AllKept, AllClaimsKept, AllShownKept};
 ghost use mathlib.Core.List.{IsPrefix};
 
-use crate::fronts::FrontsNote;
+use crate::ghosts::fronts::FrontsNote;
 use command_log::{UnnamedClaim, UnnamedList, UnnamedLog};
 use std::marker::Model;
 

@@ -13,10 +13,9 @@ mod checkpointer;
 mod ending;
 mod flusher;
 mod following;
-mod fronts;
+mod ghosts;
 mod halting;
 mod left;
-mod name;
 mod publishing;
 mod reading;
 mod receipt;
@@ -29,8 +28,8 @@ pub use command_log::{
     Accepted, ClaimCollector, CommandLog, LogName, Logged, LoggedList, UnnamedClaim, UnnamedList,
     UnnamedLog,
 };
-pub use fronts::{Fronts, FrontsNote, no_fronts};
+pub use ghosts::fronts::{Fronts, FrontsNote, no_fronts};
+pub use ghosts::name::StateName;
 pub use left::Left;
-pub use name::StateName;
 pub use receipt::{LoggedReceipt, LoggedRedeemed};
 pub use state::LoggedState;

@@ -7,7 +7,7 @@ ghost use Rattle.group_core.specs.Publishing.{PublishStep};
 ghost use Rattle.group_core.specs.Following.{PublishFollowedStep};
 ghost use Rattle.logged_state.specs.LoggedView.{log_after, moment_number};
 
-use crate::name::StateName;
+use crate::ghosts::name::StateName;
 use crate::state::LoggedState;
 use command_log::{CommandLog, CommitMoment};
 use group_core::{

@@ -2,7 +2,7 @@
 
 ghost use Rattle.std.specs.Prelude.{◌≡◌, ◌+◌, None, [], ◌∷◌, ◌++◌};
 
-use crate::name::StateName;
+use crate::ghosts::name::StateName;
 use command_log::{Accepted, ClaimCollector, Logged, LoggedList};
 use group_core::{Receipt, Ticket};
 use path_db::Outcome;

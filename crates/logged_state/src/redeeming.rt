@@ -5,7 +5,7 @@ ghost use Rattle.group_core.specs.Stops.{StepLeaves};
 ghost use Rattle.group_core.specs.Redeeming.{Redeems};
 ghost use Rattle.logged_state.specs.Claims.{redeemed_in, IsClaimOf, HasClaim};
 
-use crate::name::StateName;
+use crate::ghosts::name::StateName;
 use crate::receipt::{LoggedReceipt, LoggedRedeemed};
 use crate::state::LoggedState;
 use command_log::Accepted;

@@ -5,7 +5,7 @@ ghost use Rattle.group_core.specs.Stops.{StepLeaves};
 ghost use Rattle.group_core.specs.Staging.{Stages};
 ghost use Rattle.group_core.specs.Beginning.{BeginsCheckpoint, PreparesCheckpoint};
 
-use crate::name::StateName;
+use crate::ghosts::name::StateName;
 use crate::state::LoggedState;
 use group_core::{BeginError, Plan, Prepared, Showcase, StageError, Staged};
 use sector_dev::Device;

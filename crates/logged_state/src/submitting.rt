@@ -6,7 +6,7 @@ ghost use Rattle.group_core.specs.Stops.{StepLeaves};
 ghost use Rattle.group_core.specs.Submitting.{Judges, Submits};
 ghost use Rattle.logged_state.specs.Claims.{ticket_in, IsClaimOf};
 
-use crate::name::StateName;
+use crate::ghosts::name::StateName;
 use crate::state::LoggedState;
 use command_log::Accepted;
 use group_core::{Showcase, State, SubmitError, Ticket};

@@ -7,9 +7,9 @@
 #![tactic(auto)]
 
 mod buffered;
-mod bytes_note;
 mod connection;
 mod deadline;
+mod ghosts;
 pub mod laws;
 mod pace;
 mod paced;

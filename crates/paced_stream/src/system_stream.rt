@@ -4,7 +4,7 @@
 
 ghost use Rattle.std.specs.Prelude.{◌≡◌, [], ⊤};
 
-use crate::bytes_note::{BytesNote, bytes_after, no_bytes};
+use crate::ghosts::bytes_note::{BytesNote, bytes_after, no_bytes};
 use crate::stream_calls::StreamCalls;
 use std::io;
 use std::io::{Read, Write};

@@ -24,9 +24,9 @@ use Rattle.command_log.specs.declared.name.LogName as named
 use Rattle.command_log.specs.contracts.gathering.LoggedList as LoggedList
 use Rattle.command_log.specs.contracts.gathering.ClaimCollector as ClaimCollector
 use Rattle.command_log.proofs.Sent.{accepted_send, list_send, log_send}
-use Rattle.logged_state.specs.declared.name.StateName as opened
+use Rattle.logged_state.specs.declared.ghosts.name.StateName as opened
 use Rattle.logged_state.specs.contracts.state.LoggedState as LoggedState
-use Rattle.hub_readers.specs.declared.name.ReaderName as reader
+use Rattle.hub_readers.specs.declared.ghosts.name.ReaderName as reader
 use Rattle.hub_readers.specs.contracts.look.Looks as Looks
 use Rattle.hub_readers.specs.contracts.reader.HubReader as HubReader
 use Rattle.hub_readers.proofs.Sent.{row_send, db_send, command_send, looks_send, reader_send, show_send}

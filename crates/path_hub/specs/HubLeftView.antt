@@ -4,8 +4,8 @@ use Rattle.atomic_table.specs.Seated.{TableId}
 use Rattle.path_db.specs.declared.command.Command.{Command}
 use Rattle.command_log.specs.Log.{Log}
 use Rattle.command_log.specs.declared.rule.Claim.{Claim}
-use Rattle.command_queue.specs.declared.rule.SenderList.{SenderList}
-use Rattle.command_queue.specs.declared.rule.SentCommand.{SentCommand}
+use Rattle.command_queue.specs.declared.ghosts.rule.SenderList.{SenderList}
+use Rattle.command_queue.specs.declared.ghosts.rule.SentCommand.{SentCommand}
 
 -- What a hub leaves.
 pub record HubLeftView : Type 0 where

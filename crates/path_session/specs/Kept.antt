@@ -3,8 +3,8 @@ use Rattle.std.specs.Prelude.{Bool}
 use Rattle.seg_check.specs.Signatures.{Verdicts}
 use Rattle.command_log.specs.declared.name.LogName as named
 use Rattle.command_queue.specs.declared.history.QueueName as queue
-use Rattle.hub_readers.specs.declared.name.ReaderName as reader
-use Rattle.logged_state.specs.declared.name.StateName as opened
+use Rattle.hub_readers.specs.declared.ghosts.name.ReaderName as reader
+use Rattle.logged_state.specs.declared.ghosts.name.StateName as opened
 use Rattle.sector_dev.specs.declared.device.Device as device
 use Rattle.path_session.specs.declared.service.HubService.{HubService}
 use Rattle.path_session.specs.Serving.{Serving}

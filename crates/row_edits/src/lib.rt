@@ -7,9 +7,9 @@
 #![tactic(auto)]
 
 mod edit;
+mod ghosts;
 mod laws;
 mod left_rows;
-mod note;
 mod plan;
 mod planner;
 mod putting;
@@ -21,8 +21,8 @@ mod touched;
 mod whole;
 
 pub use edit::Edit;
+pub use ghosts::note::{RowsNote, and_row, no_rows, rows_after};
 pub use laws::{keys_make_folds, merges_are_folds, pieces_follow, plans_make_folds};
-pub use note::{RowsNote, and_row, no_rows, rows_after};
 pub use plan::Plan;
 pub use planner::Planner;
 pub use rewrite::Rewrite;

@@ -3,7 +3,7 @@ ghost use Rattle.std.specs.Prelude.{◌≡◌, ◌+◌, ◌*◌, ◌%◌, ◌<�
 ghost use Rattle.byte_lists.specs.declared.format.TheConstants.{SECTOR};
 ghost use Rattle.sector_dev.specs.PositionedFile.{IsHonestFile, CoversDirty, LeavesFile, SyncsFile};
 
-use crate::trail::{HoldsBytes, Trail, trail_over, trail_synced, trail_wrote};
+use crate::ghosts::trail::{HoldsBytes, Trail, trail_over, trail_synced, trail_wrote};
 use crate::transfers::{read_whole, write_whole};
 use crate::{DevError, Device, PositionedFile, SECTOR};
 use std::io;

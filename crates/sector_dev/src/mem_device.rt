@@ -4,7 +4,7 @@ ghost use Rattle.std.proofs.Common.{arith};
 ghost use Rattle.byte_lists.specs.Content.{AreBytes};
 ghost use Rattle.byte_lists.specs.declared.format.TheConstants.{SECTOR};
 
-use crate::trail::{Trail, fresh_trail, trail_synced, trail_wrote};
+use crate::ghosts::trail::{Trail, fresh_trail, trail_synced, trail_wrote};
 use crate::{DevError, Device, SECTOR};
 use std::alloc::{AllocError, Global};
 

@@ -3,8 +3,9 @@ contracts, ghost items and their imports, laws and attributes of tactics.
 
     tools/pathd-tools program CRATE ..
 
-A file `laws.rt` or `NAME_laws.rt` has no code, and is left out. So are the models of types, which
-say what contracts see of a value, and what is checked as the crate is compiled (`prove!`).
+A file `laws.rt` has no code, and what a folder `ghosts` has exists in proofs alone. Both are left out,
+and so are the files of a folder `laws`. So are the models of types, which say what contracts see of a
+value, and what is checked as the crate is compiled (`prove!`).
 """
 from __future__ import annotations
 
@@ -16,14 +17,16 @@ from pathd_tools.pages.source import CRATES
 from pathd_tools.toolbox import parser
 
 PUBLIC = r"(?:pub(?:\([a-z]+\))? )?"
-# What is left out: how it begins, and whether it ends with the brackets that it begins with, or at `;` or `,` or before what it is in ends.
+# Files and folders of modules that are left out.
+LEFT_OUT = ("laws", "ghosts")
+# What is left out of a file: how it begins, and whether it ends with the brackets that it begins with, or at `;` or `,` or before what it is in ends.
 CLAUSE = re.compile(r"^[ ]*(?:requires|ensures)\b(?: \w+)? *(?=\{)", re.M)
 ATTRIBUTE = re.compile(r"^[ ]*#!?(?=\[tactic\b)", re.M)
 MODEL = re.compile(r"^impl\b[^\n{]*\bModel for\b[^\n{]*(?=\{)", re.M)
 ITEM = re.compile(
     rf"^[ ]*{PUBLIC}ghost\b"
     r"|^[ ]*(?:const _: \(\) = )?prove!"
-    rf"|^{PUBLIC}(?:mod|use) (?:crate::)?(?:\w+_)?laws\b"
+    rf"|^{PUBLIC}(?:mod|use) (?:crate::)?(?:{'|'.join(LEFT_OUT)})\b"
     r"|^use std::marker::Model\b",
     re.M,
 )
@@ -95,7 +98,7 @@ def laid_out(text: str) -> str:
 
 def files(crate: str) -> list[Path]:
     """The files of a crate that have code, its root first."""
-    found = [it for it in sorted((CRATES / crate / "src").rglob("*.rt")) if not re.fullmatch(r"(\w+_)?laws", it.stem)]
+    found = [it for it in sorted((CRATES / crate / "src").rglob("*.rt")) if it.stem not in LEFT_OUT and it.parent.name not in LEFT_OUT]
     return sorted(found, key=lambda it: it.stem not in ("lib", "main") or it.parent.name != "src")
 
 

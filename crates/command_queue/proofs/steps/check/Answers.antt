@@ -1,5 +1,5 @@
 use Rattle.std.proofs.Common.{◌<◌, sym, ap, ◌∙◌, subst, arith}
-use Rattle.command_queue.specs.declared.rule.QueueView.{QueueView}
+use Rattle.command_queue.specs.declared.ghosts.rule.QueueView.{QueueView}
 use Rattle.command_queue.specs.Passes.{view_with}
 use Rattle.command_queue.proofs.PassSteps.{takes, checks}
 use Rattle.atomic_table.specs.Table.Act.{keeps}

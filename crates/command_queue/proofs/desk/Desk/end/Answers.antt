@@ -1,6 +1,6 @@
 use Rattle.std.proofs.Common.{List, subst}
 use Rattle.path_db.specs.declared.command.Command.{Command}
-use Rattle.command_queue.specs.declared.rule.SentCommand.{SentCommand}
+use Rattle.command_queue.specs.declared.ghosts.rule.SentCommand.{SentCommand}
 use Rattle.command_queue.specs.Orders.{commands_of, IsWithin}
 use Rattle.command_queue.proofs.PassSteps.{within_whole}
 use Rattle.command_queue.proofs.desk.Desk.end.Goals as goal

@@ -1,6 +1,6 @@
 //! The rule over what is published and what each seat has seen of it.
 
-use crate::name::ReaderName;
+use crate::ghosts::name::ReaderName;
 use crate::published::Published;
 use crossbeam_utils::rule::{Outcome, Protocol};
 use path_db::Command;

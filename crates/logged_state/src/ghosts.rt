@@ -1,0 +1,4 @@
+//! What exists in proofs alone.
+
+pub(crate) mod fronts;
+pub(crate) mod name;
