@@ -82,6 +82,15 @@ module _ (known : IndexKey → Bool) (row : IndexKey → Option (SegType × Segm
   replace_known its (x ∷ xs) sorted there all =
       replace_by (index_key_cmp k x) x xs (replace_key index_key_cmp xs k) refl its sorted.0 there all (λ later. replace_known its xs sorted.1 later all.1)
 
+  renew_by : (o : Ordering) (x : IndexKey) (xs later : List IndexKey) → (known k ≡ true) ⊎ (k.row ≡ row k) → AreKnown known row (x ∷ xs) → AreKnown known row later → AreKnown known row (match_ordering o (k ∷ x ∷ xs) (k ∷ xs) (x ∷ later))
+  renew_by Less x xs later one all more = (one, all)
+  renew_by Equal x xs later one all more = (one, all.1)
+  renew_by Greater x xs later one all more = (all.0, more)
+
+  pub renew_known : (ks : List IndexKey) → (known k ≡ true) ⊎ (k.row ≡ row k) → AreKnown known row ks → AreKnown known row (replace_key index_key_cmp ks k)
+  renew_known [] one all = (one, tt)
+  renew_known (x ∷ xs) one all = renew_by (index_key_cmp k x) x xs (replace_key index_key_cmp xs k) one all (renew_known xs one all.1)
+
   -- ---- a row that is removed
 
   remove_by : (o : Ordering) (x : IndexKey) (xs later : List IndexKey) → index_key_cmp k x ≡ o → AllByRecursion (λ y. index_key_cmp x y ≡ Less) xs → AreKnown known row (x ∷ xs) → AreKnown but_it row later

@@ -1,5 +1,5 @@
 -- Tests of index keys as tables: for `add`, `renew` and `remove`.
-use Rattle.std.proofs.Common.{◌≡◌, Bool, true, false, cond, not, ◌&&◌, ◌||◌, List, [], ◌∷◌, Result, Ok, Err, OnOk, OnErr, refl, sym, ap, ◌∙◌}
+use Rattle.std.proofs.Common.{◌≡◌, ◌⊎◌, inl, inr, Bool, true, false, cond, not, ◌&&◌, ◌||◌, List, [], ◌∷◌, Result, Ok, Err, OnOk, OnErr, refl, sym, ap, ◌∙◌}
 use Rattle.std.proofs.lemmas.Bool.{false≢true}
 use Rattle.std.specs.Ordering.{is_eq, ordering_reverse}
 use Rattle.std.specs.declared.cmp.Ordering.{Ordering}
@@ -46,3 +46,8 @@ cond-there p q ks there = by (index_key_cmp p q) refl
 pub unless_absent : {A E P : Type 0} (r : Result A E) (b : Bool) → OnOk r P → OnErr r (b ≡ false) → b ≡ true → P
 unless_absent (Ok x) b ok absent there = ok
 unless_absent (Err e) b ok absent there = absurd (false≢true (sym absent ∙ there))
+
+-- what holds after a result of either kind
+pub by_result : {A E P Q : Type 0} (r : Result A E) → OnOk r P → OnErr r Q → Q ⊎ P
+by_result (Ok x) ok err = inr ok
+by_result (Err e) ok err = inl err

@@ -61,6 +61,9 @@ impl EndIndex {
         ensures kept { has self.old index_row ≡ true → (q : IndexKey) → has self.new q ≡ has self.old q }
         ensures rows { has self.old index_row ≡ true → (known : IndexKey → Bool) (row : IndexKey → Option (SegTypeView × SegmentView))
             → AreKnown known row self.old → index_row.row ≡ row index_row → AreKnown (λ q. known q && not (is_same q index_row)) row self.new }
+        ensures other { has self.old index_row ≡ false → (self.new ≡ self.old) ⊎ ((q : IndexKey) → has self.new q ≡ (is_same q index_row || has self.old q)) }
+        ensures known { (known : IndexKey → Bool) (row : IndexKey → Option (SegTypeView × SegmentView))
+            → AreKnown known row self.old → (known index_row ≡ true) ⊎ (index_row.row ≡ row index_row) → AreKnown known row self.new }
     {
         let _count = self.index_rows.len();
         let _replaced = self.index_rows.replace(index_row);

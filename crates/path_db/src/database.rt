@@ -583,7 +583,7 @@ impl PathDb {
     }
 
     /// How many rows the purges of this database have visited since it was made, or 2^64 - 1 for
-    /// more. No call depends on it.
+    /// more. No call depends on it, and no clause says which number this is.
     pub fn visited_by_purges(&self) -> u64 {
         self.visited
     }

@@ -29,7 +29,7 @@ use Rattle.row_map.specs.declared.end.By.{By}
 use Rattle.row_map.specs.declared.end.By.TheVariants.{OneEnd, BothEnds}
 use Rattle.row_map.specs.declared.end.End.TheVariants.{First, Last}
 use Rattle.row_map.specs.Ends.{first_entry_of}
-use Rattle.row_map.specs.EndKeys.{index_number, isds_number, isds_of, is_of, is_index_key, ends_at, stands, row_of_key, EndAlike, IsSeenTo, AreSeenTo, IsRowOf, IsCovered, IsRowIndex, IsIndexGrown}
+use Rattle.row_map.specs.EndKeys.{index_number, isds_number, isds_of, is_of, is_index_key, ends_at, stands, row_of_key, EndAlike, IsSeenTo, AreSeenTo, IsRowOf, IsCovered, IsRowIndex, IsIndexGrown, IsAlike}
 use Rattle.row_map.specs.Saved.{Stood}
 use Rattle.row_map.proofs.Found.{under_itself}
 use Rattle.row_map.proofs.Keys.{its_key, equal_from}
@@ -165,6 +165,24 @@ alike_by new old first last (OneEnd First) = first
 alike_by new old first last (OneEnd Last) = last
 alike_by new old first last BothEnds =
     (isds_number first.0 last.0, both_ends new.1.entries first.0 last.0 first.1 last.1, both_ends old.1.entries first.0 last.0 first.2 last.2)
+
+-- a row of another number is not alike
+pub unlike : (end : EndOf) (new old : RowView) (m n : ℕ) → is_of (end new.1.entries) m ≡ true → is_of (end old.1.entries) n ≡ true → (m == n) ≡ false → ¬ EndAlike end new old
+unlike end new old m n its others other alike =
+    let same : m ≡ n = same_entry (end new.1.entries) m alike.0 its alike.1 ∙ same_entry (end old.1.entries) alike.0 n alike.2 others in
+    false≢true (sym other ∙ ap (λ k. m == k) (sym same) ∙ number_itself m)
+
+-- a row of which an absent one or another is said to be alike
+pub alike_none : (end : EndOf) (new : RowView) (stood : Option RowView) → stood ≡ None → ¬ IsAlike end new stood
+alike_none end new stood none alike =
+    let never : None ≡ Some alike.0 = sym none ∙ alike.1 in
+    absurd (cc)
+
+pub alike_there : (end : EndOf) (new old : RowView) (stood : Option RowView) → stood ≡ Some old → IsAlike end new stood → EndAlike end new old
+alike_there end new old stood there alike =
+    let both : Some alike.0 ≡ Some old = sym alike.1 ∙ there in
+    let is : alike.0 ≡ old = cc in
+    subst (EndAlike end new) is alike.2
 
 -- ---- index keys of rows
 

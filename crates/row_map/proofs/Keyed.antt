@@ -199,3 +199,8 @@ placed_same q old (e ∷ es) is = same_first (is_at (key_cmp q) e.0) old e es (s
 pub found_at : (q : RowKey) (row old : Row) (es : List (RowKey × Row)) → bytes_of q ≡ key_of (row_view row) → AreUnderTheirKeys es → lookup (is_at (key_cmp q)) es ≡ Some old
     → row_under (key_of (row_view row)) (views_of es) ≡ Some (row_view old)
 found_at q row old es its own is = ap (λ k. row_under k (views_of es)) (sym its) ∙ sym (found_by q es own) ∙ ap (option_map row_view) is
+
+-- there is none where the map has no entry of it
+pub none_at : (q : RowKey) (row : Row) (es : List (RowKey × Row)) → bytes_of q ≡ key_of (row_view row) → AreUnderTheirKeys es → lookup (is_at (key_cmp q)) es ≡ None
+    → row_under (key_of (row_view row)) (views_of es) ≡ None
+none_at q row es its own is = ap (λ k. row_under k (views_of es)) (sym its) ∙ sym (found_by q es own) ∙ ap (option_map row_view) is

@@ -1,6 +1,6 @@
 //! The rows by the ISD-AS at one of their ends, or by the ISDs at both.
 
-ghost use Rattle.std.specs.Prelude.{◌≡◌, [], ◌∷◌, ◌++◌, if◌then◌else◌, map, ◌⊎◌, ◌^◌, ◌<◌, true, Some, List, length, is_some, IfOk, IfSome, OnOk, OnErr};
+ghost use Rattle.std.specs.Prelude.{◌≡◌, [], ◌∷◌, ◌++◌, if◌then◌else◌, map, ◌⊎◌, ◌^◌, ◌<◌, true, false, Some, List, length, is_some, IfOk, IfSome, OnOk, OnErr};
 ghost use Rattle.std.specs.List.{AllByRecursion};
 ghost use Rattle.std.specs.Option.{option_map};
 ghost use Rattle.end_index.specs.IndexKey.{IndexKey, has, is_same};
@@ -128,14 +128,16 @@ fn push_other(
 
 /// Whether two rows have the same ISD-AS numbers at both ends.
 pub(crate) fn keeps_keys(new: &Row, old: &Row) -> bool
-    ensures { result ≡ true → (by : By) → EndAlike (index_number by) (row_view new.now) (row_view old.now) }
+    ensures yes { result ≡ true → (by : By) → EndAlike (index_number by) (row_view new.now) (row_view old.now) }
+    ensures no { result ≡ false → ¬ ((by : By) → EndAlike (index_number by) (row_view new.now) (row_view old.now)) }
 {
     ends_alike(End::First, new, old) && ends_alike(End::Last, new, old)
 }
 
 /// Whether two rows have the same ISD-AS at this end.
 fn ends_alike(end: End, new: &Row, old: &Row) -> bool
-    ensures { result ≡ true → EndAlike (index_number (OneEnd end)) (row_view new.now) (row_view old.now) }
+    ensures yes { result ≡ true → EndAlike (index_number (OneEnd end)) (row_view new.now) (row_view old.now) }
+    ensures no { result ≡ false → ¬ EndAlike (index_number (OneEnd end)) (row_view new.now) (row_view old.now) }
 {
     isd_as_at(end, new) == isd_as_at(end, old)
 }

@@ -1,9 +1,10 @@
 //! The walk of a purge over the rows of a bucket.
 
-ghost use Rattle.std.specs.Prelude.{◌≡◌, ◌≤◌, List, IfSome, IfNone};
+ghost use Rattle.std.specs.Prelude.{◌≡◌, ◌≤◌, true, List, IfSome, IfNone};
 ghost use Rattle.row_map.specs.Database.{RowView, key_of};
 ghost use Rattle.row_map.specs.Row.{row_view};
-ghost use Rattle.row_map.specs.Buckets.{bucket_count};
+ghost use Rattle.row_map.specs.RowMap.{bytes_of};
+ghost use Rattle.row_map.specs.Buckets.{bucket_count, first_key, is_before};
 ghost use Rattle.row_map.specs.Purge.{HasPassed, IsExpiredUnder, AllOutlast};
 
 use crate::expiry_bounds::first_key;
@@ -57,6 +58,8 @@ impl PurgeWalk {
         requires passed { HasPassed self.old rows.now }
         requires high { self.old.high ≤ bucket_count }
         ensures expired { IfSome result (λ row. IsExpiredUnder self.old.moment (key_of (row_view row.now)) rows.now) }
+        ensures next { IfSome result (λ row. bytes_of self.new.from ≡ key_of (row_view row.now)) }
+        ensures below_end { IfSome result (λ row. is_before (first_key self.old.high) (row_view row.now) ≡ true) }
         ensures none { IfNone result (AllOutlast self.new rows.now) }
         ensures passed { HasPassed self.new rows.now }
         ensures moment { self.new.moment ≡ self.old.moment }

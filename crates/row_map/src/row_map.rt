@@ -202,6 +202,7 @@ impl RowMap {
         ensures bytes { bytes.new ≡ rows_len self.new }
         ensures more { bytes.new ≤ bytes.old + row_len (row_view row) }
         ensures none { result ≡ None → self.new ≡ self.old }
+        ensures absent { result ≡ None → ¬ ((by : By) → IsAlike (index_number by) (row_view row) (row_under (key_of (row_view row)) self.old)) }
     {
         let _count = self.len();
         let key = key_of_row(&row);

@@ -71,8 +71,8 @@ fn fill_earliest_first(alloc: Global, database: &mut PathDb) -> Result<(), Fail>
     fill(alloc, database, LEAST, ROWS, 63)
 }
 
-/// Purges, and checks how many rows are dropped and that few were visited: a bucket of 65,536 of a
-/// type has about two of these rows.
+/// Purges, and checks how many rows are dropped, and that these and few others were visited: a
+/// bucket of 65,536 of a type has about two of these rows.
 fn assert_purge(
     rt: &impl TestHost,
     database: &mut PathDb,
@@ -85,6 +85,8 @@ fn assert_purge(
     assert_same(rt, &outcome.purged, &dropped, &moment);
     let is_few = visited <= (u64::from(dropped) + 1) * 64;
     assert_same(rt, &is_few, &true, &(visited, dropped));
+    let is_each = visited >= u64::from(dropped);
+    assert_same(rt, &is_each, &true, &(visited, dropped));
     Ok(())
 }
 

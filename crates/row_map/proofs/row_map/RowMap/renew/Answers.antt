@@ -1,4 +1,4 @@
-use Rattle.std.proofs.Common.{rules, arith, ◌≡◌, false, true, Some, refl, sym, ap, ◌∙◌, subst}
+use Rattle.std.proofs.Common.{rules, arith, ◌≡◌, false, true, Some, None, refl, sym, ap, ◌∙◌, subst}
 use Rattle.std.specs.List.{AllByRecursion}
 use Rattle.std.specs.Map.{lookup, set_value}
 use Rattle.std.specs.Option.{option_map, is_some}
@@ -7,15 +7,27 @@ use Rattle.std.specs.BTreeMap.{insert_entry, is_at}
 use Rattle.row_map.specs.Database.{key_of, row_under, row_len, rows_len}
 use Rattle.row_map.specs.Row.{row_view}
 use Rattle.row_map.specs.RowMap.{views_of, len_if_any, IsRowMap, AreUnderTheirKeys}
+use Rattle.row_map.specs.declared.end.By.TheVariants.{OneEnd}
+use Rattle.row_map.specs.declared.end.End.TheVariants.{First}
+use Rattle.row_map.specs.EndKeys.{index_number}
 use Rattle.row_map.specs.Buckets.{IsBoundedBy}
 use Rattle.row_map.specs.TypeCounts.{AreCounted}
 use Rattle.row_map.specs.Saved.{wins}
-use Rattle.row_map.proofs.Keyed.{key_cmp, rising_from, set_by, own_set, set_sum, placed_is_set, placed_same, found_at}
+use Rattle.row_map.proofs.Keyed.{key_cmp, rising_from, set_by, own_set, set_sum, placed_is_set, placed_same, found_at, none_at}
+use Rattle.row_map.proofs.IndexKeys.{alike_none, alike_there}
 use Rattle.row_map.proofs.Tallied.{replaced_counts}
 use Rattle.row_map.proofs.PutRow.{kept_rows, kept_change, new_rows, updated_change}
 use Rattle.row_map.proofs.Bucketed.{all_implied}
 use Rattle.row_map.proofs.Purged.{all_set}
 use Rattle.row_map.proofs.row_map.RowMap.renew.Goals as goal
+
+pub returns-in_err-old-clause-absent : goal.returns-in_err-old-clause-absent
+returns-in_err-old-clause-absent c =
+    let es = c.self.inside.rows.entries in
+    let row = row_view c.args.row in
+    let none : lookup (is_at (key_cmp c.key_of_row-key.result)) es ≡ None = sym c.in_err-old.ensures.value in
+    let gone : row_under (key_of row) (views_of es) ≡ None = none_at c.key_of_row-key.result c.args.row es c.key_of_row-key.ensures c.self.invariant.own none in
+    rw (← c.self.view_is) (λ e alike. alike_none (index_number (OneEnd First)) row (row_under (key_of row) (views_of es)) gone (alike (OneEnd First)))
 
 pub invariant_of-self-then-not-keeps_keys : goal.invariant_of-self-then-not-keeps_keys
 invariant_of-self-then-not-keeps_keys c =
@@ -40,6 +52,15 @@ returns-then-not-keeps_keys-clause-none c =
     let is : lookup (is_at (key_cmp c.key_of_row-key.result)) es ≡ Some old = sym c.in_ok-old.ensures.value in
     let same : (c.get_mut.follows.lender old).entries ≡ es = (c.get_mut.follows.holds old).0 ∙ placed_same c.key_of_row-key.result old es is in
     λ none. ap views_of same ∙ c.self.view_is
+
+pub returns-then-not-keeps_keys-clause-absent : goal.returns-then-not-keeps_keys-clause-absent
+returns-then-not-keeps_keys-clause-absent c =
+    let es = c.self.inside.rows.entries in
+    let row = row_view c.args.row in
+    let old = c.in_ok-old.old.now in
+    let is : lookup (is_at (key_cmp c.key_of_row-key.result)) es ≡ Some old = sym c.in_ok-old.ensures.value in
+    let found : row_under (key_of row) (views_of es) ≡ Some (row_view old) = found_at c.key_of_row-key.result c.args.row old es c.key_of_row-key.ensures c.self.invariant.own is in
+    rw (← c.self.view_is) (λ e alike. c.if-not-keeps_keys.ensures.no refl (λ by. alike_there (index_number by) row (row_view old) (row_under (key_of row) (views_of es)) found (alike by)))
 
 pub invariant_of-self-then-timestamp : goal.invariant_of-self-then-timestamp
 invariant_of-self-then-timestamp c =
@@ -81,7 +102,7 @@ returns-then-timestamp-clause-alike c =
     let is : lookup (is_at (key_cmp c.key_of_row-key.result)) es ≡ Some old = sym c.in_ok-old.ensures.value in
     let its = c.key_of_row-key.ensures in
     let found : row_under (key_of (row_view c.args.row)) (views_of es) ≡ Some (row_view old) = found_at c.key_of_row-key.result c.args.row old es its c.self.invariant.own is in
-    λ x e by. rw (← c.self.view_is) (row_view old, found, c.if-not-keeps_keys.ensures refl by)
+    λ x e by. rw (← c.self.view_is) (row_view old, found, c.if-not-keeps_keys.ensures.yes refl by)
 
 pub returns-then-timestamp-clause-bytes : goal.returns-then-timestamp-clause-bytes
 returns-then-timestamp-clause-bytes c =
@@ -159,7 +180,7 @@ returns-clause-alike c =
     let is : lookup (is_at (key_cmp c.key_of_row-key.result)) es ≡ Some old = sym c.in_ok-old.ensures.value in
     let its = c.key_of_row-key.ensures in
     let found : row_under (key_of (row_view c.args.row)) (views_of es) ≡ Some (row_view old) = found_at c.key_of_row-key.result c.args.row old es its c.self.invariant.own is in
-    λ x e by. rw (← c.self.view_is) (row_view old, found, c.if-not-keeps_keys.ensures refl by)
+    λ x e by. rw (← c.self.view_is) (row_view old, found, c.if-not-keeps_keys.ensures.yes refl by)
 
 pub returns-clause-bytes : goal.returns-clause-bytes
 returns-clause-bytes c =
