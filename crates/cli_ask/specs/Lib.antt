@@ -2,3 +2,4 @@ pub mod Requests
 pub mod Lines
 pub mod Faults
 pub mod Steps
+pub mod Registering

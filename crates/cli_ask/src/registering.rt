@@ -1,5 +1,8 @@
 //! Registering the segments of lines.
 
+ghost use Rattle.std.specs.Prelude.{◌≡◌, Some, true};
+ghost use Rattle.cli_ask.specs.Registering.{first_fault};
+
 use crate::answers::{PIECE, next_reply};
 use crate::error::AskError;
 use crate::lines::print_ack;
@@ -22,9 +25,10 @@ pub trait Refusals {
 
 /// Registers the segments of an input, a line each, as `list` and `show` print them by `--json`.
 /// Up to `MOST_AHEAD` registrations are sent ahead, each of one line, and the line of each
-/// acknowledgement is printed in the order of the lines. After a line that is refused, or that has
-/// no segment, no further one is sent; the replies that are under way are read and printed. The
-/// error is that of the first such line.
+/// acknowledgement is printed in the order of the lines. After a line that is refused, that has no
+/// segment or that can't be read, no further one is sent; the replies that are under way are read and
+/// printed. The error is that of the first such line. A fault of the link, of the output or of memory
+/// ends the run at once, and so does a reply of another kind.
 pub fn register<L: Link, I: Read, W: Write, N: Refusals>(
     alloc: Global,
     link: &mut L,
@@ -52,15 +56,25 @@ pub fn register<L: Link, I: Read, W: Write, N: Refusals>(
             Reply::Registered(ack) => print_ack(alloc, form, &ack, writer)?,
             Reply::Refused(code) => {
                 refusals.refused(line, code.0);
-                run.stop(AskError::RefusedLine(line, code.0));
+                run.stop(LineFault {
+                    line,
+                    error: AskError::RefusedLine(line, code.0),
+                });
             }
             _ => return Err(AskError::Unasked),
         }
     }
     match run.fault {
-        Some(fault) => Err(fault),
+        Some(fault) => Err(fault.error),
         None => Ok(()),
     }
+}
+
+/// The error of a line, whose number is from 1 on.
+#[derive(Clone, Copy)]
+struct LineFault {
+    line: u64,
+    error: AskError,
 }
 
 /// How far a run is: how many lines were sent, and how many replies were read.
@@ -69,18 +83,22 @@ struct Run {
     sent: u64,
     answered: u64,
     /// Why no further line is sent.
-    fault: Option<AskError>,
+    fault: Option<LineFault>,
     /// No further line is sent.
     is_over: bool,
 }
 
 impl Run {
-    /// Notes why no further line is sent, unless a reason is known.
-    fn stop(&mut self, fault: AskError) {
+    /// Notes why no further line is sent. Of two faults that of the line that comes first is kept: a
+    /// line without a segment is seen before the replies to the lines before it.
+    fn stop(&mut self, fault: LineFault)
+        ensures { self.new ≡ record self.old { fault = Some (first_fault self.old.fault fault); is_over = true } }
+    {
         self.is_over = true;
-        if self.fault.is_none() {
-            self.fault = Some(fault);
-        }
+        self.fault = match self.fault {
+            Some(before) if before.line <= fault.line => Some(before),
+            _ => Some(fault),
+        };
     }
 
     /// Whether another line may be sent.
@@ -102,14 +120,15 @@ fn send_ahead<L: Link, I: Read>(
         if !run.has_room() {
             break;
         }
-        match next_frame(alloc, input, lines, run.sent.saturating_add(1)) {
+        let line = run.sent.saturating_add(1);
+        match next_frame(alloc, input, lines, line) {
             Ok(Some(frame)) => {
                 link.send(frame.as_slice())?;
-                run.sent = run.sent.saturating_add(1);
+                run.sent = line;
             }
             Ok(None) => run.is_over = true,
             Err(AskError::NoMemory) => return Err(AskError::NoMemory),
-            Err(fault) => run.stop(fault),
+            Err(error) => run.stop(LineFault { line, error }),
         }
     }
     Ok(())

@@ -1,19 +1,19 @@
-//! What `ask` and `register` send over a link, and what they print of replies.
+//! What `ask` sends over a link, and what it prints of replies.
 
 ghost use Rattle.std.specs.Prelude.{IfOk, ◌≤◌, length};
 
 use crate::checks::assert_same;
-use cli_ask::{AskError, AskFault, Asked, Link, Question, Refusals, ask, asked_of, register};
+use cli_ask::{AskError, AskFault, Asked, Link, Question, ask, asked_of};
 use cli_words::Request;
 use row_lines::RowForm;
-use std::alloc::Global;
+use std::alloc::{AllocError, Global};
 use std::process::Abort;
 use std::test::Fail;
 use test_support::digits;
 
 /// A link over which these replies come, a byte at a time, and then the end.
 #[derive(Drop)]
-struct Script {
+pub(crate) struct Script {
     replies: Vec<u8>,
     at: usize,
     sent: Vec<u8>,
@@ -21,7 +21,7 @@ struct Script {
 
 impl Script {
     /// A link with the replies of these digits.
-    fn new(alloc: Global, replies: &str) -> Result<Script, Fail> {
+    pub(crate) fn new(alloc: Global, replies: &str) -> Result<Script, Fail> {
         Ok(Script {
             replies: hex::decode(alloc, replies)?,
             at: 0,
@@ -105,7 +105,7 @@ fn question_of(exchange: &Exchange) -> Result<Question, Fail> {
 }
 
 /// The fault by which a request ended, if it ended by one.
-fn fault_of(came: Result<(), AskError>) -> Option<AskFault> {
+pub(crate) fn fault_of(came: Result<(), AskError>) -> Option<AskFault> {
     match came {
         Ok(()) => None,
         Err(error) => Some(error.fault()),
@@ -113,7 +113,12 @@ fn fault_of(came: Result<(), AskError>) -> Option<AskFault> {
 }
 
 /// Sees that the bytes of these digits were sent over a link.
-fn assert_sent(rt: &impl Abort, alloc: Global, link: &Script, wanted: &str) -> Result<(), Fail> {
+pub(crate) fn assert_sent(
+    rt: &impl Abort,
+    alloc: Global,
+    link: &Script,
+    wanted: &str,
+) -> Result<(), Fail> {
     let sent = hex::encode(alloc, link.sent.as_slice())?;
     assert_same(rt, &sent.as_str(), &wanted, &"sent");
     Ok(())
@@ -306,81 +311,11 @@ fn purges_in_steps(rt: HostRuntime) -> Result<(), Fail> {
     Ok(())
 }
 
-/// The lines that were refused, with their codes.
-#[derive(Drop)]
-struct Noted {
-    lines: Vec<(u64, u8)>,
-}
-
-impl Refusals for Noted {
-    fn refused(&mut self, line: u64, code: u8) {
-        let _pushed = self.lines.push((line, code));
+/// These texts, one after the other.
+pub(crate) fn joined(alloc: Global, texts: &[&str]) -> Result<String, AllocError> {
+    let mut all = String::new(alloc);
+    for text in texts {
+        all.push_str(text)?;
     }
-}
-
-/// These texts three times.
-macro_rules! three_times {
-    ($($text:literal),+) => {
-        concat!($($text,)+ $($text,)+ $($text,)+)
-    };
-}
-
-/// The line of the worked segment, three times.
-const LINES: &str = three_times!(
-    "{\"type\":\"down\",\"segment\":\"0a080880e2cfaa061007",
-    "12290a270a251223089082808080e07f109182808080e07f1a0e0a0c1001183f220601020304050628c00b",
-    "12210a1f0a1d121b089182808080e07f1a0e0a0c0802183f22060a0b0c0d0e0f28c00b\"}\n"
-);
-
-/// The replies to these lines: the second one is refused.
-const REPLIES: &str = concat!(
-    "0000001981000000000000000000000001000000000000000000000000",
-    "00000002ff51",
-    "0000001981000000000000000000000001000000000000000000000000",
-);
-
-/// What is printed of the first line and of the third one.
-const RECEIPTS: &str = concat!(
-    "{\"place\":0,\"inserted\":1,\"updated\":0,\"kept\":0,\"purged\":0}\n",
-    "{\"place\":0,\"inserted\":1,\"updated\":0,\"kept\":0,\"purged\":0}\n",
-);
-
-/// Registers the lines over a link: the fault, if there is one.
-fn register_lines(
-    alloc: Global,
-    link: &mut Script,
-    output: &mut Vec<u8>,
-    noted: &mut Noted,
-) -> Option<AskFault> {
-    let mut bytes = LINES.as_bytes();
-    fault_of(register(alloc, link, &mut bytes, RowForm::Json, output, noted))
-}
-
-/// Registers the lines over a link, and sees what is printed and which line is refused.
-fn assert_registered(rt: &impl Abort, alloc: Global, link: &mut Script) {
-    let mut output = Vec::new(alloc);
-    let mut noted = Noted {
-        lines: Vec::new(alloc),
-    };
-    let fault = register_lines(alloc, link, &mut output, &mut noted);
-    assert_same(rt, &fault, &Some(AskFault::Refused(0x51)), &"lines");
-    assert_same(
-        rt,
-        &noted.lines.as_slice(),
-        &[(2, 0x51)].as_slice(),
-        &"noted",
-    );
-    assert_same(rt, &output.as_slice(), &RECEIPTS.as_bytes(), &"receipts");
-}
-
-#[test]
-fn lines_are_registered(rt: HostRuntime) -> Result<(), Fail> {
-    let alloc = rt.alloc();
-    let mut link = Script::new(alloc, REPLIES)?;
-    assert_registered(&rt, alloc, &mut link);
-    let sent = hex::encode(alloc, link.sent.as_slice())?;
-    assert_same(&rt, &sent.len(), &(3 * digits::REGISTER.len()), &"sent");
-    let is_begun = sent.as_str().starts_with(digits::REGISTER);
-    assert_same(&rt, &is_begun, &true, &sent);
-    Ok(())
+    Ok(all)
 }

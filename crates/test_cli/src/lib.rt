@@ -25,6 +25,8 @@ mod pages;
 #[cfg(test)]
 mod refusals;
 #[cfg(test)]
+mod registrations;
+#[cfg(test)]
 mod requests;
 #[cfg(test)]
 mod row_texts;
