@@ -1,6 +1,7 @@
 //! Registering the segments of lines.
 
-ghost use Rattle.std.specs.Prelude.{◌≡◌, Some, true};
+ghost use Rattle.std.specs.Prelude.{◌≡◌, ◌≤◌, Some, true, IfOk, IfSome, take, vec_len};
+ghost use Rattle.cli_ask.specs.declared.registering.TheConstants.{MOST_LINE};
 ghost use Rattle.cli_ask.specs.Registering.{first_fault};
 
 use crate::answers::{PIECE, next_reply};
@@ -173,21 +174,21 @@ impl Lines {
     }
 
     /// The next line, without its end. Bytes after the last end of a line are a line, too. A line
-    /// above `MOST_LINE` bytes has no segment.
-    fn next<I: Read>(&mut self, input: &mut I, number: u64) -> Result<Option<Vec<u8>>, AskError> {
+    /// above `MOST_LINE` bytes has no segment, however the input is cut.
+    fn next<I: Read>(&mut self, input: &mut I, number: u64) -> Result<Option<Vec<u8>>, AskError>
+        ensures most { IfOk result (λ next. IfSome next (λ line. vec_len line ≤ MOST_LINE)) }
+    {
         for _ in 0..u64::MAX {
-            if let Some(len) = self.bytes.iter().position(|byte| *byte == b'\n') {
-                return Ok(Some(self.take_line(len)?));
-            }
-            let len = self.bytes.len();
+            let end = self.bytes.iter().position(|byte| *byte == b'\n');
+            let len = end.unwrap_or(self.bytes.len());
             if len > MOST_LINE {
                 return Err(AskError::Line(number, LineError::Json));
             }
+            if end.is_some() || (self.is_ended && len > 0) {
+                return Ok(Some(self.take_line(len)?));
+            }
             if self.is_ended {
-                return match len {
-                    0 => Ok(None),
-                    len => Ok(Some(self.take_line(len)?)),
-                };
+                return Ok(None);
             }
             self.read_on(input)?;
         }
@@ -195,7 +196,9 @@ impl Lines {
     }
 
     /// Takes this number of bytes as a line, and drops its end.
-    fn take_line(&mut self, len: usize) -> Result<Vec<u8>, AllocError> {
+    fn take_line(&mut self, len: usize) -> Result<Vec<u8>, AllocError>
+        ensures { IfOk result (λ line. line.items ≡ take len self.old.bytes.items) }
+    {
         let alloc = *self.bytes.allocator();
         let (line, rest) = self.bytes.split_at(len.min(self.bytes.len()));
         let used = line.len() + usize::from(!rest.is_empty());

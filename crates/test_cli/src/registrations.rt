@@ -137,3 +137,61 @@ fn lines_are_registered(rt: HostRuntime) -> Result<(), Fail> {
     }
     Ok(())
 }
+
+/// A long line: its number of bytes, whether its end is there, how many bytes are read before the
+/// others, and what comes of it.
+#[derive(Clone, Copy, Debug)]
+struct LongLine {
+    len: usize,
+    has_end: bool,
+    before: usize,
+    fault: Option<AskFault>,
+}
+
+/// A line has at most 65,536 bytes.
+#[rattlefmt::skip]
+const LONG_LINES: &[LongLine] = &[
+    LongLine { len: 65_536, has_end: true, before: 0, fault: None },
+    LongLine { len: 65_536, has_end: true, before: 1, fault: None },
+    LongLine { len: 65_536, has_end: true, before: 65_536, fault: None },
+    LongLine { len: 65_536, has_end: false, before: 0, fault: None },
+    LongLine { len: 65_537, has_end: true, before: 0, fault: Some(AskFault::Line(1)) },
+    LongLine { len: 65_537, has_end: true, before: 1, fault: Some(AskFault::Line(1)) },
+    LongLine { len: 65_537, has_end: true, before: 65_536, fault: Some(AskFault::Line(1)) },
+    LongLine { len: 65_537, has_end: true, before: 65_537, fault: Some(AskFault::Line(1)) },
+    LongLine { len: 65_537, has_end: false, before: 0, fault: Some(AskFault::Line(1)) },
+];
+
+/// These lines.
+fn long_lines() -> &'static [LongLine] {
+    LONG_LINES
+}
+
+/// The line of the worked segment with spaces behind it.
+fn padded(alloc: Global, long: LongLine) -> Result<Vec<u8>, Fail> {
+    let mut line = Vec::from_slice(alloc, LINE.trim_end().as_bytes())?;
+    line.resize(long.len, b' ')?;
+    if long.has_end {
+        line.push(b'\n')?;
+    }
+    Ok(line)
+}
+
+/// Registers a long line, and sees what comes of it.
+fn assert_long_line(rt: &(impl Abort + AllocGlobal), long: LongLine) -> Result<(), Fail> {
+    let alloc = rt.alloc();
+    let line = padded(alloc, long)?;
+    let (front, back) = line.split_at(long.before.min(line.len()));
+    let mut link = Script::new(alloc, ACK)?;
+    let came = register_over(alloc, &mut link, &mut front.chain(back));
+    assert_same(rt, &came.fault, &long.fault, &long);
+    Ok(())
+}
+
+#[test]
+fn lines_have_a_most_length(rt: HostRuntime) -> Result<(), Fail> {
+    for long in long_lines() {
+        assert_long_line(&rt, *long)?;
+    }
+    Ok(())
+}
