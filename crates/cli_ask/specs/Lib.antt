@@ -3,3 +3,4 @@ pub mod Lines
 pub mod Faults
 pub mod Steps
 pub mod Registering
+pub mod Pages

@@ -1,5 +1,9 @@
 //! Listing a server's segments, page by page.
 
+ghost use Rattle.std.specs.Prelude.{◌≡◌, ◌≢◌, Some, false, IfErr, IfOk, IfSome, IsTrue, OnOk};
+ghost use Rattle.cli_ask.specs.declared.error.AskError.TheVariants as error;
+ghost use Rattle.cli_ask.specs.Pages.{IsOfType, is_above, last_id};
+
 use crate::asking::exchange;
 use crate::error::AskError;
 use crate::lines::print_segments;
@@ -71,7 +75,11 @@ fn page_of<L: Link>(
 }
 
 /// A page, whose segments have to be of this type.
-fn of_type(kind: SegType, page: Listing) -> Result<Listing, AskError> {
+fn of_type(kind: SegType, page: Listing) -> Result<Listing, AskError>
+    ensures same { IfOk result (λ taken. taken ≡ page) }
+    ensures kind { OnOk result (IsOfType kind page) }
+    ensures why { IfErr result (λ e. (e ≡ error.Unasked) × (page.kind ≢ kind)) }
+{
     if page.kind != kind && !page.segments.is_empty() {
         return Err(AskError::Unasked);
     }
@@ -80,13 +88,27 @@ fn of_type(kind: SegType, page: Listing) -> Result<Listing, AskError> {
 
 /// The id after which the next page begins: that of the last segment of this one, which has to come
 /// after the id of the page before. So a server can't make a list without an end.
-fn next_after(page: &Listing, after: Option<[u8; 32]>) -> Result<[u8; 32], AskError> {
+fn next_after(page: &Listing, after: Option<[u8; 32]>) -> Result<[u8; 32], AskError>
+    ensures last { IfOk result (λ id. last_id page.now ≡ Some id) }
+    ensures rises { IfOk result (λ id. IsTrue (is_above after id)) }
+    ensures why { IfErr result (λ e. (e ≡ error.Faulty) × IfSome (last_id page.now) (λ id. is_above after id ≡ false)) }
+{
     let Some(last) = page.segments.last() else {
         return Err(AskError::Faulty);
     };
     let id = seg_id(last);
-    match after {
-        Some(before) if id <= before => Err(AskError::Faulty),
-        _ => Ok(id),
+    if !is_above(after, &id) {
+        return Err(AskError::Faulty);
+    }
+    Ok(id)
+}
+
+/// Whether an id is above the one before, if there is one.
+fn is_above(before: Option<[u8; 32]>, id: &[u8; 32]) -> bool
+    ensures { result ≡ is_above before id.now }
+{
+    match before {
+        Some(before) => before.cmp(id).is_lt(),
+        None => true,
     }
 }

@@ -1,5 +1,8 @@
 //! Purging, in steps or at once.
 
+ghost use Rattle.std.specs.Prelude.{◌≡◌, IfOk, OnErr};
+ghost use Rattle.cli_ask.specs.Steps.{HasAdded};
+
 use crate::asking::exchange;
 use crate::error::AskError;
 use crate::lines::print_ack;
@@ -63,7 +66,10 @@ fn drop_more<L: Link>(
     link: &mut L,
     moment: u64,
     total: &mut Option<Ack>,
-) -> Result<u32, AskError> {
+) -> Result<u32, AskError>
+    ensures added { IfOk result (λ dropped. HasAdded total.old total.new dropped) }
+    ensures same { OnErr result (total.new ≡ total.old) }
+{
     let ack = drop_by(alloc, link, moment)?;
     *total = match *total {
         Some(before) => Some(total_of(before, ack)?),

@@ -1,6 +1,7 @@
 //! The steps of a purge: by which moment each one is, and how far each one goes.
 
 ghost use Rattle.std.specs.Prelude.{◌≡◌, ◌<◌, ◌≤◌, ◌+◌, ◌-◌, ◌^◌, IfOk, IfErr};
+ghost use Rattle.cli_ask.specs.declared.error.AskError.TheVariants as error;
 ghost use Rattle.cli_ask.specs.Steps.{width_for, next_width, total_of, TooMany};
 
 use crate::error::AskError;
@@ -93,7 +94,7 @@ fn width_for(dropped: u32, width: u64) -> u64
 /// Where a count is above 2^32 - 1, the reply is none that a server sends.
 pub(crate) fn total_of(before: Ack, last: Ack) -> Result<Ack, AskError>
     ensures total { IfOk result (λ total. total ≡ total_of before last) }
-    ensures fault { IfErr result (λ e. TooMany before last) }
+    ensures fault { IfErr result (λ e. (e ≡ error.Faulty) × TooMany before last) }
 {
     let (old, new) = (before.outcome, last.outcome);
     Ok(Ack {
@@ -110,7 +111,7 @@ pub(crate) fn total_of(before: Ack, last: Ack) -> Result<Ack, AskError>
 /// The sum of two counts.
 fn sum_of(before: u32, last: u32) -> Result<u32, AskError>
     ensures sum { IfOk result (λ sum. sum ≡ before + last) }
-    ensures fault { IfErr result (λ e. 2 ^ 32 ≤ before + last) }
+    ensures fault { IfErr result (λ e. (e ≡ error.Faulty) × (2 ^ 32 ≤ before + last)) }
 {
     before.checked_add(last).ok_or(AskError::Faulty)
 }

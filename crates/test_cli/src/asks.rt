@@ -311,6 +311,76 @@ fn purges_in_steps(rt: HostRuntime) -> Result<(), Fail> {
     Ok(())
 }
 
+/// A list of down segments: the replies and the requests that are sent, as digits one after the
+/// other, the lines that are printed, and the error.
+struct Listed {
+    replies: &'static [&'static str],
+    sent: &'static [&'static str],
+    printed: &'static [&'static str],
+    error: &'static str,
+}
+
+/// What is before `SEGMENT_FIELD` in a page that has it as a down segment, and is not the last one.
+const MORE: &str = "0000006285010a5e0802125a";
+
+/// The same, but that it is the last one.
+const LAST: &str = "0000006285000a5e0802125a";
+
+/// The same as `MORE`, but as an up segment.
+const MORE_UP: &str = "0000006285010a5e0801125a";
+
+/// What is before `CORE_SEGMENT` in such a page. Its id is above that of `SEGMENT`.
+const MORE_ABOVE: &str = "0000006385010a5f0802125b0a59";
+
+/// A page with no segments that is not the last one, and one that is.
+const MORE_OF_NOTHING: &str = "000000028501";
+
+const LAST_OF_NOTHING: &str = "000000028500";
+
+/// The request of the first page, and of those after the ids of both segments.
+const FIRST: &str = "00000012050200000000000000000000000000000000";
+
+const AFTER: &str = concat!(
+    "00000032050200000000000000000000000000000000",
+    "8adcea68dc57cbbe68da7142af88b68a9d27a590e1d5157c53c2bb2c762345ff"
+);
+
+const AFTER_ABOVE: &str = concat!(
+    "00000032050200000000000000000000000000000000",
+    "e8ca9a7b8d1602938b712fa9617759e888cf3aaee019edc6152c3e3a5e35aa54"
+);
+
+/// The lines of both segments.
+const LINE: &str =
+    "down 8adcea68dc57cbbe68da7142af88b68a9d27a590e1d5157c53c2bb2c762345ff 1700000000 3400043200 1-ff00:0:110 1-ff00:0:111 2\n";
+
+const LINE_ABOVE: &str =
+    "down e8ca9a7b8d1602938b712fa9617759e888cf3aaee019edc6152c3e3a5e35aa54 1700000000 3400043200 2-64512 1-ff00:0:110 2\n";
+
+/// The texts of the errors of a page.
+const FAULTY: &str = "the reply is not well formed";
+
+const UNASKED: &str = "the reply is one to another request";
+
+#[rattlefmt::skip]
+const LISTS: &[Listed] = &[
+    Listed { replies: &[LAST_OF_NOTHING], sent: &[FIRST], printed: &[], error: "" },
+    Listed { replies: &[LAST, digits::SEGMENT_FIELD], sent: &[FIRST], printed: &[LINE], error: "" },
+    Listed { replies: &[MORE, digits::SEGMENT_FIELD, LAST_OF_NOTHING], sent: &[FIRST, AFTER], printed: &[LINE], error: "" },
+    Listed { replies: &[MORE, digits::SEGMENT_FIELD, MORE_ABOVE, digits::CORE_SEGMENT, LAST_OF_NOTHING], sent: &[FIRST, AFTER, AFTER_ABOVE], printed: &[LINE, LINE_ABOVE], error: "" },
+    Listed { replies: &[MORE, digits::SEGMENT_FIELD, MORE, digits::SEGMENT_FIELD], sent: &[FIRST, AFTER], printed: &[LINE, LINE], error: FAULTY },
+    Listed { replies: &[MORE_ABOVE, digits::CORE_SEGMENT, MORE, digits::SEGMENT_FIELD], sent: &[FIRST, AFTER_ABOVE], printed: &[LINE_ABOVE, LINE], error: FAULTY },
+    Listed { replies: &[MORE_OF_NOTHING], sent: &[FIRST], printed: &[], error: FAULTY },
+    Listed { replies: &[MORE, digits::SEGMENT_FIELD, MORE_OF_NOTHING], sent: &[FIRST, AFTER], printed: &[LINE], error: FAULTY },
+    Listed { replies: &[MORE_UP, digits::SEGMENT_FIELD], sent: &[FIRST], printed: &[], error: UNASKED },
+    Listed { replies: &[digits::FOUND], sent: &[FIRST], printed: &[], error: UNASKED },
+];
+
+/// These lists.
+fn lists() -> &'static [Listed] {
+    LISTS
+}
+
 /// These texts, one after the other.
 pub(crate) fn joined(alloc: Global, texts: &[&str]) -> Result<String, AllocError> {
     let mut all = String::new(alloc);
@@ -318,4 +388,43 @@ pub(crate) fn joined(alloc: Global, texts: &[&str]) -> Result<String, AllocError
         all.push_str(text)?;
     }
     Ok(all)
+}
+
+/// The text of the error by which a request ended, which is empty where it ended by none.
+fn error_text(alloc: Global, came: Result<(), AskError>) -> Result<String, AllocError> {
+    match came {
+        Ok(()) => Ok(String::new(alloc)),
+        Err(error) => format!(in alloc; "{error}"),
+    }
+}
+
+/// Lists down segments over a link: the text of the error.
+fn list_over(alloc: Global, link: &mut Script, output: &mut Vec<u8>) -> Result<String, Fail> {
+    let Asked::Question(question) = asked_of(Request::List, &["down"])? else {
+        return Err(Fail::from("a list asks a question"));
+    };
+    let came = ask(alloc, link, &question, 9, RowForm::Text, output);
+    Ok(error_text(alloc, came)?)
+}
+
+/// Lists down segments over a script, and sees what was sent and printed.
+fn assert_list(rt: &(impl Abort + AllocGlobal), list: &Listed) -> Result<(), Fail> {
+    let alloc = rt.alloc();
+    let replies = joined(alloc, list.replies)?;
+    let printed = joined(alloc, list.printed)?;
+    let sent = joined(alloc, list.sent)?;
+    let mut link = Script::new(alloc, replies.as_str())?;
+    let mut output = Vec::new(alloc);
+    let error = list_over(alloc, &mut link, &mut output)?;
+    assert_same(rt, &error.as_str(), &list.error, &replies);
+    assert_same(rt, &output.as_slice(), &printed.as_bytes(), &replies);
+    assert_sent(rt, alloc, &link, sent.as_str())
+}
+
+#[test]
+fn pages_of_a_list(rt: HostRuntime) -> Result<(), Fail> {
+    for list in lists() {
+        assert_list(&rt, list)?;
+    }
+    Ok(())
 }
