@@ -1,6 +1,6 @@
 //! Making the showcase of a hub and its readers.
 
-ghost use Rattle.std.specs.Prelude.{◌≡◌, [], IfOk, drop};
+ghost use Rattle.std.specs.Prelude.{◌≡◌, [], IfOk, drop, length};
 ghost use Rattle.left_right.specs.Sides.{view};
 ghost use Rattle.log_history.specs.Entries.{new_log};
 ghost use Rattle.hub_readers.specs.Shown.{IsShownAfter};
@@ -35,6 +35,7 @@ pub fn open_readers<N: ReaderName, R: Wait + Threads + Drop + Sync>(
     ensures value { IfOk result (λ made. made.0.value ≡ N.opening) }
     ensures owed { IfOk result (λ made. made.0.owed ≡ []) }
     ensures groups { IfOk result (λ made. made.0.groups ≡ []) }
+    ensures readers { IfOk result (λ made. length made.1.items ≡ READERS) }
 {
     let past = history.past();
     let writer = new_writer::<N, R>(&rt, alloc, &past, db, place)?;
@@ -75,6 +76,7 @@ fn new_readers<N: ReaderName>(
     writer: &HubWriter<N>,
 ) -> Result<Vec<HubReader<N>>, ReaderError>
     requires { past.now ≡ new_log N.shown }
+    ensures { IfOk result (λ readers. length readers.items ≡ READERS) }
 {
     let mut readers = Vec::with_capacity(alloc, READERS)?;
     for _ in 0..READERS {
