@@ -1,3 +1,4 @@
 mod Claimed
 mod NoCommands
+mod Paces
 mod Purged

@@ -9,6 +9,11 @@ use Rattle.path_server.specs.declared.sample.TheConstants.{MOST_STEPS}
 abbrev pub purge_by : ℕ → ℕ → Command
 purge_by most clock = Purge (min most clock)
 
+-- The most parts into which a period of this number of nanoseconds is cut: its seconds, and at least
+-- one. They are counted in 32 bits.
+unfoldable pub most_parts : ℕ → ℕ
+most_parts period = max (min (period / 1_000_000_000) (2 ^ 32 - 1)) 1
+
 -- Into how many parts the period is cut after a purge that dropped this number of rows: at most
 -- `most` parts, where it was cut into these parts before.
 unfoldable pub parts_after : ℕ → ℕ → ℕ → ℕ

@@ -1,8 +1,8 @@
 //! How soon a server purges again.
 
-ghost use Rattle.std.specs.Prelude.{◌≡◌, ◌/◌, ◌<◌, true, nat_lt};
+ghost use Rattle.std.specs.Prelude.{◌≡◌, ◌/◌, ◌≤◌, true, nat_lt};
 ghost use Rattle.std.specs.Duration.{as_nanos};
-ghost use Rattle.path_server.specs.Pacing.{parts_after};
+ghost use Rattle.path_server.specs.Pacing.{most_parts, parts_after};
 
 use std::time::Duration;
 
@@ -10,21 +10,31 @@ use std::time::Duration;
 /// 15 µs at a million rows, and commands wait for it.
 pub(crate) const MANY: u64 = 250;
 
+// The pages say 250, and half of it.
+const _: () = prove!(MANY == 250);
+
 /// The time from one purge to the next: a part of a period, which is shorter while purges drop many
 /// rows, and a second at least where the period is.
 #[derive(Drop)]
 pub(crate) struct Pace {
     period: Duration,
+    /// The most parts into which the period is cut.
     most: u32,
+    /// The parts into which it is cut now.
     parts: u32,
     /// Whether the next purge may drop many rows: it is the first one, or the one before did.
     expects_many: bool,
+    ghost seconds: { most ≡ most_parts (as_nanos period) },
+    ghost some: { 1 ≤ parts },
+    ghost few: { parts ≤ most },
 }
 
 impl Pace {
     /// The whole of a period. Its parts are no more than its seconds.
+    #[tactic(auto, unfolding(crate::specs::Pacing::most_parts))]
     pub(crate) fn new(period: Duration) -> Pace
-        ensures { (result.period ≡ period) × (result.parts ≡ 1) × (result.expects_many ≡ true) }
+        ensures whole { (result.period ≡ period) × (result.parts ≡ 1) × (result.expects_many ≡ true) }
+        ensures most { result.most ≡ most_parts (as_nanos period) }
     {
         Pace {
             period,
@@ -41,9 +51,11 @@ impl Pace {
         self.expects_many
     }
 
-    /// The time until the next purge.
+    /// The time until the next purge: a part of the period, and a second at least where it is.
+    #[tactic(auto, using(crate::proofs::Paces::second_at_least))]
     pub(crate) fn rest(&self) -> Duration
-        ensures { 0 < self.now.parts → as_nanos result ≡ as_nanos self.now.period / self.now.parts }
+        ensures part { as_nanos result ≡ as_nanos self.now.period / self.now.parts }
+        ensures second { 1_000_000_000 ≤ as_nanos self.now.period → 1_000_000_000 ≤ as_nanos result }
     {
         self.period.checked_div(self.parts).unwrap_or(self.period)
     }

@@ -9,8 +9,8 @@ use crate::sample::Sample;
 use crate::server::Server;
 use hub_claims::{HubError, HubName, Waiter};
 use paced_stream::Deadline;
-use path_hub::{Hub, Sender};
-use path_session::{Now, SystemNow};
+use path_hub::Hub;
+use path_session::Now;
 use sector_dev::Device;
 use seg_check::Verifier;
 use server_listeners::Listener;
@@ -42,15 +42,15 @@ impl<L: Listener + Drop, V: Verifier, O: Reports> Waiter for UntilEnd<'_, '_, L,
 
 impl<L: Listener + Drop, V: Verifier, O: Reports> Server<'_, L, V, O> {
     /// Purges what has expired by the clock after each rest, until the server is at its end. A rest is
-    /// the period, or shorter while purges drop many rows.
-    pub(crate) fn purge<D: Device, N: HubName, R: Wait + Clock>(
+    /// the period, or shorter while purges drop many rows. There is no sender here but the purger's,
+    /// so nothing else is handed in.
+    pub(crate) fn purge<D: Device, N: HubName, R: Wait + Clock, C: Now + Drop>(
         &self,
         hub: &Hub<D, N, R>,
-        sender: Sender<N>,
+        mut purger: Purger<'_, D, N, R, C>,
         period: Duration,
     ) {
         let rt = hub.handle();
-        let mut purger = Purger::new(hub, SystemNow::new(rt), sender);
         let mut pace = Pace::new(period);
         for _ in rt.forever() {
             if !self.rest(rt, pace.rest()) {

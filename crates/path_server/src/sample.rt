@@ -9,14 +9,19 @@ use hub_readers::{HubReader, ReaderError};
 use isd_as::IsdAs;
 use seg_check::expiry;
 use seg_core::{SegType, Segment};
-use seg_lookup::Query;
+use seg_lookup::{ANSWER_LIMIT, Query};
 use std::alloc::Global;
 
 /// The most pages of a type that are read, of 64 rows each.
 const PAGES: u32 = 64;
 
+// The pages say some 4,000 rows of each type.
+const _: () = prove!(PAGES as usize * ANSWER_LIMIT == 4_096);
+
 /// The most steps of a purge.
 const MOST_STEPS: u64 = 2_048;
+
+const _: () = prove!(MOST_STEPS == 2_048);
 
 /// The first rows of each type by their ids, at most 4,096 of each. An id is a digest, so these are
 /// as good as rows by chance. No clause says which rows they are: a purge by any moment is right

@@ -6,11 +6,13 @@ ghost use Rattle.path_server.specs.Attending.{shares_room};
 
 use crate::error::RunError;
 use crate::options::Options;
+use crate::purger::Purger;
 use crate::reports::{Report, Reports};
 use crate::task::{Seat, Task};
 use hub_claims::HubName;
 use hub_readers::READERS;
 use path_hub::{Hub, Notice, Senders, Workload};
+use path_session::SystemNow;
 use sector_dev::Device;
 use seg_check::Verifier;
 use server_counts::{Ends, Seldom, Stopwatch, Waiting};
@@ -256,7 +258,11 @@ impl<D: Device, R: Wait + Clock, L: Listener + Drop + Send, V: Verifier, O: Repo
                     self.watch(hub, &listener);
                 }
             }
-            Task::Purges(period) => self.purge(hub, senders.begin(), period),
+            Task::Purges(period) => {
+                let clock = SystemNow::new(hub.handle());
+                let purger = Purger::new(hub, clock, senders.begin());
+                self.purge(hub, purger, period)
+            }
         }
     }
 
