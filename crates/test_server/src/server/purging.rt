@@ -4,7 +4,10 @@ use crate::server::checks::{assert_same, assert_true};
 use crate::server::doors::{nap, naps};
 use crate::server::peers::{EMPTY_LOOKUP, NO_DESTINATION, Peer, is_replied};
 use crate::server::rows::{FOUND, LOOKUP, REGISTERED, REGISTRATION};
-use crate::server::stores::{LEAST, assert_opens_to, formatted, opened};
+use crate::server::stores::{
+    EXPIRED_PLACE, LEAST, assert_opens_to, formatted, of_expired_row, opened,
+};
+use crate::server::watching::{GET_NUMBERS, answer_to, status_listener};
 use crate::server::worlds::{
     Clients, Counts, End, Others, Outside, assert_met, assert_met_failing, assert_served, options,
     serve_beside,
@@ -53,12 +56,12 @@ impl Clients for Staying {
     }
 }
 
-/// Sees that a device opens to one row, at a place after that of a purge.
-fn assert_purged(rt: &impl Abort, alloc: Global, device: MemDevice) {
+/// Sees that a device opens to this number of rows, at a place after this one: that of a purge.
+fn assert_purged(rt: &impl Abort, alloc: Global, device: MemDevice, (rows, before): (usize, u64)) {
     let store = opened(rt, alloc, device);
     let place = store.place();
-    assert_true(rt, place > 1, "a purge has a place");
-    let _device = assert_opens_to(rt, alloc, store.into_device(), 1, place);
+    assert_true(rt, place > before, "a purge has a place");
+    let _device = assert_opens_to(rt, alloc, store.into_device(), rows, place);
 }
 
 // Each purge takes a place of its own, and drops nothing that is valid.
@@ -72,9 +75,76 @@ fn server_purges_by_itself(rt: HostRuntime) {
     let (device, served, seen) = serve_beside(
         &rt, alloc, device, others, &options, &Staying, &counts,
     );
-    assert_purged(&rt, alloc, device);
+    assert_purged(&rt, alloc, device, (1, 1));
     let seen = assert_served(&rt, served, seen, 1);
     assert_same(&rt, &seen, &[true; 2], &"open and found");
+    assert_same(&rt, &counts.not_purged(), &0, &"not purged");
+}
+
+/// The lines of the page once the only row was dropped: there is no row, and one is counted.
+const NO_ROW: &str = "\npathd_rows 0\n";
+
+const ONE_REMOVED: &str = "\npathd_outcomes_total{outcome=\"removed\"} 1\n";
+
+/// The lines of replies to purges and of segments that were registered: there were none.
+const NO_REPLY: &str = "\npathd_replies_total{kind=\"purged\"} 0\n";
+
+const NONE_INSERTED: &str = "\npathd_outcomes_total{outcome=\"inserted\"} 0\n";
+
+/// Waits until the page shows that a row was dropped.
+#[derive(Drop)]
+struct Dropping {
+    at: SocketAddr,
+}
+
+impl Dropping {
+    /// The page once it shows that a row was dropped, or after half a minute.
+    fn page<R: Outside>(&self, rt: R, alloc: Global) -> io::Result<String> {
+        for _ in 0..MOST_NAPS {
+            let page = answer_to(rt, alloc, self.at, GET_NUMBERS)?;
+            if page.as_str().contains(NO_ROW) && page.as_str().contains(ONE_REMOVED) {
+                return Ok(page);
+            }
+            nap(&rt);
+        }
+        answer_to(rt, alloc, self.at, GET_NUMBERS)
+    }
+}
+
+impl Clients for Dropping {
+    type Seen = [bool; 5];
+
+    fn meet<R: Outside>(&self, rt: R, alloc: Global, to: SocketAddr) -> io::Result<[bool; 5]> {
+        let mut peer = Peer::connect(rt, alloc, to)?;
+        let is_open = peer.asks(EMPTY_LOOKUP, NO_DESTINATION)?;
+        let page = self.page(rt, alloc)?;
+        let page = page.as_str();
+        Ok([
+            is_open,
+            page.contains(NO_ROW),
+            page.contains(ONE_REMOVED),
+            page.contains(NO_REPLY),
+            page.contains(NONE_INSERTED),
+        ])
+    }
+}
+
+// The row that has expired is dropped with no peer that asks for it. The page counts it, and no
+// reply.
+#[test]
+fn expired_row_is_dropped(rt: HostRuntime) {
+    let alloc = rt.alloc();
+    let device = of_expired_row(&rt, alloc);
+    let options = purging(&rt, alloc, Duration::from_millis(PERIOD));
+    let (status, at) = status_listener(&rt);
+    let counts = Counts::new();
+    let clients = Dropping { at };
+    let (device, served, seen) = serve_beside(
+        &rt, alloc, device, status, &options, &clients, &counts,
+    );
+    assert_purged(&rt, alloc, device, (0, EXPIRED_PLACE));
+    let seen = assert_served(&rt, served, seen, 1);
+    assert_same(&rt, &seen, &[true; 5], &"open, and the page");
     assert_same(&rt, &counts.not_purged(), &0, &"not purged");
 }
 

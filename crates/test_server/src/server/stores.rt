@@ -1,12 +1,16 @@
 //! Stores on devices in memory.
 
 use crate::server::checks::{assert_same, assert_true};
+use path_db::{Command, PathDb, Registration};
 use sector_dev::{Device, MemDevice};
+use seg_core::{SegType, read_segment};
 use std::alloc::Global;
 use std::process::Abort;
+use store_copy::{CopyError, format_with};
 use store_layout::{LEAST_CHECKPOINT, LEAST_JOURNAL};
 use store_open::{Geometry, OpenError, Store, format, open};
 use test_fault_devices::FaultDevice;
+use test_support::SEGMENT;
 
 /// The least sizes that are allowed: there is room for ten rows of the segments here, which take 93
 /// bytes each.
@@ -28,6 +32,36 @@ pub(crate) fn formatted(rt: &impl Abort, alloc: Global, geometry: Geometry) -> M
     };
     let mut device = made.expect(rt, "the device has memory");
     assert_same(rt, &format(&mut device, geometry), &Ok(()), &"format");
+    device
+}
+
+/// The place of a store with a row that has expired.
+pub(crate) const EXPIRED_PLACE: u64 = 5;
+
+/// The worked segment as the only row, which expired in November 2023. The result is `None` where
+/// memory is refused.
+fn expired_row(alloc: Global) -> Option<PathDb> {
+    let segment = read_segment(alloc, &SEGMENT).ok()?;
+    let mut rows = Vec::new(alloc);
+    rows.push((SegType::Down, segment)).ok()?;
+    let mut db = PathDb::new(alloc);
+    let _outcome = db.apply(&Command::Register(Registration::new(rows))).ok()?;
+    Some(db)
+}
+
+/// A store of that row at that place. Where memory is refused, it is asked for once more.
+pub(crate) fn of_expired_row(rt: &impl Abort, alloc: Global) -> MemDevice {
+    let rows = match expired_row(alloc) {
+        None => expired_row(alloc),
+        rows => rows,
+    };
+    let rows = rows.expect(rt, "the row has memory");
+    let mut device = formatted(rt, alloc, LEAST);
+    let made = match format_with(alloc, &mut device, LEAST, &rows, EXPIRED_PLACE) {
+        Err(CopyError::NoMemory) => format_with(alloc, &mut device, LEAST, &rows, EXPIRED_PLACE),
+        made => made,
+    };
+    assert_same(rt, &made, &Ok(()), &"copy");
     device
 }
 
