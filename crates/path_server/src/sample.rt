@@ -21,8 +21,6 @@ const _: () = prove!(PAGES as usize * ANSWER_LIMIT == 4_096);
 /// The most steps of a purge.
 const MOST_STEPS: u64 = 2_048;
 
-const _: () = prove!(MOST_STEPS == 2_048);
-
 /// The first rows of each type by their ids, at most 4,096 of each. An id is a digest, so these are
 /// as good as rows by chance. No clause says which rows they are: a purge by any moment is right
 /// that is not after the clock's, and the steps are a matter of time.
