@@ -79,7 +79,7 @@ fn registrations() -> &'static [Registration] {
     REGISTRATIONS
 }
 
-/// A text so many times.
+/// A text, this number of times.
 fn times(alloc: Global, text: &str, count: usize) -> Result<String, AllocError> {
     let mut all = String::new(alloc);
     for _ in 0..count {
