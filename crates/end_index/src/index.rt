@@ -100,7 +100,8 @@ impl EndIndex {
     }
 
     /// The rows of a type and an ISD-AS whose ids are above this one, by rising id. No others are
-    /// visited. `None` means that memory was refused for a copy of the id.
+    /// visited. `None` means that memory was refused for a copy of the id: no clause says when that
+    /// is, and the caller can use `keys_at`.
     pub fn keys_after(
         &self,
         alloc: Global,
