@@ -56,7 +56,10 @@ impl Done {
 
 impl Completed {
     /// Nothing was completed yet.
-    pub fn new() -> Completed {
+    pub fn new() -> Completed
+        ensures counts { (result.groups ≡ 0) × (result.seals ≡ 0) × (result.checkpoints ≡ 0) }
+        ensures commits { (result.commits.count ≡ 0) × (result.commits.microseconds ≡ 0) }
+    {
         Completed {
             groups: 0,
             seals: 0,

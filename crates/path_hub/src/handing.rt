@@ -1,9 +1,8 @@
 //! What is done with a hub's state, under its lock, for the commands that were handed in: they are
 //! submitted, their tickets redeemed, and their answers put where they go.
 
-ghost use Rattle.std.specs.Prelude.{◌≡◌, ◌+◌, ◌<◌, ◌≤◌, true, Option};
+ghost use Rattle.std.specs.Prelude.{◌≡◌, ◌+◌, ◌<◌, ◌≤◌, true, None};
 ghost use Rattle.std.specs.VecDeque.{deque_len, deque_capacity};
-ghost use Rattle.group_core.specs.declared.submit_error.SubmitError.{SubmitError};
 ghost use Rattle.path_hub.specs.Sending.{NotesTaken};
 ghost use Rattle.store_loops.specs.Receipts.{IsTicketOrCommand};
 
@@ -31,7 +30,8 @@ pub(crate) const MOST_TAKEN: u64 = 32;
 pub(crate) const MOST_UNDER_WAY: usize = 256;
 
 /// A command that was submitted: its ticket, the queue's claim of it and that of the state's log,
-/// and where its answer goes.
+/// and where its answer goes. Its answer is a receipt, or that the state stopped (`may_stop`): it
+/// is not refused for another reason any more.
 pub(crate) struct UnderWay<N: HubName> {
     ticket: Ticket,
     claim: Claim<N>,
@@ -40,7 +40,7 @@ pub(crate) struct UnderWay<N: HubName> {
     ghost same: { ticket.command.value ≡ claim.command.value },
     ghost placed: { ticket.place ≡ N.opening.place + accepted.index },
     ghost logged: { accepted.command ≡ ticket.command.value },
-    ghost refusable: { (why : Option SubmitError) → N.refused claim.command.value why ≡ true },
+    ghost may_stop: { N.refused claim.command.value None ≡ true },
 }
 
 /// The commands of the queue that were submitted and are not answered yet, in the order of their

@@ -1,6 +1,6 @@
 //! How long commits took.
 
-ghost use Rattle.std.specs.Prelude.{◌≡◌, map};
+ghost use Rattle.std.specs.Prelude.{◌≡◌, ◌∷◌, [], map};
 ghost use Rattle.store_loops.specs.Commits.{bucket_after, times_after};
 
 /// The number of microseconds in a second.
@@ -89,9 +89,12 @@ pub struct CommitTimes {
 }
 
 impl CommitTimes {
-    /// No commit was made yet.
+    /// No commit was made yet. The times of the buckets rise, from half a millisecond to a second.
     pub fn new() -> CommitTimes
-        ensures { result ≡ record { buckets = NO_COMMITS; count = 0; microseconds = 0 } }
+        ensures empty { result ≡ record { buckets = NO_COMMITS; count = 0; microseconds = 0 } }
+        ensures times { map (λ bucket. bucket.microseconds) result.buckets
+            ≡ 500 ∷ 1000 ∷ 2000 ∷ 5000 ∷ 10000 ∷ 20000 ∷ 50000 ∷ 100000 ∷ 200000 ∷ 500000 ∷ 1000000 ∷ [] }
+        ensures none { map (λ bucket. bucket.count) result.buckets ≡ 0 ∷ 0 ∷ 0 ∷ 0 ∷ 0 ∷ 0 ∷ 0 ∷ 0 ∷ 0 ∷ 0 ∷ 0 ∷ [] }
     {
         CommitTimes {
             buckets: NO_COMMITS,

@@ -13,7 +13,7 @@ ghost use Rattle.store_layout.specs.Layout.{IsGeometry, image_sectors};
 ghost use Rattle.store_layout.specs.Geometry.{geometry_view};
 ghost use Rattle.store_open.specs.Looking.{LooksAt};
 ghost use Rattle.store_open.specs.NewStore.{DeviceHasRoomFor};
-ghost use Rattle.store_open.specs.Titles.{has_title, is_named_store, HasSizes, IsTitle};
+ghost use Rattle.store_open.specs.Titles.{has_title, is_named_store, sizes_told, titled_sizes};
 
 use crate::reading::read_sector;
 use crate::title::{CHECKPOINT_AT, JOURNAL_AT, LAYOUT, LAYOUT_AT, STORE_MAGIC};
@@ -91,7 +91,7 @@ fn is_named_store(sector: &[u8]) -> bool
 /// 0 is no store's. The device is unchanged.
 pub fn titled_sizes<D: Device>(device: &mut D) -> Result<Option<Geometry>, DevError>
     ensures looks { LooksAt result (D.disk device.old) (D.disk device.new) }
-    ensures sizes { IfOk result (λ found. IfSome found (λ geometry. IsHonest (D.disk device.old) → HasSizes (geometry_view geometry) (D.disk device.old))) }
+    ensures sizes { IfOk result (λ found. IsHonest (D.disk device.old) → option_map geometry_view found ≡ titled_sizes (D.disk device.old)) }
 {
     if device.sectors() == 0 {
         return Ok(None);
@@ -103,7 +103,7 @@ pub fn titled_sizes<D: Device>(device: &mut D) -> Result<Option<Geometry>, DevEr
 /// The sizes in sector 0, where it is that of a store.
 fn sizes_of(sector: &[u8]) -> Option<Geometry>
     requires { length sector.now ≡ SECTOR }
-    ensures { IfSome result (λ geometry. IsTitle (geometry_view geometry) sector.now) }
+    ensures { option_map geometry_view result ≡ sizes_told sector.now }
 {
     if !is_named(sector) {
         return None;
@@ -112,5 +112,8 @@ fn sizes_of(sector: &[u8]) -> Option<Geometry>
         checkpoint: read_u32(sector, CHECKPOINT_AT),
         journal: read_u32(sector, JOURNAL_AT),
     };
-    geometry.is_allowed().then_some(geometry)
+    if !geometry.is_allowed() {
+        return None;
+    }
+    Some(geometry)
 }
