@@ -34,29 +34,11 @@ use std::mem::replace;
 use store_layout::{BEFORE_ROWS, Geometry, Half};
 use store_open::SealedError;
 
-/// Reads a half whose journal is sealed, and plans its checkpoint of this epoch: the half's rows
-/// after the journal's commands. The rows from which the first piece is made are read twice, and
-/// the others once. Nothing is written, and the half's gate is not read. A half that is refused, or
-/// whose rows after the commands do not fit an area, is `Damaged`.
-pub fn begin_merge<D: Device>(
-    alloc: Global,
-    device: &mut D,
-    geometry: Geometry,
-    half: Half,
-    epoch: u64,
-) -> Result<Merge, SealedError>
-    requires allowed { IsGeometry (geometry_view geometry) }
-    requires room { image_sectors (geometry_view geometry) ≤ (D.disk device.old).sectors }
-    ensures looks { LooksAtHalf result (D.disk device.old) (D.disk device.new) }
-    ensures merges { MergesSealed (geometry_view geometry) half epoch result (D.disk device.old) }
-{
-    let mut preparation = Preparation::new();
-    begin_prepared(alloc, device, geometry, half, epoch, &mut preparation)
-}
-
-/// Reads what is not read yet of a half whose journal is sealed, and plans its checkpoint, as
-/// `begin_merge` does. What is prepared is used up: the preparation begins anew, also after an
-/// error.
+/// Reads what is not read yet of a half whose journal is sealed, and plans its checkpoint of this
+/// epoch: the half's rows after the journal's commands. The rows from which the first piece is made
+/// are read twice, and the others once. Nothing is written, and the half's gate is not read. A half
+/// that is refused, or whose rows after the commands do not fit an area, is `Damaged`. What is
+/// prepared is used up: the preparation begins anew, also after an error.
 pub fn begin_prepared<D: Device>(
     alloc: Global,
     device: &mut D,

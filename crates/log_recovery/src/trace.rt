@@ -15,7 +15,8 @@ use std::snapshot::Snapshot;
 use store_open::Store;
 
 /// A server at its end: the store that it was started with, its log with the claims of acknowledged
-/// commands and with what sessions were shown, and its device. Only clauses read the store and the device, which have no bytes here.
+/// commands and with what sessions were shown, and its device. Only clauses read the store and the
+/// device, which have no bytes here.
 #[derive(Drop)]
 pub struct ServerTrace<D: Device> {
     start: Snapshot<Store<D>>,
