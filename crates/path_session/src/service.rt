@@ -358,6 +358,7 @@ impl<D: Device, N: HubName, R: Wait + Clock, V: Verifier, C: Now, P: Waiter> Ser
             (Lookup message.now) (reply_to_lookup result) (serving V.verifies P.has_left self.new) }
         ensures few { IfOk result (λ found. length found.1.items ≤ MOST_SEGMENTS) }
         ensures whole { IfOk result (λ found. AllByRecursion IsSegment found.1.items) }
+        ensures clock { OnOk result (self.new.moment ≡ C.moment self.new.clock) }
         ensures sent { self.new.sender ≡ self.old.sender }
     {
         Ok(self.find(message)?)
@@ -368,6 +369,7 @@ impl<D: Device, N: HubName, R: Wait + Clock, V: Verifier, C: Now, P: Waiter> Ser
             (List request.now) (reply_to_list result) (serving V.verifies P.has_left self.new) }
         ensures few { IfOk result (λ listing. length listing.segments.items ≤ MOST_SEGMENTS) }
         ensures whole { IfOk result (λ listing. AllByRecursion IsSegment listing.segments.items) }
+        ensures clock { OnOk result (self.new.moment ≡ C.moment self.new.clock) }
         ensures sent { self.new.sender ≡ self.old.sender }
     {
         Ok(self.find_page(request)?)

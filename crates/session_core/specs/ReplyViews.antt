@@ -1,8 +1,6 @@
 -- The program's replies as contracts see them.
-use Rattle.std.specs.Prelude.{◌≤◌, length}
 use Rattle.session_core.specs.declared.reply.Reply.{Reply}
 use Rattle.session_core.specs.declared.reply.Reply.TheVariants as reply
-use Rattle.session_core.specs.declared.service.TheConstants.{MOST_SEGMENTS}
 use Rattle.session_core.specs.Reply.{ReplyView, Registered, Found, Purged, Removed, Listed, Refused}
 
 -- A reply as contracts see it.
@@ -13,9 +11,3 @@ reply_view (reply.Purged ack) = Purged ack
 reply_view (reply.Removed ack) = Removed ack
 reply_view (reply.Listed listing) = Listed listing.more listing.kind listing.segments.items
 reply_view (reply.Refused code) = Refused code.0
-
--- The reply has at most 64 segments.
-abbrev pub HasFewSegments : Reply → Type 0
-HasFewSegments (reply.Found kind segments) = length segments.items ≤ MOST_SEGMENTS
-HasFewSegments (reply.Listed listing) = length listing.segments.items ≤ MOST_SEGMENTS
-HasFewSegments _ = Unit {0}

@@ -385,6 +385,7 @@ impl<S: Service, C: Now, R: Clock> Service for Limited<'_, S, C, R> {
         answered
     }
 
+    /// Where a message is judged by the clock, its moment is the one that the clock gave last.
     fn hand_in(
         &mut self,
         alloc: Global,
@@ -394,6 +395,7 @@ impl<S: Service, C: Now, R: Clock> Service for Limited<'_, S, C, R> {
         ensures known { IfSome result (λ command. IsLimitedFor S.is_for (limited S.state self.new) command (message_at message.entry)) }
         ensures same { limited S.state self.new ≡ limited S.state self.old }
         ensures untouched { IfSome result (λ command. OnErr command.taken (self.new.inner ≡ self.old.inner)) }
+        ensures clock { IfSome result (λ command. IfSome command.moment (λ moment. moment ≡ C.moment self.new.clock)) }
     {
         let admission = match &message {
             Message::Register(body) => self.admit_registration(alloc, body),
