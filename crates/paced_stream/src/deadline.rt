@@ -1,7 +1,8 @@
 //! The time that a connection has.
 
-ghost use Rattle.std.specs.Prelude.{◌≡◌, ◌+◌, ◌<◌, ◌≤◌, ◌↔◌, IsSome, IfSome, IfOk};
+ghost use Rattle.std.specs.Prelude.{◌≡◌, ◌+◌, ◌-◌, ◌<◌, ◌≤◌, ◌↔◌, IsSome, IfSome, IfOk};
 ghost use Rattle.std.specs.Duration.{as_nanos};
+ghost use Rattle.std.specs.Time.{instant_nanos};
 
 use std::io;
 use std::time::{Clock, Duration, Instant};
@@ -32,6 +33,16 @@ impl Deadline {
     {
         let elapsed = self.begun.elapsed(clock).ok()?;
         time_left(self.time, elapsed)
+    }
+
+    /// The time that is left at the moment from which a later deadline counts: some, or `None`
+    /// where no time is left.
+    pub(crate) fn left_at(&self, later: &Deadline) -> Option<Duration>
+        ensures variant { IsSome result ↔ (instant_nanos later.now.begun - instant_nanos self.now.begun < as_nanos self.now.time) }
+        ensures some { IfSome result (λ left.
+            as_nanos left + (instant_nanos later.now.begun - instant_nanos self.now.begun) ≡ as_nanos self.now.time) }
+    {
+        time_left(self.time, later.begun.duration_since(self.begun))
     }
 }
 

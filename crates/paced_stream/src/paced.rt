@@ -1,7 +1,8 @@
 //! A connection, paced by the boundaries of its frames.
 
-ghost use Rattle.std.specs.Prelude.{◌≡◌, ◌++◌, ◌≤◌, length, IfOk};
+ghost use Rattle.std.specs.Prelude.{◌≡◌, [], ◌++◌, ◌<◌, ◌≤◌, None, length, IfOk};
 ghost use Rattle.paced_stream.specs.Grown.{grown_by};
+ghost use Rattle.paced_stream.specs.Tracking.{after_bytes};
 
 use crate::pace::Pace;
 use crate::stream_calls::StreamCalls;
@@ -12,10 +13,12 @@ use std::time::{Clock, Duration};
 
 /// One direction of a connection, for reads alone or for writes alone.
 ///
-/// A frame that is read has to be whole within the idle time of its first byte, and has to begin
-/// within the idle time of the read that waits for it. A frame that is written has to be taken
-/// within the idle time of the write that began it. A call that is interrupted is made again for
-/// the time that is left.
+/// A frame that is read has to begin within the idle time of the read that waits for it, and has to
+/// be whole within the idle time of the first read that waits for its rest. A frame that is written
+/// has to be taken within the idle time of the write that began it. Where a write took all that
+/// there was to send, what follows has the idle time of the next write. So the time in which the
+/// server answers messages is no frame's. A call that is interrupted is made again for the time that
+/// is left.
 #[derive(Drop)]
 pub(crate) struct Paced<'a, C, T> {
     clock: &'a C,
@@ -52,7 +55,8 @@ impl<'a, C: Clock, T: StreamCalls> Paced<'a, C, T> {
 
     /// Whether the socket has another timeout in this direction, which is then noted as set.
     fn sets(&mut self, time: Option<Duration>) -> bool
-        ensures { self.new.stream ≡ self.old.stream }
+        ensures stream { self.new.stream ≡ self.old.stream }
+        ensures pace { self.new.pace ≡ self.old.pace }
     {
         let is_other = self.timeout != time;
         self.timeout = time;
@@ -64,6 +68,8 @@ impl<'a, C: Clock, T: StreamCalls> Paced<'a, C, T> {
     pub(crate) fn write(&mut self, bytes: &[u8]) -> io::Result<usize>
         ensures most { IfOk result (λ n. n ≤ length bytes.now) }
         ensures taken { T.taken self.new.stream ≡ grown_by (T.taken self.old.stream) result bytes.now }
+        ensures followed { self.new.pace.frames ≡ after_bytes self.old.pace.frames (grown_by [] result bytes.now) }
+        ensures all { IfOk result (λ n. n ≡ length bytes.now → self.new.pace.deadline ≡ None) }
     {
         let mut call = self.pace.call_time(self.clock)?;
         for _ in 0..u64::MAX {
@@ -72,7 +78,37 @@ impl<'a, C: Clock, T: StreamCalls> Paced<'a, C, T> {
             }
             match self.stream.write_once(bytes) {
                 Ok(count) => {
-                    self.pace.leave(bytes.split_at(count).0, &call);
+                    self.pace.leave(bytes, count, &call);
+                    return Ok(count);
+                }
+                Err(error) if error.kind() == ErrorKind::Interrupted => {
+                    call = call.interrupted(self.clock);
+                }
+                Err(error) => {
+                    self.pace.fail(&error);
+                    return Err(error);
+                }
+            }
+        }
+        Err(io::Error::from(ErrorKind::TimedOut))
+    }
+
+    /// Reads once, into the first bytes of `buf`, and returns their number. A read that is
+    /// interrupted has given no byte, and is made again.
+    fn read(&mut self, buf: &mut [u8]) -> io::Result<usize>
+        ensures most { IfOk result (λ n. n ≤ length buf.new) }
+        ensures end { IfOk result (λ n. n ≡ 0 → 0 < length buf.new → T.is_at_end self.new.stream) }
+        ensures given { T.given self.new.stream ≡ grown_by (T.given self.old.stream) result buf.new }
+        ensures followed { self.new.pace.frames ≡ after_bytes self.old.pace.frames (grown_by [] result buf.new) }
+    {
+        let mut call = self.pace.call_time(self.clock)?;
+        for _ in 0..u64::MAX {
+            if self.sets(call.time) {
+                self.stream.set_read_timeout(call.time)?;
+            }
+            match self.stream.read_once(buf) {
+                Ok(count) => {
+                    self.pace.arrive(buf.split_at(count).0);
                     return Ok(count);
                 }
                 Err(error) if error.kind() == ErrorKind::Interrupted => {
@@ -94,25 +130,6 @@ impl<C: Clock, T: StreamCalls> Source for Paced<'_, C, T> {
     ghost is_at_end = { λ paced. T.is_at_end paced.stream };
 
     fn read_piece(&mut self, buf: &mut [u8]) -> io::Result<usize> {
-        let mut call = self.pace.call_time(self.clock)?;
-        for _ in 0..u64::MAX {
-            if self.sets(call.time) {
-                self.stream.set_read_timeout(call.time)?;
-            }
-            match self.stream.read_once(buf) {
-                Ok(count) => {
-                    self.pace.arrive(self.clock, buf.split_at(count).0);
-                    return Ok(count);
-                }
-                Err(error) if error.kind() == ErrorKind::Interrupted => {
-                    call = call.interrupted(self.clock);
-                }
-                Err(error) => {
-                    self.pace.fail(&error);
-                    return Err(error);
-                }
-            }
-        }
-        Err(io::Error::from(ErrorKind::TimedOut))
+        self.read(buf)
     }
 }

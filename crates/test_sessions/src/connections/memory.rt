@@ -2,10 +2,12 @@
 
 ghost use Rattle.std.specs.Prelude.{◌≡◌, []};
 
+use crate::connections::clock::MovedClock;
 use paced_stream::StreamCalls;
 use std::alloc::Global;
 use std::io;
 use std::io::ErrorKind;
+use std::sync::atomic::{AtomicBool, AtomicU64, Ordering};
 use std::time::Duration;
 
 /// A connection in memory, by which its calls are as they were made.
@@ -29,6 +31,14 @@ pub struct MemStream<'a> {
     pub stays_open: bool,
     /// Whether a call that sets a time fails.
     pub is_broken: bool,
+    /// Whether small writes are sent at once.
+    pub is_prompt: AtomicBool,
+    /// The clock that calls move, if there is one.
+    pub clock: Option<&'a MovedClock>,
+    /// How long each call takes, in milliseconds.
+    pub takes: u64,
+    /// The time that was set last, in milliseconds: a call that takes longer fails then.
+    limit: AtomicU64,
 }
 
 /// A connection whose peer sends these bytes and then no more.
@@ -43,15 +53,38 @@ pub fn connection(alloc: Global, coming: &[u8], piece: usize) -> MemStream<'_> {
         room: usize::MAX,
         stays_open: false,
         is_broken: false,
+        is_prompt: AtomicBool::new(false),
+        clock: None,
+        takes: 0,
+        limit: AtomicU64::new(u64::MAX),
     }
 }
 
 impl MemStream<'_> {
-    /// Counts a call, which fails where it is interrupted.
+    /// Lets a call take this number of milliseconds, or the time that was set where that is less.
+    /// Returns whether the call has ended within that time.
+    fn lasts(&self, takes: u64) -> bool {
+        let limit = self.limit.load(Ordering::SeqCst);
+        if let Some(clock) = self.clock {
+            clock.pass(takes.min(limit));
+        }
+        takes <= limit
+    }
+
+    /// Lets a call wait until its time is over. Returns its error.
+    fn late(&self) -> io::Error {
+        let _is_in_time = self.lasts(u64::MAX);
+        io::Error::from(ErrorKind::WouldBlock)
+    }
+
+    /// Counts a call. It fails where its time is over, and where it is interrupted.
     fn call(&mut self) -> io::Result<()>
         ensures given { self.new.given ≡ self.old.given }
         ensures taken { self.new.taken ≡ self.old.taken }
     {
+        if !self.lasts(self.takes) {
+            return Err(io::Error::from(ErrorKind::WouldBlock));
+        }
         self.calls = self.calls.saturating_add(1);
         if self.interrupts > 0 && self.calls % self.interrupts == 0 {
             return Err(io::Error::from(ErrorKind::Interrupted));
@@ -59,11 +92,16 @@ impl MemStream<'_> {
         Ok(())
     }
 
-    /// The result of a call that sets a time.
-    fn set(&self) -> io::Result<()> {
+    /// Sets the time of calls.
+    fn set(&self, time: Option<Duration>) -> io::Result<()> {
         if self.is_broken {
             return Err(io::Error::from(ErrorKind::Other));
         }
+        let limit = match time {
+            Some(time) => u64::try_from(time.as_millis()).unwrap_or(u64::MAX),
+            None => u64::MAX,
+        };
+        self.limit.store(limit, Ordering::SeqCst);
         Ok(())
     }
 }
@@ -75,23 +113,24 @@ impl StreamCalls for MemStream<'_> {
 
     ghost is_at_end = { λ stream. stream.coming.now ≡ [] };
 
-    fn set_nodelay(&self, _nodelay: bool) -> io::Result<()> {
+    fn set_nodelay(&self, nodelay: bool) -> io::Result<()> {
+        self.is_prompt.store(nodelay, Ordering::SeqCst);
         Ok(())
     }
 
-    fn set_read_timeout(&self, _time: Option<Duration>) -> io::Result<()> {
-        self.set()
+    fn set_read_timeout(&self, time: Option<Duration>) -> io::Result<()> {
+        self.set(time)
     }
 
-    fn set_write_timeout(&self, _time: Option<Duration>) -> io::Result<()> {
-        self.set()
+    fn set_write_timeout(&self, time: Option<Duration>) -> io::Result<()> {
+        self.set(time)
     }
 
     fn read_once(&mut self, into: &mut [u8]) -> io::Result<usize> {
-        self.call()?;
         if self.coming.is_empty() && self.stays_open {
-            return Err(io::Error::from(ErrorKind::WouldBlock));
+            return Err(self.late());
         }
+        self.call()?;
         let count = self.piece.max(1).min(self.coming.len()).min(into.len());
         let (front, rest) = self.coming.split_at(count);
         into.split_at_mut(count).0.copy_from_slice(front);
@@ -101,10 +140,10 @@ impl StreamCalls for MemStream<'_> {
     }
 
     fn write_once(&mut self, bytes: &[u8]) -> io::Result<usize> {
-        self.call()?;
         if self.room == 0 {
-            return Err(io::Error::from(ErrorKind::WouldBlock));
+            return Err(self.late());
         }
+        self.call()?;
         let count = self.piece.max(1).min(self.room).min(bytes.len());
         self.taken.extend_from_slice(bytes.split_at(count).0)?;
         self.room -= count;

@@ -1,0 +1,8 @@
+use Rattle.std.proofs.Common.{◌≡◌}
+use Rattle.paced_stream.proofs.paced.Paced.read.Given as goal
+
+abbrev pub invariant-loop : goal.invariant-loop
+invariant-loop g l = record {
+  same : g.T.StreamCalls.given l.self.stream ≡ g.T.StreamCalls.given l.fn.self.stream;
+  frames : l.self.pace.frames ≡ l.fn.self.pace.frames;
+}
