@@ -25,9 +25,9 @@ pub enum Awaited {
 
 /// A state that several threads work on. Each call but `changes` and `rest` makes one call of the
 /// state's method of that name, and no other step of an actor, while no other thread makes a call.
-/// Where commands wait in a queue, `stage` and `follow` may submit some of them before their step,
-/// and each call may redeem tickets of these after its own. Nothing is known of the state from one
-/// call to the next. A value that is returned is the one that was passed.
+/// Where commands wait in a queue, `submit`, `stage` and `follow` may submit some of them before
+/// their step, and each call may redeem tickets of these after its own. Nothing is known of the state
+/// from one call to the next. A value that is returned is the one that was passed.
 pub trait Steps {
     ghost use Rattle.std.specs.Prelude.{List};
     ghost use Rattle.row_map.specs.Database.{RowView};
