@@ -30,13 +30,13 @@ use std::marker::Model;
 /// A reader's seat at what a hub publishes.
 pub(crate) type HubSeat<N> = Reader<Published, SeenGroups, ReaderRule<N>>;
 
-/// A reader of the hub of this name. Contracts see the groups after which its last lookup was
-/// answered, and the greatest place that a lookup or a receipt has shown it.
+/// A reader of the hub of this name. Contracts see the groups after which it has looked last, and
+/// the greatest place that a lookup or a receipt has shown it.
 #[derive(Drop)]
 pub struct HubReader<N: ReaderName> {
     seat: HubSeat<N>,
     seen: u64,
-    /// The past log of what its last lookup was answered from.
+    /// The past log of what it has looked at last.
     past: PastLog,
 }
 
@@ -170,7 +170,9 @@ impl<N: ReaderName> HubReader<N> {
         Ok(sight.found?)
     }
 
-    /// The look of the last lookup that was answered, or of no command where there was none.
+    /// The look of the last lookup that has looked, or of no command where there was none. That
+    /// lookup was answered, was refused memory for its answer, or has found what is older than what
+    /// the reader had seen.
     pub fn last_look(&self) -> Look<N>
         ensures { result ≡ all_of self.now.groups }
     {
