@@ -4,7 +4,7 @@
 //! and shows it. A reader enters the shown copy by a seat of its own, without a lock.
 //!
 //! To the layer above: `open_readers` makes the showcase of a hub, which publishes groups, and its
-//! 64 readers. `HubReader::lookup` and `HubReader::page` answer from what is published, which is
+//! 65 readers. `HubReader::lookup` and `HubReader::page` answer from what is published, which is
 //! never older than what this reader was shown or has learnt. `HubReader::last_look` gives a token
 //! of the commands that a reader was shown. Who ends the showcase by `HubShow::close` hands in such
 //! tokens, and learns that each is of a front of the commands that the showcase was given.

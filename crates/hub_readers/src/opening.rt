@@ -17,8 +17,9 @@ use std::alloc::{AllocError, Global};
 use std::sync::Wait;
 use std::thread::Threads;
 
-/// The number of readers of a hub.
-pub const READERS: usize = 64;
+/// The number of readers of a hub: one for each of 64 sessions, and one for the purges that a server
+/// makes by itself.
+pub const READERS: usize = 65;
 
 /// Makes the showcase of the hub of this name, and all its readers, over rows at a place. The
 /// history is of what is shown. No group is published yet, and nothing is owed. Up to four threads

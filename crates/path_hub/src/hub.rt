@@ -62,7 +62,7 @@ impl<D: Device, N: HubName, R: Wait + Clock> Hub<D, N, R> {
         &self.rt
     }
 
-    /// Takes a free reader. A hub has 64 readers. A reader that is dropped and not given back is
+    /// Takes a free reader. A hub has 65 readers. A reader that is dropped and not given back is
     /// lost to the hub.
     pub fn reader(&self) -> Result<HubReader<N>, HubError>
         ensures { IfErr result (λ e. e ≡ NoReader) }

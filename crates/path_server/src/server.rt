@@ -9,6 +9,7 @@ use crate::options::Options;
 use crate::purger::Purger;
 use crate::reports::{Report, Reports};
 use crate::task::{Seat, Task};
+use command_queue::MOST_WAITING;
 use hub_claims::HubName;
 use hub_readers::READERS;
 use path_hub::{Hub, Notice, Senders, Workload};
@@ -18,6 +19,7 @@ use seg_check::Verifier;
 use server_counts::{Ends, Seldom, Stopwatch, Waiting};
 use server_listeners::{Door, Entrances, Listener, Listeners, StatusListener};
 use server_seats::{LEAST_COMMAND_SEATS, MOST_SESSIONS, Role, Seats, shares_of};
+use session_core::MOST_AHEAD;
 use session_limits::{Limits, Rooms};
 use status_server::Replies;
 use std::alloc::Global;
@@ -25,8 +27,16 @@ use std::sync::Wait;
 use std::sync::atomic::{AtomicBool, AtomicU64, Ordering};
 use std::time::{Clock, Duration, Instant};
 
-// Each session at one time has a reader of the hub.
-const _: () = prove!(MOST_SESSIONS == READERS as u64);
+// Each session at one time has a reader of the hub, and so have the purges of the server itself.
+const _: () = prove!(MOST_SESSIONS + 1 == READERS as u64);
+
+const _: () = prove!(MOST_SESSIONS == 64);
+
+// What all sessions may send ahead may wait in the queue beside 256 commands, as many as may be
+// pending in a state.
+const _: () = prove!(MOST_WAITING as u64 == 256 + MOST_SESSIONS * MOST_AHEAD as u64);
+
+const _: () = prove!(MOST_AHEAD == 128);
 
 /// A server: where its peers arrive, the seats that they take, what each session is answered by,
 /// and what is counted of it.

@@ -1,4 +1,4 @@
-//! A hub has 64 readers.
+//! A hub has 65 readers.
 
 use crate::checks::assert_same;
 use crate::host::Host;
@@ -23,7 +23,7 @@ fn take_all<D: Device, N: HubName, R: Wait + Clock>(
     hub: &Hub<D, N, R>,
     out: &mut Vec<HubReader<N>>,
 ) -> Option<()> {
-    for _ in 0..65 {
+    for _ in 0..66 {
         match hub.reader() {
             Ok(reader) => out.push(reader).ok()?,
             Err(HubError::NoReader) => break,
@@ -46,10 +46,10 @@ impl<D: Device, R: Wait + Clock> HubJob<D, R> for TakesAll {
 }
 
 #[test]
-fn sixty_four_readers(rt: HostRuntime) {
+fn sixty_five_readers(rt: HostRuntime) {
     let host = Host(&rt);
     let alloc = rt.alloc();
     let store = new_store(&host, alloc);
     let seen = ended(&host, with_hub(&rt, alloc, store, 1, TakesAll { alloc }));
-    assert_same(&rt, &seen, &Some((64, true)), &"readers");
+    assert_same(&rt, &seen, &Some((65, true)), &"readers");
 }
