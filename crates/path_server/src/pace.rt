@@ -1,6 +1,6 @@
 //! How soon a server purges again.
 
-ghost use Rattle.std.specs.Prelude.{◌≡◌, ◌/◌, ◌≤◌, true, nat_lt};
+ghost use Rattle.std.specs.Prelude.{◌≡◌, ◌/◌, ◌≤◌, true, nat_lt, IfSome, IfNone};
 ghost use Rattle.std.specs.Duration.{as_nanos};
 ghost use Rattle.path_server.specs.Pacing.{most_parts, parts_after};
 
@@ -60,14 +60,20 @@ impl Pace {
         self.period.checked_div(self.parts).unwrap_or(self.period)
     }
 
-    /// Notes the number of rows that a purge has dropped. After more than 250 the rest is shorter, so
-    /// that about 250 expire within it. After 125 and fewer it is twice as long, up to the period.
+    /// Notes the number of rows that a purge has dropped, or `None` where it was refused, which
+    /// changes nothing: what has expired is still to be dropped. After more than 250 rows the rest is
+    /// shorter, so that about 250 expire within it. After 125 and fewer it is twice as long, up to the
+    /// period.
     #[tactic(auto, unfolding(crate::specs::Pacing::parts_after))]
-    pub(crate) fn note(&mut self, dropped: u32)
-        ensures parts { self.new.parts ≡ parts_after dropped self.old.most self.old.parts }
-        ensures expects { self.new.expects_many ≡ nat_lt MANY dropped }
+    pub(crate) fn note(&mut self, dropped: Option<u32>)
+        ensures parts { IfSome dropped (λ rows. self.new.parts ≡ parts_after rows self.old.most self.old.parts) }
+        ensures expects { IfSome dropped (λ rows. self.new.expects_many ≡ nat_lt MANY rows) }
         ensures same { (self.new.period ≡ self.old.period) × (self.new.most ≡ self.old.most) }
+        ensures refused { IfNone dropped (self.new ≡ self.old) }
     {
+        let Some(dropped) = dropped else {
+            return;
+        };
         let (dropped, parts) = (u64::from(dropped), u64::from(self.parts));
         let wanted = if dropped > MANY {
             (parts * (dropped / MANY + 1)).min(u64::from(self.most))

@@ -83,13 +83,14 @@ impl<L: Listener + Drop, V: Verifier, O: Reports> Server<'_, L, V, O> {
     }
 
     /// Purges by moments of a sample, so that each purge drops about 250 rows, and then by the clock.
-    /// Returns how many rows were dropped, or `None` where the server does not go on.
+    /// Returns how many rows were dropped, or `None` within where the last purge was refused, so that
+    /// rows that have expired may be left. It is `None` where the server does not go on.
     fn purge_in_steps<D: Device, N: HubName, R: Wait + Clock, C: Now>(
         &self,
         hub: &Hub<D, N, R>,
         purger: &mut Purger<'_, D, N, R, C>,
         sample: Option<Sample>,
-    ) -> Option<u32> {
+    ) -> Option<Option<u32>> {
         let mut dropped = 0u32;
         if let Some(sample) = sample {
             let stride = sample.stride(hub.numbers().0.rows);
@@ -97,21 +98,26 @@ impl<L: Listener + Drop, V: Verifier, O: Reports> Server<'_, L, V, O> {
             for moments in sample.moments().chunks_exact(stride) {
                 let last = moments.last().copied().unwrap_or(0);
                 if last > before {
-                    dropped = dropped.saturating_add(self.purge_once(purger, last)?);
+                    let step = self.purge_once(purger, last)?.unwrap_or(0);
+                    dropped = dropped.saturating_add(step);
                     before = last;
                 }
             }
         }
-        Some(dropped.saturating_add(self.purge_once(purger, u64::MAX)?))
+        match self.purge_once(purger, u64::MAX)? {
+            Some(last) => Some(Some(dropped.saturating_add(last))),
+            None => Some(None),
+        }
     }
 
     /// Hands in a purge of a moment, or of the clock's where that is before it, and waits until it is
-    /// answered. Returns how many rows it dropped, or `None` where the server does not go on.
+    /// answered. Returns how many rows it dropped, or `None` within where it was refused. It is `None`
+    /// where the server does not go on.
     fn purge_once<D: Device, N: HubName, R: Wait + Clock, C: Now>(
         &self,
         purger: &mut Purger<'_, D, N, R, C>,
         most: u64,
-    ) -> Option<u32> {
+    ) -> Option<Option<u32>> {
         let mut waiter = UntilEnd {
             server: self,
             has_left: false,
@@ -121,12 +127,12 @@ impl<L: Listener + Drop, V: Verifier, O: Reports> Server<'_, L, V, O> {
                 let outcome = receipt.outcome();
                 self.replies.count_outcome(outcome);
                 self.note_purge();
-                Some(outcome.purged)
+                Some(Some(outcome.purged))
             }
             Err(HubError::NotAwaited) => None,
             Err(error) => {
                 self.note_no_purge(error);
-                Some(0)
+                Some(None)
             }
         }
     }
