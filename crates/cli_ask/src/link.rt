@@ -10,7 +10,7 @@ use std::time::{Clock, Duration, Instant};
 
 /// The way to a server.
 pub trait Link {
-    /// The time that the next reply may take begins.
+    /// The time begins that the next send or reply may take.
     fn begin(&mut self) -> Result<(), AskError>;
 
     /// Sends all of the bytes.
@@ -26,14 +26,14 @@ pub trait Link {
 pub struct TcpLink<'a, K: Clock> {
     clock: &'a K,
     stream: TcpStream,
-    /// The time that a reply may take.
+    /// The time that a send or a reply may take.
     limit: Duration,
-    /// When the time of the next reply began.
+    /// When the time of the next send or reply began.
     since: Instant,
 }
 
 impl<'a, K: Clock> TcpLink<'a, K> {
-    /// A connection whose replies may take this time each.
+    /// A connection whose sends and replies may take this time each.
     pub fn new(
         clock: &'a K,
         stream: TcpStream,
@@ -49,7 +49,7 @@ impl<'a, K: Clock> TcpLink<'a, K> {
         })
     }
 
-    /// The time that is left for the next reply.
+    /// The time that is left for the next send or reply.
     fn left(&self) -> Result<Duration, AskError> {
         let elapsed = self.since.elapsed(self.clock).map_err(AskError::Broken)?;
         let left = self.limit.saturating_sub(elapsed);

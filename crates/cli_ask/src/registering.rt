@@ -108,7 +108,8 @@ impl Run {
     }
 }
 
-/// Sends lines while there is room for them.
+/// Sends lines while there is room for them. Each line has a time of its own, which begins once the
+/// line was read: how long the input takes is no time of the server.
 fn send_ahead<L: Link, I: Read>(
     alloc: Global,
     link: &mut L,
@@ -116,7 +117,6 @@ fn send_ahead<L: Link, I: Read>(
     lines: &mut Lines,
     run: &mut Run,
 ) -> Result<(), AskError> {
-    link.begin()?;
     for _ in 0..MOST_AHEAD {
         if !run.has_room() {
             break;
@@ -124,6 +124,7 @@ fn send_ahead<L: Link, I: Read>(
         let line = run.sent.saturating_add(1);
         match next_frame(alloc, input, lines, line) {
             Ok(Some(frame)) => {
+                link.begin()?;
                 link.send(frame.as_slice())?;
                 run.sent = line;
             }

@@ -11,36 +11,57 @@ use std::process::Abort;
 use std::test::Fail;
 use test_support::digits;
 
-/// A link over which these replies come, a byte at a time, and then the end.
+/// A link over which these replies come, a byte at a time, and then the end. A time that has begun is
+/// for one send, or for reading one reply.
 #[derive(Drop)]
 pub(crate) struct Script {
     replies: Vec<u8>,
     at: usize,
     sent: Vec<u8>,
+    /// A time has begun, and nothing was sent in it.
+    has_time: bool,
 }
 
 impl Script {
     /// A link with the replies of these digits.
     pub(crate) fn new(alloc: Global, replies: &str) -> Result<Script, Fail> {
-        Ok(Script {
-            replies: hex::decode(alloc, replies)?,
+        Ok(Script::of(alloc, hex::decode(alloc, replies)?))
+    }
+
+    /// A link with these replies.
+    fn of(alloc: Global, replies: Vec<u8>) -> Script {
+        Script {
+            replies,
             at: 0,
             sent: Vec::new(alloc),
-        })
+            has_time: false,
+        }
+    }
+
+    /// Refuses what is sent or read without a time of its own.
+    fn check_time(&self) -> Result<(), AskError> {
+        if self.has_time {
+            return Ok(());
+        }
+        Err(AskError::Timeout)
     }
 }
 
 impl Link for Script {
     fn begin(&mut self) -> Result<(), AskError> {
+        self.has_time = true;
         Ok(())
     }
 
     fn send(&mut self, bytes: &[u8]) -> Result<(), AskError> {
+        self.check_time()?;
+        self.has_time = false;
         self.sent.extend_from_slice(bytes)?;
         Ok(())
     }
 
     fn receive(&mut self, into: &mut [u8]) -> Result<usize, AskError> {
+        self.check_time()?;
         if into.is_empty() {
             return Ok(0);
         }
@@ -283,11 +304,7 @@ fn purge_over(
 /// Purges in steps over a script, and sees what was sent and printed.
 fn assert_purging(rt: &(impl Abort + AllocGlobal), purging: &Purging) -> Result<(), Fail> {
     let alloc = rt.alloc();
-    let mut link = Script {
-        replies: replies_to(alloc, purging)?,
-        at: 0,
-        sent: Vec::new(alloc),
-    };
+    let mut link = Script::of(alloc, replies_to(alloc, purging)?);
     let mut output = Vec::new(alloc);
     let fault = purge_over(alloc, &mut link, purging.moment, &mut output);
     let printed = purging.printed.as_bytes();

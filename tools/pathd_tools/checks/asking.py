@@ -4,7 +4,7 @@
 
 200 segments of three types are registered from lines of JSON, listed by pages, compared with `show`
 of the store at rest, and registered again at another server. Refused lines, removals, purges and
-lookups follow. 20,000 segments that expire one after the other are purged in steps, whose moments
+lookups follow, and lines of an input that pauses for longer than a reply may take. 20,000 segments that expire one after the other are purged in steps, whose moments
 and number are those that the page of the protocol says. Then there is no server, a silent one, one that cuts a reply, one that drips it, and
 ones whose replies are changed at random, for 300 turns of a printed seed: the program has to end by
 a status and a line of its own. It needs Python 3 and the loopback, and ends with the status 1 where
@@ -43,6 +43,8 @@ SPREAD, WITHIN, TOGETHER = 20_000, 172_800, 16
 REACH, OF_NOTHING = 262_144, 35
 # How long a command may take, in seconds.
 PATIENCE = 60
+# How long an input pauses before each line, and how long a reply may take meanwhile, in seconds.
+PAUSE, REPLY = 1.5, 1
 
 
 class Wrong(Exception):
@@ -201,6 +203,26 @@ def commands(program: str, folder: Path) -> None:
     for line in ("lookup 1-1", "list up 1-1 1-1 1-1", "register", "purge 1 2", "remove up", "sideways", "list --timeout 0"):
         status, out, err = asker.run(line)
         expect(line, (status, out), (2, ""))
+
+
+def slow_input(program: str, folder: Path) -> None:
+    """The pauses of an input are no time that the server takes."""
+    store = folder / "slow"
+    runs.format_store(program, store, LARGE)
+    with server(program, store) as asker:
+        words = [program, "ask", asker.address, "register", "-", "--timeout", str(REPLY)]
+        with subprocess.Popen(words, stdin=subprocess.PIPE, stdout=subprocess.PIPE, stderr=subprocess.PIPE) as asking:
+            assert asking.stdin is not None
+            try:
+                for number in range(2):
+                    time.sleep(PAUSE)
+                    asking.stdin.write(line_of(2, segment(number)).encode() + b"\n")
+                    asking.stdin.flush()
+            except BrokenPipeError:
+                pass  # the command has ended: what it has said is seen below
+            out, err = asking.communicate(timeout=PATIENCE)
+        acks = [f"place {n}: 1 inserted, 0 updated, 0 kept, 0 purged" for n in range(2)]
+        expect("lines of a slow input", (asking.returncode, err.decode(), out.decode().splitlines()), (0, "", acks))
 
 
 def next_moment(before: int, width: int, dropped: int, last: int) -> tuple[int, int]:
@@ -381,6 +403,7 @@ def main(words: list[str]) -> int:
         with runs.scratch() as folder:
             register_and_list(program, folder)
             commands(program, folder)
+            slow_input(program, folder)
             purges_in_steps(program, folder)
             false_servers(program)
             changed_replies(program)
