@@ -6,7 +6,7 @@ ghost use Rattle.seg_core.specs.declared.seg_type.SegType.{SegType};
 ghost use Rattle.seg_core.specs.SegmentView.{SegmentView};
 ghost use Rattle.row_map.specs.Database.{RowView};
 ghost use Rattle.row_lines.specs.Text.{type_word};
-ghost use Rattle.row_lines.specs.Reading.{text_under, AreDigitsOf, IsRowOf, IsRowLine};
+ghost use Rattle.row_lines.specs.Reading.{text_under, AreDigitsOf, IsRowOf, IsRowLine, IsWhyNoSegment, IsWhyNoRow, IsWhyNoLine};
 ghost use Rattle.row_lines.specs.declared.reading.LineError.TheVariants as error;
 
 use seg_core::{SegError, SegType, Segment, read_segment};
@@ -39,6 +39,7 @@ pub enum LineError {
 pub fn read_line(alloc: Global, line: &[u8]) -> Result<(SegType, Segment), LineError>
     ensures ok { IfOk result (λ row. IsRowLine line.now row) }
     ensures err { IfErr result (λ e. e ≢ error.NoMemory → (row : RowView) → IsRowLine line.now row → ⊥) }
+    ensures why { IfErr result (λ e. IsWhyNoLine e line.now) }
 {
     match Value::from_slice(alloc, line) {
         Ok(value) => row_of(alloc, &value),
@@ -51,6 +52,7 @@ pub fn read_line(alloc: Global, line: &[u8]) -> Result<(SegType, Segment), LineE
 fn row_of(alloc: Global, value: &Value) -> Result<(SegType, Segment), LineError>
     ensures ok { IfOk result (λ row. IsRowOf (view value.now) row) }
     ensures err { IfErr result (λ e. e ≢ error.NoMemory → (row : RowView) → IsRowOf (view value.now) row → ⊥) }
+    ensures why { IfErr result (λ e. IsWhyNoRow e (view value.now)) }
 {
     let Some(word) = text_of(value, "type") else {
         return Err(LineError::Type);
@@ -88,6 +90,7 @@ pub fn type_named(word: &str) -> Option<SegType>
 fn segment_of(alloc: Global, digits: &str) -> Result<Segment, LineError>
     ensures ok { IfOk result (λ segment. AreDigitsOf digits.now segment) }
     ensures err { IfErr result (λ e. e ≢ error.NoMemory → (s : SegmentView) → AreDigitsOf digits.now s → ⊥) }
+    ensures why { IfErr result (λ e. IsWhyNoSegment e digits.now) }
 {
     let bytes = match hex::decode(alloc, digits) {
         Ok(bytes) => bytes,
