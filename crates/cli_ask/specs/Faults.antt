@@ -21,6 +21,7 @@ ask_fault_of error.Faulty = fault.Reply
 ask_fault_of error.Unasked = fault.Reply
 ask_fault_of (error.Input e) = fault.Input
 ask_fault_of (error.Line number e) = fault.Line number
+ask_fault_of (error.LongLine number) = fault.Line number
 ask_fault_of (error.Refused code) = fault.Refused code
 ask_fault_of (error.RefusedLine number code) = fault.Refused code
 

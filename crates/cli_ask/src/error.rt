@@ -4,6 +4,7 @@ ghost use Rattle.std.specs.Prelude.{◌≡◌, Some};
 ghost use Rattle.cli_ask.specs.Faults.{ask_fault_of};
 
 use crate::codes::{NamedCode, digit};
+use crate::registering::MOST_LINE_TEXT;
 use row_lines::LineError;
 use std::alloc::AllocError;
 use std::{fmt, io};
@@ -31,6 +32,8 @@ pub enum AskError {
     Input(io::Error),
     /// The line of this number, from 1 on, has no segment.
     Line(u64, LineError),
+    /// The line of this number, from 1 on, is longer than a line may be.
+    LongLine(u64),
     /// The server has refused the request by this code.
     Refused(u8),
     /// The server has refused the line of this number, from 1 on, by this code.
@@ -50,7 +53,7 @@ impl AskError {
             AskError::Timeout => AskFault::Timeout,
             AskError::Faulty | AskError::Unasked => AskFault::Reply,
             AskError::Input(_) => AskFault::Input,
-            AskError::Line(number, _) => AskFault::Line(*number),
+            AskError::Line(number, _) | AskError::LongLine(number) => AskFault::Line(*number),
             AskError::Refused(code) | AskError::RefusedLine(_, code) => AskFault::Refused(*code),
         }
     }
@@ -69,6 +72,9 @@ impl fmt::Display for AskError {
             AskError::Unasked => write!(f, "the reply is one to another request"),
             AskError::Input(error) => write!(f, "cannot read the segments: {error}"),
             AskError::Line(number, error) => write!(f, "line {number}: {error}"),
+            AskError::LongLine(number) => {
+                write!(f, "line {number}: it is longer than {MOST_LINE_TEXT} bytes")
+            }
             AskError::Refused(code) => {
                 write!(f, "the server refused the request by {}", NamedCode(*code))
             }
@@ -108,7 +114,7 @@ pub enum AskFault {
     Reply,
     /// The lines to register cannot be read.
     Input,
-    /// The line of this number, from 1 on, has no segment.
+    /// The line of this number, from 1 on, has no segment, or is too long.
     Line(u64),
     /// The server has refused a request by this code.
     Refused(u8),

@@ -13,10 +13,14 @@ use byte_lists::drop_front;
 use row_lines::{LineError, RowForm, read_line};
 use session_core::{MOST_AHEAD, Message, Reply};
 use std::alloc::{AllocError, Global};
+use std::io;
 use std::io::{ErrorKind, Read, Write};
 
 /// The most bytes of a line: the digits of the longest segment, and what is around them.
 const MOST_LINE: usize = 65_536;
+
+/// That number, as it is printed.
+pub(crate) const MOST_LINE_TEXT: &str = "65,536";
 
 /// Hears which lines were refused.
 pub trait Refusals {
@@ -27,7 +31,7 @@ pub trait Refusals {
 /// Registers the segments of an input, a line each, as `list` and `show` print them by `--json`.
 /// Up to `MOST_AHEAD` registrations are sent ahead, each of one line, and the line of each
 /// acknowledgement is printed in the order of the lines. After a line that is refused, that has no
-/// segment or that can't be read, no further one is sent; the replies that are under way are read and
+/// segment, that is too long or that can't be read, no further one is sent; the replies that are under way are read and
 /// printed. The error is that of the first such line. A fault of the link, of the output or of memory
 /// ends the run at once, and so does a reply of another kind.
 pub fn register<L: Link, I: Read, W: Write, N: Refusals>(
@@ -174,8 +178,8 @@ impl Lines {
         }
     }
 
-    /// The next line, without its end. Bytes after the last end of a line are a line, too. A line
-    /// above `MOST_LINE` bytes has no segment, however the input is cut.
+    /// The next line, which has this number, without its end. Bytes after the last end of a line are a
+    /// line, too. A line above `MOST_LINE` bytes is refused as `LongLine`, however the input is cut.
     fn next<I: Read>(&mut self, input: &mut I, number: u64) -> Result<Option<Vec<u8>>, AskError>
         ensures most { IfOk result (λ next. IfSome next (λ line. vec_len line ≤ MOST_LINE)) }
     {
@@ -183,7 +187,7 @@ impl Lines {
             let end = self.bytes.iter().position(|byte| *byte == b'\n');
             let len = end.unwrap_or(self.bytes.len());
             if len > MOST_LINE {
-                return Err(AskError::Line(number, LineError::Json));
+                return Err(AskError::LongLine(number));
             }
             if end.is_some() || (self.is_ended && len > 0) {
                 return Ok(Some(self.take_line(len)?));
@@ -193,7 +197,7 @@ impl Lines {
             }
             self.read_on(input)?;
         }
-        Err(AskError::Line(number, LineError::Json))
+        Err(AskError::Input(io::Error::from(ErrorKind::Interrupted)))
     }
 
     /// Takes this number of bytes as a line, and drops its end.

@@ -2,7 +2,7 @@
 use Rattle.std.specs.Prelude.{◌≡◌, ℕ, ◌≤◌, Some, codes, length}
 use Rattle.std.specs.Option.{option_map_or}
 use Rattle.clap.specs.declared.parser.matches.Found.{Found}
-use Rattle.clap.specs.Words.{Text, first_value, matched_of, raw_values}
+use Rattle.clap.specs.Words.{Text, first_value, matched_of, one_text, raw_values}
 use Rattle.cli_words.specs.declared.request.Request.{Request}
 use Rattle.cli_words.specs.declared.request.Request.TheVariants.{Lookup, List, Register, Purge, Remove}
 
@@ -26,8 +26,10 @@ TakesWords Remove count = count ≡ 2
 abbrev pub word_count : Found → ℕ
 word_count found = option_map_or (λ words. length (raw_values words)) (matched_of found (codes "words")) 0
 
--- What was found has a request, and as many words after its name as it takes.
+-- What was found has a request, and as many words after its name as it takes. One that is to be made
+-- at once is a purge.
 pub record HasRequest (found : Found) : Type 0 where
   pub request : Request
   pub name : first_value found (codes "request") ≡ Some (request_name request)
   pub count : TakesWords request (word_count found)
+  pub at_once : one_text found (codes "at-once") ≡ Some (codes "true") → request ≡ Purge

@@ -12,8 +12,8 @@ ghost use Rattle.cli_words.specs.Requests.{request_name, word_count, HasRequest}
 use crate::command_line::{CommandLine, Subcommand, command_line};
 use crate::request::Request;
 use crate::{
-    CHECKPOINT, FUTURE, GRACE, IDLE, JOURNAL, LOOKUP_SEATS, NOW, PEER_SESSIONS, PURGE, REQUEST,
-    ROWS, SESSIONS, SPARE, TIMEOUT, WORDS, command,
+    AT_ONCE, CHECKPOINT, FUTURE, GRACE, IDLE, JOURNAL, LOOKUP_SEATS, NOW, PEER_SESSIONS, PURGE,
+    REQUEST, ROWS, SESSIONS, SPARE, TIMEOUT, WORDS, command,
 };
 use clap::error::ErrorKind;
 use clap::{ArgMatches, Command, Error};
@@ -25,9 +25,13 @@ const NO_COMMAND: &str = "a command of the program is required";
 /// What is printed of words with no request.
 const NO_REQUEST: &str = "a request is required";
 
+/// What is printed of another request than a purge, where that is to be one command.
+const NO_PURGE: &str = "the option '--at-once' is for the request 'purge' alone";
+
 /// What the words of a command line ask for. Words with no command of the program are an error, and
-/// so is another number of words after the name of a request than it takes. A number is decimal
-/// digits alone, with no sign: `clap` by itself takes one.
+/// so is another number of words after the name of a request than it takes, and so is `AT_ONCE` of
+/// another request than a purge. A number is decimal digits alone, with no sign: `clap` by itself takes
+/// one.
 pub fn read<'a>(alloc: Global, words: &'a [String]) -> Result<CommandLine<'a>, Error>
     ensures numbers { IfOk result (λ line. HasPlainNumbers (rows_of (found_of line.options))) }
     ensures request { IfOk result (λ line. line.subcommand ≡ Ask → HasRequest (found_of line.options)) }
@@ -56,7 +60,8 @@ fn read_by<'a>(
     Ok(line)
 }
 
-/// Refuses a request with another number of words after its name than it takes.
+/// Refuses a request with another number of words after its name than it takes, and one with
+/// `AT_ONCE` that is no purge.
 fn check_request(
     alloc: Global,
     command: &mut Command<'_>,
@@ -67,12 +72,15 @@ fn check_request(
     let Some(request) = request_in(options) else {
         return Err(command.error(ErrorKind::MissingRequiredArgument, NO_REQUEST)?);
     };
-    if request.takes(word_count(options)) {
+    if !request.takes(word_count(options)) {
+        let usage = request.usage();
+        let message = format!(in alloc; "the request has to be '{usage}'")?;
+        return Err(command.error(ErrorKind::WrongNumberOfValues, message.as_str())?);
+    }
+    if request == Request::Purge || !options.get_flag(AT_ONCE) {
         return Ok(());
     }
-    let usage = request.usage();
-    let message = format!(in alloc; "the request has to be '{usage}'")?;
-    Err(command.error(ErrorKind::WrongNumberOfValues, message.as_str())?)
+    Err(command.error(ErrorKind::ArgumentConflict, NO_PURGE)?)
 }
 
 /// The request of the options.

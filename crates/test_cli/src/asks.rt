@@ -126,7 +126,7 @@ fn question_of(exchange: &Exchange) -> Result<Question, Fail> {
 }
 
 /// The fault by which a request ended, if it ended by one.
-pub(crate) fn fault_of(came: Result<(), AskError>) -> Option<AskFault> {
+pub(crate) fn fault_of(came: &Result<(), AskError>) -> Option<AskFault> {
     match came {
         Ok(()) => None,
         Err(error) => Some(error.fault()),
@@ -166,7 +166,7 @@ fn assert_asked(
     let question = question_of(exchange)?.at_once();
     let mut output = Vec::new(alloc);
     let came = ask(alloc, link, &question, 9, RowForm::Text, &mut output);
-    assert_comes(rt, exchange, fault_of(came), output.as_slice());
+    assert_comes(rt, exchange, fault_of(&came), output.as_slice());
     Ok(())
 }
 
@@ -298,7 +298,7 @@ fn purge_over(
     output: &mut Vec<u8>,
 ) -> Option<AskFault> {
     let question = Question::Purge(Some(moment));
-    fault_of(ask(alloc, link, &question, 9, RowForm::Text, output))
+    fault_of(&ask(alloc, link, &question, 9, RowForm::Text, output))
 }
 
 /// Purges in steps over a script, and sees what was sent and printed.
@@ -408,7 +408,7 @@ pub(crate) fn joined(alloc: Global, texts: &[&str]) -> Result<String, AllocError
 }
 
 /// The text of the error by which a request ended, which is empty where it ended by none.
-fn error_text(alloc: Global, came: Result<(), AskError>) -> Result<String, AllocError> {
+pub(crate) fn error_text(alloc: Global, came: Result<(), AskError>) -> Result<String, AllocError> {
     match came {
         Ok(()) => Ok(String::new(alloc)),
         Err(error) => format!(in alloc; "{error}"),

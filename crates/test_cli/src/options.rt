@@ -60,7 +60,7 @@ const ALL_OF_ONCE: &str = "once --cores 1-1,2-2 --now 5 --key 00ff --hex";
 const ALL_OF_RUN: &str =
     "run --quiet --grace 4294967295 --stop-on-end-of-input --peer-sessions 18446744073709551615 --idle 4294967295 --future 4294967295 --spare 56 --purge 4294967295 --lookup-seats 56 --lookups [::1]:2 --log-priority --sessions 18446744073709551615 --key 00 --cores 1-1 --status [::1]:1 --listen [::1]:0 d";
 
-const ALL_OF_ASK: &str = "ask --timeout 4294967295 a list up --json --at-once 1-0 0-0";
+const ALL_OF_ASK: &str = "ask --timeout 4294967295 a list up --json 1-0 0-0";
 
 #[rattlefmt::skip]
 const VALUES: &[Value] = &[
@@ -161,7 +161,9 @@ const FLAGS: &[Flag] = &[
     Flag { line: "ask a list", command: ASK, flag: JSON, is_given: false },
     Flag { line: ALL_OF_ASK, command: ASK, flag: JSON, is_given: true },
     Flag { line: "ask a purge 5", command: ASK, flag: AT_ONCE, is_given: false },
-    Flag { line: ALL_OF_ASK, command: ASK, flag: AT_ONCE, is_given: true },
+    Flag { line: ALL_OF_ASK, command: ASK, flag: AT_ONCE, is_given: false },
+    Flag { line: "ask a purge --at-once", command: ASK, flag: AT_ONCE, is_given: true },
+    Flag { line: "ask --at-once a purge 5", command: ASK, flag: AT_ONCE, is_given: true },
     Flag { line: "run d --listen a", command: RUN, flag: QUIET, is_given: false },
     Flag { line: ALL_OF_RUN, command: RUN, flag: QUIET, is_given: true },
     Flag { line: "run d --listen a", command: RUN, flag: LOG_PRIORITY, is_given: false },
@@ -230,6 +232,11 @@ const REFUSED: &[(&str, ErrorKind)] = &[
     ("run d --listen a --spare 57", ErrorKind::ValueValidation),
     ("run d --listen a --spare +8", ErrorKind::ValueValidation),
     ("once --future 1", ErrorKind::UnknownArgument),
+    ("ask a lookup 1-1 1-1 --at-once", ErrorKind::ArgumentConflict),
+    ("ask a list --at-once", ErrorKind::ArgumentConflict),
+    ("ask --at-once a register -", ErrorKind::ArgumentConflict),
+    ("ask a remove --at-once up 00", ErrorKind::ArgumentConflict),
+    ("ask a purge 1 2 --at-once", ErrorKind::WrongNumberOfValues),
 ];
 
 /// These lines.

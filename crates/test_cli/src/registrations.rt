@@ -1,6 +1,6 @@
 //! What `register` sends over a link of the lines of an input, and which error it ends by.
 
-use crate::asks::{Script, assert_sent, fault_of, joined};
+use crate::asks::{Script, assert_sent, error_text, fault_of, joined};
 use crate::checks::assert_same;
 use cli_ask::{AskFault, Refusals, register};
 use row_lines::RowForm;
@@ -26,6 +26,8 @@ impl Refusals for Noted {
 #[derive(Drop)]
 struct Registered {
     fault: Option<AskFault>,
+    /// The text of the error, or nothing.
+    text: String,
     printed: Vec<u8>,
     noted: Noted,
 }
@@ -89,17 +91,22 @@ fn times(alloc: Global, text: &str, count: usize) -> Result<String, AllocError> 
 }
 
 /// Registers the lines of an input over a link.
-fn register_over<I: Read>(alloc: Global, link: &mut Script, input: &mut I) -> Registered {
+fn register_over<I: Read>(
+    alloc: Global,
+    link: &mut Script,
+    input: &mut I,
+) -> Result<Registered, Fail> {
     let mut printed = Vec::new(alloc);
     let mut noted = Noted {
         lines: Vec::new(alloc),
     };
     let came = register(alloc, link, input, RowForm::Json, &mut printed, &mut noted);
-    Registered {
-        fault: fault_of(came),
+    Ok(Registered {
+        fault: fault_of(&came),
+        text: error_text(alloc, came)?,
         printed,
         noted,
-    }
+    })
 }
 
 /// Sees what comes of a registration.
@@ -125,7 +132,7 @@ fn assert_registration(rt: &(impl Abort + AllocGlobal), wanted: &Registration) -
     let sent = times(alloc, digits::REGISTER, wanted.sent)?;
     let mut link = Script::new(alloc, replies.as_str())?;
     let mut input = lines.as_bytes();
-    let came = register_over(alloc, &mut link, &mut input);
+    let came = register_over(alloc, &mut link, &mut input)?;
     assert_came(rt, alloc, &came, wanted)?;
     assert_sent(rt, alloc, &link, sent.as_str())
 }
@@ -147,6 +154,9 @@ struct LongLine {
     before: usize,
     fault: Option<AskFault>,
 }
+
+/// What is said of the first line where it is too long.
+const TOO_LONG: &str = "line 1: it is longer than 65,536 bytes";
 
 /// A line has at most 65,536 bytes.
 #[rattlefmt::skip]
@@ -183,8 +193,10 @@ fn assert_long_line(rt: &(impl Abort + AllocGlobal), long: LongLine) -> Result<(
     let line = padded(alloc, long)?;
     let (front, back) = line.split_at(long.before.min(line.len()));
     let mut link = Script::new(alloc, ACK)?;
-    let came = register_over(alloc, &mut link, &mut front.chain(back));
+    let came = register_over(alloc, &mut link, &mut front.chain(back))?;
+    let wanted = if long.fault.is_some() { TOO_LONG } else { "" };
     assert_same(rt, &came.fault, &long.fault, &long);
+    assert_same(rt, &came.text.as_str(), &wanted, &long);
     Ok(())
 }
 

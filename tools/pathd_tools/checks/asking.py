@@ -183,7 +183,9 @@ def commands(program: str, folder: Path) -> None:
         asker.fails("register -", "line 1", b'{"type":"sideways","segment":"00"}')
         asker.fails("register -", "line 1", b'{"type":"up","segment":"0g"}')
         asker.fails("register -", "line 1", b'{"type":"up","segment":"00"}')
-        asker.fails("register -", "line 1", b"x" * 100_000)
+        said = asker.fails("register -", "line 1", b"x" * 100_000)
+        if "line 1: it is longer than 65,536 bytes" not in said:
+            raise Wrong(f"the long line is not named: {said}")
         asker.fails(f"register {folder / 'nowhere'}", "input")
         asker.fails("lookup 0-0 0-0", "refused 0x41")
         asker.fails("lookup 2-1 2-2", "refused 0x43")
