@@ -9,9 +9,9 @@ is_among [] number = false
 is_among (one ∷ more) number = (number == one) || is_among more number
 
 -- Linux's numbers of the errors of accept(2) after which no more accepts of this listener can
--- succeed: EBADF, EFAULT, EINVAL, ENOTSOCK, EOPNOTSUPP.
+-- succeed: EBADF, EFAULT, EINVAL, ENOTSOCK. EOPNOTSUPP may also be an error of a new connection.
 abbrev pub of_the_listener : List ℕ
-of_the_listener = 9 ∷ 14 ∷ 22 ∷ 88 ∷ 95 ∷ []
+of_the_listener = 9 ∷ 14 ∷ 22 ∷ 88 ∷ []
 
 -- Linux's number of the error EAGAIN, by which an accept ends after the time of its listener.
 abbrev pub timed_out : ℕ

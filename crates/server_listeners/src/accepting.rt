@@ -12,10 +12,8 @@ use std::sync::Wait;
 use std::thread::sleep;
 use std::time::{Clock, Duration};
 
-// Linux's numbers of errors that `libc` does not name here.
+// Linux's number of an error that `libc` does not name here.
 const EFAULT: i32 = 14;
-
-const EOPNOTSUPP: i32 = 95;
 
 /// The pause in milliseconds after the first of several accepts that fail.
 const FIRST_PAUSE: u64 = 50;
@@ -136,12 +134,13 @@ pub fn after_failure(error: &io::Error) -> AcceptFailure
     }
 }
 
-/// The action after the error of this number, as accept(2) of Linux lists them.
+/// The action after the error of this number, as accept(2) of Linux lists them. It counts EOPNOTSUPP
+/// among the errors of a new connection, after which the next one is accepted.
 fn failure_of(number: i32) -> AcceptFailure
     ensures { result ≡ failure_of number }
 {
     match number {
-        EBADF | EFAULT | EINVAL | ENOTSOCK | EOPNOTSUPP => AcceptFailure::Broken,
+        EBADF | EFAULT | EINVAL | ENOTSOCK => AcceptFailure::Broken,
         EAGAIN => AcceptFailure::Nobody,
         _ => AcceptFailure::Pause,
     }

@@ -15,16 +15,22 @@ const FAILURES: &[(i32, AcceptFailure)] = &[
     (14, AcceptFailure::Broken), // EFAULT
     (22, AcceptFailure::Broken), // EINVAL
     (88, AcceptFailure::Broken), // ENOTSOCK
-    (95, AcceptFailure::Broken), // EOPNOTSUPP
     (11, AcceptFailure::Nobody), // EAGAIN
     (12, AcceptFailure::Pause), // ENOMEM
     (23, AcceptFailure::Pause), // ENFILE
     (24, AcceptFailure::Pause), // EMFILE
     (105, AcceptFailure::Pause), // ENOBUFS
     (1, AcceptFailure::Pause), // EPERM
+    (64, AcceptFailure::Pause), // ENONET
     (71, AcceptFailure::Pause), // EPROTO
+    (92, AcceptFailure::Pause), // ENOPROTOOPT
+    (95, AcceptFailure::Pause), // EOPNOTSUPP
+    (100, AcceptFailure::Pause), // ENETDOWN
+    (101, AcceptFailure::Pause), // ENETUNREACH
     (103, AcceptFailure::Pause), // ECONNABORTED
     (110, AcceptFailure::Pause), // ETIMEDOUT
+    (112, AcceptFailure::Pause), // EHOSTDOWN
+    (113, AcceptFailure::Pause), // EHOSTUNREACH
 ];
 
 /// These failures. The prover writes a constant out where it is named, so no loop names it.
