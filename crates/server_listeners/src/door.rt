@@ -1,6 +1,6 @@
 //! The door of a server, by which its peers arrive.
 
-ghost use Rattle.std.specs.Prelude.{◌≡◌, false};
+ghost use Rattle.std.specs.Prelude.{◌≡◌, ◌&&◌, nat_le, nat_lt, false};
 ghost use Rattle.server_listeners.specs.Doors.{wanted_of};
 
 use crate::accepting::{Arrival, next_arrival};
@@ -41,7 +41,7 @@ impl<L: Listener + Drop> Door<L> {
     pub fn is_done(&self) -> bool
         ensures unlimited { wanted_of self.now ≡ 0 → result ≡ false }
     {
-        self.wanted > 0 && self.started() >= self.wanted
+        is_reached(self.wanted, self.started())
     }
 
     /// The number of sessions that were started.
@@ -99,4 +99,11 @@ impl<L: Listener + Drop> Door<L> {
             Role::Lookups
         }
     }
+}
+
+/// Whether as many sessions were started as are wanted, where 0 is no limit.
+fn is_reached(wanted: u64, started: u64) -> bool
+    ensures { result ≡ (nat_lt 0 wanted && nat_le wanted started) }
+{
+    wanted > 0 && started >= wanted
 }
