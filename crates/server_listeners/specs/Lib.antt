@@ -1,3 +1,4 @@
 pub mod Accepting
 pub mod Doors
 pub mod Visiting
+pub mod Waiting

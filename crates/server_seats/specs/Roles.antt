@@ -7,3 +7,8 @@ use Rattle.server_seats.specs.declared.role.Role.TheVariants.{All, Lookups}
 abbrev pub takes_commands : Role → Bool
 takes_commands All = true
 takes_commands Lookups = false
+
+-- The other role.
+abbrev pub other_of : Role → Role
+other_of All = Lookups
+other_of Lookups = All

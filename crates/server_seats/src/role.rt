@@ -1,7 +1,7 @@
 //! What the sessions of a listener may ask for.
 
 ghost use Rattle.std.specs.Prelude.{◌≡◌};
-ghost use Rattle.server_seats.specs.Roles.{takes_commands};
+ghost use Rattle.server_seats.specs.Roles.{takes_commands, other_of};
 
 /// What the sessions of a listener may ask for.
 #[derive(Clone, Copy, Debug, PartialEq, Eq)]
@@ -20,6 +20,16 @@ impl Role {
         match self {
             Role::All => true,
             Role::Lookups => false,
+        }
+    }
+
+    /// The other role.
+    pub fn other(self) -> Role
+        ensures { result ≡ other_of self }
+    {
+        match self {
+            Role::All => Role::Lookups,
+            Role::Lookups => Role::All,
         }
     }
 }

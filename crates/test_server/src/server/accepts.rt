@@ -2,9 +2,10 @@
 
 use crate::server::checks::assert_same;
 use crate::server::stores::{LEAST, assert_opens_to, formatted};
-use crate::server::worlds::{Counts, options, serve};
+use crate::server::worlds::{Counts, World, options, serve};
 use path_server::RunError;
 use server_listeners::{AcceptFailure, Listener, Listeners, after_failure};
+use std::alloc::Global;
 use std::io;
 use std::net::{OpenListener, SocketAddr, TcpStream};
 use std::sync::atomic::{AtomicUsize, Ordering};
@@ -46,11 +47,22 @@ fn failures_by_their_number(rt: HostRuntime) {
     }
 }
 
-/// Fails by these errors, one after the other, and is broken then.
+/// Fails by these errors, one after the other, and by the last one from then on.
 #[derive(Drop)]
 struct Script {
     errors: [i32; 4],
+    last: i32,
     next: AtomicUsize,
+}
+
+impl Script {
+    fn new(errors: [i32; 4], last: i32) -> Script {
+        Script {
+            errors,
+            last,
+            next: AtomicUsize::new(0),
+        }
+    }
 }
 
 impl OpenListener for Script {
@@ -58,25 +70,36 @@ impl OpenListener for Script {
 
     fn accept(&self) -> io::Result<(TcpStream, SocketAddr)> {
         let next = self.next.fetch_add(1, Ordering::SeqCst);
-        let error = self.errors.get(next).copied().unwrap_or(9);
+        let error = self.errors.get(next).copied().unwrap_or(self.last);
         Err(io::Error::from_raw_os_error(error))
     }
 }
 
 impl Listener for Script {}
 
-#[test]
-fn a_broken_listener_ends_the_server(rt: HostRuntime) {
-    let alloc = rt.alloc();
+/// Serves by these listeners until the server ends, as one of them is broken.
+fn assert_ends<W: World>(rt: W, alloc: Global, listeners: Listeners<Script>) {
     let device = formatted(&rt, alloc, LEAST);
-    let listeners = Listeners::of_sessions(Script {
-        errors: [103, 24, 1, 12],
-        next: AtomicUsize::new(0),
-    });
     let counts = Counts::new();
     let options = options(&rt, alloc, 0);
-    let (device, served) = serve(&rt, alloc, listeners, device, &options, &counts);
+    let (device, served) = serve(rt, alloc, listeners, device, &options, &counts);
     assert_same(&rt, &served, &Err(RunError::Net), &"served");
     assert_same(&rt, &counts.stopped(), &0, &"stopped");
     let _device = assert_opens_to(&rt, alloc, device, 0, 0);
+}
+
+#[test]
+fn a_broken_listener_ends_the_server(rt: HostRuntime) {
+    let alloc = rt.alloc();
+    let listeners = Listeners::of_sessions(Script::new([103, 24, 1, 12], 9));
+    assert_ends(&rt, alloc, listeners);
+}
+
+// The listener of lookups is asked first, and its accepts never have a peer.
+#[test]
+fn the_other_listener_is_asked_after_one_without_peers(rt: HostRuntime) {
+    let alloc = rt.alloc();
+    let mut listeners = Listeners::of_sessions(Script::new([11, 11, 11, 11], 9));
+    listeners.lookups = Some(Script::new([11, 11, 11, 11], 11));
+    assert_ends(&rt, alloc, listeners);
 }
