@@ -1,7 +1,7 @@
 //! The seats of a server: one for each session at one time.
 
-ghost use Rattle.std.specs.Prelude.{◌≡◌, ◌+◌, ◌≤◌, ◌<◌, IfErr, min, true, false};
-ghost use Rattle.server_seats.specs.Seating.{count_of, limit_of, refusal_of};
+ghost use Rattle.std.specs.Prelude.{◌≡◌, ◌+◌, ◌≤◌, ◌<◌, ◌-◌, ◌^◌, IfErr, OnOk, min, true, false};
+ghost use Rattle.server_seats.specs.Seating.{count_of, limit_of, refusal_of, has_host, held_by};
 ghost use Rattle.server_seats.specs.declared.seats.NoSeat.TheVariants.{AddressFull, NoMemory};
 
 use std::alloc::{AllocError, Global};
@@ -90,6 +90,7 @@ impl Seats {
 
     /// Gives a peer a seat, and returns the number of the seat.
     pub fn take<R: Wait>(&self, rt: &R, peer: &Peer) -> Result<usize, NoSeat>
+        ensures some { OnOk result (0 < count_of self.now) }
         ensures limited { IfErr result (λ why. why ≡ AddressFull → 0 < limit_of self.now) }
     {
         let mut seats = self.seats.lock(rt);
@@ -152,16 +153,26 @@ impl Peer {
 }
 
 /// The number of seats that the peers of this address's host have.
-fn held_by(seats: &[Option<Peer>], address: &SocketAddr) -> u64 {
+fn held_by(seats: &[Option<Peer>], address: &SocketAddr) -> u64
+    ensures { result ≡ min (held_by seats.now address.now) (2 ^ 64 - 1) }
+{
     let mut held = 0u64;
     for seat in seats {
-        if let Some(peer) = seat {
-            if peer.address.ip() == address.ip() {
-                held = held.saturating_add(1);
-            }
+        if has_host(seat, address) {
+            held = held.saturating_add(1);
         }
     }
     held
+}
+
+/// Whether a seat has a peer of this address's host. The ports may differ.
+fn has_host(seat: &Option<Peer>, address: &SocketAddr) -> bool
+    ensures { result ≡ has_host address.now seat.now }
+{
+    match seat {
+        Some(peer) => peer.address.ip() == address.ip(),
+        None => false,
+    }
 }
 
 /// Why a further peer gets no seat, if it gets none: `taken` of the seats are taken, `held` of them
