@@ -5,7 +5,7 @@ use Rattle.status_page.specs.declared.request.Asked.{Asked}
 use Rattle.status_page.specs.Request.{IsAsked}
 use Rattle.status_server.specs.declared.visit.Visit.{Visit}
 use Rattle.status_server.specs.declared.visit.Stage.TheVariants.{Reading, Sending}
-use Rattle.status_server.specs.VisitSteps.{IsReadOn, IsSentOn}
+use Rattle.status_server.specs.VisitSteps.{IsReadOn, IsSentOn, IsWhole}
 
 -- Nothing was read yet. The visit has 250 milliseconds until the first byte, and a second in all.
 pub record IsNew (visit : Visit) : Type 0 where
@@ -32,10 +32,12 @@ pub record IsBegun (most : ℕ) (old new : List Visit) : Type 0 where
 abbrev pub Gives : {T E : Type 0} → (T → List ℕ) → (Asked → Result T E → Type 0) → Asked → List ℕ → Type 0
 Gives {T = T} bytes_of post asked bytes = (text : T) × post asked (Ok text) × (bytes_of text ≡ bytes)
 
--- An answer was taken to what the bytes of the peer ask for.
+-- An answer was taken to what the bytes of the peer ask for. It is the refusal of bytes without a
+-- whole head only where the peer's input has ended, or where as many were read as are of a head.
 pub record IsAnswered (Answers : Asked → List ℕ → Type 0) (old new : Visit) : Type 0 where
   pub asked : Asked
   pub asks : IsAsked new.head.items asked
+  pub whole : IsWhole old.head.items new.head.items asked
   pub answers : Answers asked new.rest.items
   pub before : old.stage ≡ Reading
   pub after : new.stage ≡ Sending

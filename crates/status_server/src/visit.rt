@@ -3,7 +3,7 @@
 ghost use Rattle.std.specs.Prelude.{◌≡◌, ◌≢◌, ◌<◌, ◌++◌, length, Ok, IfSome, IfOk, OnOk, OnErr, string_bytes};
 ghost use Rattle.status_page.specs.Request.{IsAsked};
 ghost use Rattle.status_server.specs.Requests.{IsPieceTaken};
-ghost use Rattle.status_server.specs.VisitSteps.{IfAsks, IsReadOn, IsSentOn};
+ghost use Rattle.status_server.specs.VisitSteps.{IfAsks, IsReadOn, IsSentOn, IsWhole};
 ghost use Rattle.status_server.specs.declared.visit.Stage.TheVariants.{Reading, Sending};
 
 use crate::connection::PIECE;
@@ -87,6 +87,7 @@ impl Visit {
     /// Makes one step of the visit: one read, or one write.
     pub(crate) fn go_on(&mut self, clock: &impl Clock) -> VisitStep
         ensures asks { IfAsks result (IsAsked self.new.head.items) }
+        ensures whole { IfAsks result (IsWhole self.old.head.items self.new.head.items) }
         ensures once { IfAsks result (λ _. (self.old.stage ≡ Reading) × (self.new.stage ≡ Sending)) }
         ensures stage { self.new.stage ≡ Reading → self.old.stage ≡ Reading }
         ensures head { IsReadOn 1024 self.old.head.items self.new.head.items }
@@ -140,6 +141,7 @@ impl Visit {
     fn read(&mut self) -> VisitStep
         requires { self.old.stage ≡ Reading }
         ensures asks { IfAsks result (λ asked. IsAsked self.new.head.items asked × (self.new.stage ≡ Sending)) }
+        ensures whole { IfAsks result (IsWhole self.old.head.items self.new.head.items) }
         ensures head { IsReadOn 1024 self.old.head.items self.new.head.items }
         ensures rest { self.new.rest ≡ self.old.rest }
         ensures times { (self.new.silence ≡ self.old.silence) × (self.new.deadline ≡ self.old.deadline) }

@@ -8,6 +8,7 @@ returns-in-Ok g c = record {
   rest = inr (record {
     asked = c.in-Asks.asked;
     asks = search rules;
+    whole = search rules;
     answers = (c.in-Ok.text, c.in-Ok.ensures, sym c.answer_by.ensures.rest);
     before = search rules;
     after = search rules;
