@@ -24,6 +24,20 @@ const BOUNDS: [u64; LOOKUP_BUCKETS] = [
     1_000_000_000,
 ];
 
+const _: () = prove!(
+    BOUNDS[0] < BOUNDS[1]
+        && BOUNDS[1] < BOUNDS[2]
+        && BOUNDS[2] < BOUNDS[3]
+        && BOUNDS[3] < BOUNDS[4]
+        && BOUNDS[4] < BOUNDS[5]
+        && BOUNDS[5] < BOUNDS[6]
+        && BOUNDS[6] < BOUNDS[7]
+        && BOUNDS[7] < BOUNDS[8]
+        && BOUNDS[8] < BOUNDS[9]
+        && BOUNDS[9] < BOUNDS[10]
+        && BOUNDS[10] < BOUNDS[11]
+);
+
 /// The number of counts: one for each bucket, and one for the lookups that took longer than all.
 const PLACES: usize = 13;
 
