@@ -1,10 +1,10 @@
 //! The visit of a peer that asks for the numbers of a server. No call waits for the peer.
 
-ghost use Rattle.std.specs.Prelude.{◌≡◌, ◌≢◌, ◌<◌, ◌++◌, length, Ok, IfSome, IfOk, OnOk, OnErr, string_bytes};
+ghost use Rattle.std.specs.Prelude.{◌≡◌, ◌≢◌, ◌<◌, ◌++◌, [], length, Ok, IfSome, IfOk, OnOk, OnErr, string_bytes};
 ghost use Rattle.status_page.specs.Request.{IsAsked};
 ghost use Rattle.status_server.specs.Requests.{IsPieceTaken};
 ghost use Rattle.status_server.specs.VisitSteps.{IfAsks, IsReadOn, IsSentOn, IsWhole};
-ghost use Rattle.status_server.specs.declared.visit.Stage.TheVariants.{Reading, Sending};
+ghost use Rattle.status_server.specs.declared.visit.Stage.TheVariants.{Reading, Sending, Parting};
 
 use crate::connection::PIECE;
 use libc::net::{POLLIN, POLLOUT};
@@ -63,6 +63,7 @@ pub(crate) struct Visit {
     silence: Deadline,
     deadline: Deadline,
     ghost reading: { stage ≡ Reading → length head.items < 4096 },
+    ghost sent: { stage ≡ Parting → rest.items ≡ [] },
     ghost small: { length head.items < 5120 },
 }
 
@@ -107,6 +108,7 @@ impl Visit {
 
     /// Sends this text from the next step on.
     pub(crate) fn answer_by(&mut self, text: String)
+        requires { self.old.stage ≡ Sending }
         ensures rest { self.new.rest.items ≡ string_bytes text }
         ensures same { (self.new.head ≡ self.old.head) × (self.new.stage ≡ self.old.stage) }
         ensures times { (self.new.silence ≡ self.old.silence) × (self.new.deadline ≡ self.old.deadline) }
