@@ -1,9 +1,9 @@
 #!/usr/bin/env bash
 # Runs the commands of the built program over a file on which another process holds the system's
 # lock. `format`, `show`, `upgrade` and `run` are refused beside any lock, `show --layout` and
-# `status` beside an exclusive one, and a command that is refused leaves the file as it is. Then two
-# `show` at once: while the first one waits in its sync, the second is refused, and the first goes
-# on. It needs Python and Debian's strace, and is no part of the gate.
+# `status` beside an exclusive one, and a command that is refused leaves the file as it is and names
+# the process. Then two `show` at once: while the first one waits in its sync, the second is refused,
+# and the first goes on. It needs Python and Debian's strace, and is no part of the gate.
 #
 #     tools/pathd-tools locks [PROGRAM]
 #
@@ -35,6 +35,14 @@ refused() {
   ends 1 "error: device 1" "$@"
 }
 
+named() { # that the line of the last run names the process that has the lock
+  runs=$((runs + 1))
+  if ! grep -q " (process $LOCK_PID, " "$work/err"; then
+    echo "$holder: process $LOCK_PID is not named, $(cat "$work/err")"
+    differences=$((differences + 1))
+  fi
+}
+
 hold() { # has another process lock the file, by LOCK_EX or LOCK_SH
   holder=$1
   coproc LOCK { exec /usr/bin/python3 -c '
@@ -61,6 +69,7 @@ cp "$work/out" "$work/shown"
 for lock in LOCK_EX LOCK_SH; do
   hold "$lock"
   refused format "$store" --checkpoint 2 --journal 516
+  named
   refused show "$store"
   refused upgrade "$store"
   refused run "$store" --listen 127.0.0.1:0

@@ -10,6 +10,7 @@ mod faults;
 mod files;
 mod fuses;
 mod gates;
+mod holders;
 mod openings;
 mod sectors;
 mod system_files;
