@@ -1,9 +1,10 @@
 #!/usr/bin/env bash
 # Runs the commands of the built program over a block device: a loop device of as many sectors as a
 # store of C = 2 and J = 516 takes. It holds what a file would; a store that is too large for it is
-# refused and leaves it as it is. Then over one that loses what is written to it, as its own file
-# lies in a folder without room: `format` is refused, and `show` finds no store, though the kernel
-# still gives the lost pages to reads. It needs to be run as root, and is no part of the gate.
+# refused and leaves it as it is. A device that is read-only is refused before it is looked at. Then
+# over one that loses what is written to it, as its own file lies in a folder without room: `format`
+# is refused, and `show` finds no store, though the kernel still gives the lost pages to reads. It
+# needs to be run as root, and is no part of the gate.
 #
 #     tools/pathd-tools block-device [PROGRAM]
 #
@@ -59,6 +60,17 @@ ends 1 "error: device 1" show "$device"
 ends 1 "error: device 1" format "$device" --checkpoint 2 --journal 516
 holds "$work/store"
 exec 9<&-
+losetup -d "$device"
+
+device=$(losetup -r -f --show "$work/disk") || exit 2
+ends 1 "error: device 1" format "$device" --checkpoint 2 --journal 516 --force
+holds "$work/store"
+losetup -d "$device"
+truncate -s 0 "$work/disk"
+truncate -s $((1039 * 512)) "$work/disk"
+device=$(losetup -r -f --show "$work/disk") || exit 2
+ends 1 "error: device 1" copy "$work/store" "$device"
+holds "$work/disk"
 losetup -d "$device"
 
 # A folder of 64 KiB with a file of 1,040 sectors, of which none has room once the folder is full. As long as the device is open

@@ -7,6 +7,7 @@ ghost use Rattle.device_files.specs.Descriptor.{IsAboveStandard};
 use crate::cache::forget_cached;
 use crate::descriptor::above_standard;
 use crate::kind::{DeviceKind, check_path, device_kind};
+use crate::writable::check_writable;
 use crate::zeros::{Room, set_zeros};
 use sector_dev::SystemFile;
 use std::alloc::Global;
@@ -24,7 +25,7 @@ pub struct LockedFile {
 impl LockedFile {
     /// Opens and locks the file of a path. Where there is none, an empty one is made; one that
     /// exists is unchanged. Where another process has it open by a function of this library, the
-    /// error is `WouldBlock`.
+    /// error is `WouldBlock`. A block device that takes no writes is refused, as by `open`.
     pub fn open<R: AllocGlobal + Files<File = File>>(rt: &R, path: &str) -> io::Result<LockedFile> {
         check_path(rt, path)?;
         let file = OpenOptions::new()
@@ -35,6 +36,9 @@ impl LockedFile {
         let file = above_standard(file)?;
         file.try_lock()?;
         let kind = device_kind(&file)?;
+        if let DeviceKind::Block = kind {
+            check_writable(&file)?;
+        }
         Ok(LockedFile { file, kind })
     }
 
