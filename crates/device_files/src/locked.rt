@@ -15,11 +15,13 @@ use std::fs::{File, OpenOptions};
 use std::rt::Files;
 use std::{fs, io};
 
-/// A file or a block device that this process alone may read and write, as it was found.
+/// A file or a block device that this process alone may read and write, as it was found. Its
+/// descriptor is above standard error's.
 #[derive(Drop)]
 pub struct LockedFile {
     file: File,
     kind: DeviceKind,
+    ghost above: { IsAboveStandard file },
 }
 
 impl LockedFile {
@@ -68,7 +70,6 @@ impl LockedFile {
         ensures above { IfOk result (λ file. IsAboveStandard (calls_of file)) }
     {
         let LockedFile { file, kind } = self;
-        let file = above_standard(file)?;
         match kind {
             DeviceKind::File => {
                 set_zeros(&file, len, room)?;
