@@ -37,6 +37,13 @@ ends() { # the wanted status, the wanted lines of standard output and error but 
   fi
 }
 
+says() { # the pattern of what the first line of the last run says after `pathd: `
+  if ! grep -q "^pathd: $1$" "$work/out"; then
+    echo "not $1: $(cat "$work/out")"
+    differences=$((differences + 1))
+  fi
+}
+
 holds() { # the bytes of a file
   cmp "$1" "$device" || differences=$((differences + 1))
 }
@@ -82,6 +89,7 @@ dd if=/dev/zero of="$work/small/full" bs=4096 status=none 2>/dev/null || true
 device=$(losetup -f --show "$work/small/disk") || exit 2
 exec 9<"$device"
 ends 1 "error: format 3" format "$device" --checkpoint 2 --journal 516
+says "cannot format $device: the device failed: a [a-z]* of the file failed: .* (os error [0-9]*)"
 [ "$(head -c 8 "$device")" = SCPATHDB ] || echo "this kernel holds no lost page, so the last run shows nothing"
 ends 1 "error: open 1" show "$device"
 exec 9<&-

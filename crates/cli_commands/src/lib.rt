@@ -8,6 +8,7 @@
 #![tactic(auto)]
 
 mod asking;
+mod opened;
 mod options;
 mod progress;
 mod reasons;

@@ -1,6 +1,6 @@
 //! What more can be said of why a file is not opened.
 
-use crate::stores::device_over;
+use crate::opened::device_over;
 use cli_lines::Failure;
 use cli_store::Fault;
 use device_files::{holder_of, open_to_read};
@@ -38,7 +38,7 @@ fn holder<R: AllocGlobal + Files<File = File>>(rt: &R, path: &str) -> Option<Str
 
 /// The bytes of a file whose first sector is that of a store with more.
 fn cut_sizes<R: AllocGlobal + Files<File = File>>(rt: &R, path: &str) -> Option<String> {
-    let mut device = device_over(path, open_to_read(rt, path)).ok()?;
+    let (mut device, _site) = device_over(path, open_to_read(rt, path)).ok()?;
     let sizes = titled_sizes(&mut device).ok()??;
     let (wanted, sectors) = (sizes.sectors(), device.sectors());
     if wanted <= sectors {

@@ -1,5 +1,6 @@
 //! The commands over the file of a device.
 
+use crate::opened::{Site, device_over};
 use crate::progress::{MEBIBYTE, Progress};
 use clap::ArgMatches;
 use cli_lines::Failure;
@@ -13,7 +14,6 @@ use row_lines::RowForm;
 use sector_dev::{FileDevice, SECTOR, SystemFile};
 use std::alloc::Global;
 use std::fs::File;
-use std::io;
 use std::io::{BufWriter, Read, Write};
 use std::rt::Files;
 use std::time::Clock;
@@ -57,8 +57,8 @@ fn ask_for<'a, I: Read, O: Write>(
     input: &mut I,
     output: &mut O,
 ) -> Result<(), Failure<'a>> {
-    let mut device = device_over(path, file.as_found(alloc))?;
-    said_of(path, ask(alloc, path, &mut device, wishes, input, output))
+    let (mut device, site) = device_over(path, file.as_found(alloc))?;
+    site.said_of(ask(alloc, path, &mut device, wishes, input, output))
 }
 
 /// Makes a store of the sizes that the options say on a file, and whatever was there is lost. The
@@ -86,8 +86,8 @@ fn make_store<'a, R: AllocGlobal + Files<File = File> + Eprint, O: Write>(
     if room == Room::Now && len >= LONG {
         let _ = eprintln!(rt; "pathd: {path}: writes {} MiB of zeros", len / MEBIBYTE);
     }
-    let mut device = device_over(path, file.into_zeros(rt, path, len, room))?;
-    said_of(path, format(rt.alloc(), &mut device, geometry, output))
+    let (mut device, site) = device_over(path, file.into_zeros(rt, path, len, room))?;
+    site.said_of(format(rt.alloc(), &mut device, geometry, output))
 }
 
 /// The sizes that the options say, and those that they leave out from other sizes.
@@ -114,19 +114,19 @@ pub fn copy_file<'a, R: AllocGlobal + Files<File = File> + Clock + Eprint, O: Wr
     output: &mut O,
 ) -> Result<(), Failure<'a>> {
     let path = path_of(options);
-    let mut from = device_over(path, open_to_read(rt, path))?;
+    let (mut from, old) = device_over(path, open_to_read(rt, path))?;
     let geometry = match read_geometry(&mut from) {
         Ok(Some(geometry)) => sizes_of(options, geometry),
-        Ok(None) => return said_of(path, Err(Fault::Open(OpenError::NotAStore))),
-        Err(_) => return said_of(path, Err(Fault::Open(OpenError::Device))),
+        Ok(None) => return Err(old.failure(Fault::Open(OpenError::NotAStore))),
+        Err(_) => return Err(old.failure(Fault::Open(OpenError::Device))),
     };
     let target = options.get_str(TARGET).unwrap_or("");
-    let to = empty_device(rt, target, geometry)?;
+    let (to, new) = empty_device(rt, target, geometry)?;
     let mut from = Progress::over(rt, from, path, "read");
     let mut to = Progress::over(rt, to, target, "wrote");
     match copy(rt.alloc(), &mut from, &mut to, geometry, output) {
-        Err(Fault::Open(error)) => said_of(path, Err(Fault::Open(error))),
-        copied => said_of(target, copied),
+        Err(Fault::Open(error)) => Err(old.failure(Fault::Open(error))),
+        copied => new.said_of(copied),
     }
 }
 
@@ -136,13 +136,13 @@ fn empty_device<'a, R: AllocGlobal + Files<File = File>>(
     rt: &R,
     path: &'a str,
     geometry: Geometry,
-) -> Result<FileDevice<SystemFile>, Failure<'a>> {
+) -> Result<(FileDevice<SystemFile>, Site<'a>), Failure<'a>> {
     let file = LockedFile::open(rt, path).map_err(|error| Failure::File(path, error))?;
-    let mut device = device_over(path, file.as_found(rt.alloc()))?;
+    let (mut device, site) = device_over(path, file.as_found(rt.alloc()))?;
     match has_title(&mut device) {
         Ok(false) => {}
-        Ok(true) => return Err(Failure::Store(path, Fault::Taken)),
-        Err(_) => return Err(Failure::Store(path, Fault::Open(OpenError::Device))),
+        Ok(true) => return Err(site.failure(Fault::Taken)),
+        Err(_) => return Err(site.failure(Fault::Open(OpenError::Device))),
     }
     let len = geometry.sectors().saturating_mul(SECTOR as u64);
     device_over(path, file.into_zeros(rt, path, len, Room::Later))
@@ -163,7 +163,7 @@ pub fn show_file<'a, R: AllocGlobal + Files<File = File>, O: Write>(
     } else {
         open(rt, path)
     };
-    let device = device_over(path, opened)?;
+    let (device, site) = device_over(path, opened)?;
     let Ok(mut output) = BufWriter::new(rt.alloc(), output) else {
         return Err(Failure::Memory);
     };
@@ -173,7 +173,7 @@ pub fn show_file<'a, R: AllocGlobal + Files<File = File>, O: Write>(
         show_rows(rt.alloc(), device, form_in(options), &mut output)
     };
     let flushed = output.flush();
-    said_of(path, shown)?;
+    site.said_of(shown)?;
     flushed.map_err(|_| Failure::Output)
 }
 
@@ -216,8 +216,8 @@ pub fn status_of_file<'a, R: AllocGlobal + Files<File = File>, O: Write>(
     output: &mut O,
 ) -> Result<(), Failure<'a>> {
     let path = path_of(options);
-    let mut device = device_over(path, open_to_read(rt, path))?;
-    said_of(path, status(rt.alloc(), &mut device, output))
+    let (mut device, site) = device_over(path, open_to_read(rt, path))?;
+    site.said_of(status(rt.alloc(), &mut device, output))
 }
 
 /// Brings a file's store to the version that is written. No clause says what the file has then:
@@ -228,32 +228,14 @@ pub fn upgrade_file<'a, R: AllocGlobal + Files<File = File>, O: Write>(
     output: &mut O,
 ) -> Result<(), Failure<'a>> {
     let path = path_of(options);
-    let device = device_over(path, open(rt, path))?;
+    let (device, site) = device_over(path, open(rt, path))?;
     match upgrade(rt.alloc(), device, output) {
         Ok(_device) => Ok(()),
-        Err((_device, fault)) => said_of(path, Err(fault)),
+        Err((_device, fault)) => Err(site.failure(fault)),
     }
 }
 
 /// The path of the device's file.
 fn path_of<'a>(options: &ArgMatches<'a>) -> &'a str {
     options.get_str(DEVICE).unwrap_or("")
-}
-
-/// A device over a file that was opened.
-pub(crate) fn device_over<'a>(
-    path: &'a str,
-    opened: io::Result<SystemFile>,
-) -> Result<FileDevice<SystemFile>, Failure<'a>> {
-    let file = opened.map_err(|error| Failure::File(path, error))?;
-    FileDevice::new(file).map_err(|error| Failure::File(path, error))
-}
-
-/// What came of a command over the store of a file, with the file's path where it failed.
-fn said_of(path: &str, outcome: Result<(), Fault>) -> Result<(), Failure<'_>> {
-    match outcome {
-        Ok(()) => Ok(()),
-        Err(Fault::Output) => Err(Failure::Output),
-        Err(fault) => Err(Failure::Store(path, fault)),
-    }
 }

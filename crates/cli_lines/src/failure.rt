@@ -10,6 +10,7 @@ use cli_once::SessionFault;
 use cli_store::Fault as StoreFault;
 use cli_words::{CORES, KEY};
 use isd_as::IaError;
+use sector_dev::FileFault;
 use std::fmt::{Display, Formatter};
 use std::io::ErrorKind;
 use std::{fmt, io};
@@ -31,6 +32,8 @@ pub enum Failure<'a> {
     File(&'a str, io::Error),
     /// A device's store is not made, opened or changed.
     Store(&'a str, StoreFault),
+    /// A device's store is not made, opened or changed, as this failed in the device's file.
+    Device(&'a str, StoreFault, FileFault),
     /// The program does not listen at an address.
     Listen(&'a str, io::Error),
     /// A word of a request is not what it has to be.
@@ -65,7 +68,7 @@ impl Failure<'_> {
             Failure::Asked(_, error) => Ended::Ask(error.fault()),
             Failure::Listen(_, error) => or_for_memory(error, Ended::Net),
             Failure::File(_, error) => or_for_memory(error, Ended::Store(StoreFault::File)),
-            Failure::Store(_, fault) => Ended::Store(*fault),
+            Failure::Store(_, fault) | Failure::Device(_, fault, _) => Ended::Store(*fault),
             Failure::Session(fault) => Ended::Session(*fault),
             Failure::Memory | Failure::ServerMemory => Ended::Session(SessionFault::Memory),
             Failure::Output => Ended::Session(SessionFault::Output),
@@ -124,7 +127,7 @@ impl Failure<'_> {
             Failure::Core(_, _) | Failure::AnyCore(_) | Failure::Key | Failure::Address(_, _) =>
                 true,
             Failure::File(_, error) | Failure::Listen(_, error) => is_lasting_kind(error.kind()),
-            Failure::Store(_, fault) => is_lasting_fault(*fault),
+            Failure::Store(_, fault) | Failure::Device(_, fault, _) => is_lasting_fault(*fault),
             Failure::Word(_, _)
             | Failure::Peer(_)
             | Failure::Asked(_, _)
@@ -157,6 +160,10 @@ impl Display for Failure<'_> {
             Failure::Asked(text, error) => write!(f, "{text}: {error}"),
             Failure::File(path, error) => write_no_file(f, path, error),
             Failure::Store(path, fault) => write_store_failure(f, path, *fault),
+            Failure::Device(path, fault, cause) => {
+                write_store_failure(f, path, *fault)?;
+                write!(f, ": {}", *cause)
+            }
             Failure::Listen(text, error) => write!(f, "cannot listen at {text}: {error}"),
             Failure::ServerMemory => write!(f, "the server ended: out of memory"),
             Failure::BrokenListener => write!(f, "the server ended: the listener is broken"),

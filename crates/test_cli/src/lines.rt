@@ -3,12 +3,14 @@
 //! has to fail for them.
 
 use cli_ask::AskFault;
-use cli_lines::{Ended, Failed, status_of};
+use cli_lines::{Ended, Failed, Failure, status_of};
 use cli_once::SessionFault;
 use cli_store::Fault as StoreFault;
+use sector_dev::{FaultKind, FileFault};
 use session_core::FrameError;
 use std::alloc::Global;
 use std::process::Abort;
+use store_copy::CopyError;
 use store_open::{FormatError, OpenError, StoreError};
 
 /// Sees the line and the status of a way to end.
@@ -45,6 +47,45 @@ fn lines_of_ends(rt: HostRuntime) {
     assert_line(&rt, rt.alloc(), Ended::Net, "error: net");
     let refused = Ended::Ask(AskFault::Refused(0x5a));
     assert_line(&rt, rt.alloc(), refused, "error: refused 0x5a");
+}
+
+/// What a full disk, a disk that is broken and a file that was cut do.
+const FAULTS: [(StoreFault, FaultKind, Option<i32>, &str); 4] = [
+    (
+        StoreFault::Format(FormatError::Fault),
+        FaultKind::Write,
+        Some(28),
+        "cannot format a: the device failed: a write of the file failed: No space left on device (os error 28)",
+    ),
+    (
+        StoreFault::Copy(CopyError::Fault),
+        FaultKind::Sync,
+        Some(5),
+        "cannot make a copy at a: the device failed: a sync of the file failed: Input/output error (os error 5)",
+    ),
+    (
+        StoreFault::Open(OpenError::Device),
+        FaultKind::Read,
+        None,
+        "cannot open a: the device failed: a read of the file failed",
+    ),
+    (
+        StoreFault::Checkpoint(StoreError::Fault),
+        FaultKind::Cut,
+        None,
+        "cannot upgrade a: the device failed: the file was cut",
+    ),
+];
+
+#[test]
+fn lines_of_files_that_fail(rt: HostRuntime) {
+    for (fault, kind, errno, wanted) in FAULTS {
+        let failure = Failure::Device("a", fault, FileFault { kind, errno });
+        let line = failure.to_string(rt.alloc()).expect(&rt, "no memory");
+        assert_eq!(&rt; line.as_str(), wanted);
+        assert_eq!(&rt; failure.ended(), Ended::from(fault), "{wanted}");
+        assert_eq!(&rt; failure.is_lasting(), false, "{wanted}");
+    }
 }
 
 // A server that is started again fails in the same way.
