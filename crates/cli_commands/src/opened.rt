@@ -44,12 +44,19 @@ impl<'a> Site<'a> {
     pub(crate) fn failure(&self, fault: Fault) -> Failure<'a>
         ensures { ended_by result ≡ ended_by_fault fault }
     {
-        if let Fault::Output = fault {
-            return Failure::Output;
-        }
-        match self.last_fault.get() {
-            Some(cause) if is_of_device(fault) => Failure::Device(self.path, fault, cause),
-            _ => Failure::Store(self.path, fault),
+        match fault {
+            Fault::Output => Failure::Output,
+            Fault::Format(_)
+            | Fault::Copy(_)
+            | Fault::Open(_)
+            | Fault::Checkpoint(_)
+            | Fault::File
+            | Fault::Taken
+            | Fault::Declined
+            | Fault::Memory => match self.last_fault.get() {
+                Some(cause) if is_of_device(fault) => Failure::Device(self.path, fault, cause),
+                _ => Failure::Store(self.path, fault),
+            },
         }
     }
 }
