@@ -1,8 +1,10 @@
 //! What options of commands say.
 
-ghost use Rattle.std.specs.Prelude.{codes, IfOk};
+ghost use Rattle.std.specs.Prelude.{◌≡◌, codes, IfOk, IfErr};
 ghost use Rattle.clap.specs.Words.{first_value, found_of};
-ghost use Rattle.cli_commands.specs.Options.{AreCoresOf, IsKeyOf, IsNumberOf};
+ghost use Rattle.cli_lines.specs.declared.ending.Ended.TheVariants.{Session};
+ghost use Rattle.cli_lines.specs.Failures.{ended_by};
+ghost use Rattle.cli_commands.specs.Options.{AreCoresOf, IsKeyOf, IsNumberOf, RefusesCores, RefusesKeyOf};
 
 use clap::ArgMatches;
 use cli_lines::Failure;
@@ -12,9 +14,11 @@ use isd_as::{IsdAs, parse};
 use seg_check::Keyed;
 use std::alloc::Global;
 
-/// The core ASes of the words, of which there are none where no option names them.
+/// The core ASes of the words, of which there are none where no option names them. A failure is that
+/// of the first text that is no ISD-AS, or memory was refused.
 pub fn cores_in<'a>(alloc: Global, words: &ArgMatches<'a>) -> Result<Vec<IsdAs>, Failure<'a>>
-    ensures { IfOk result (λ cores. AreCoresOf (first_value (found_of words.now) (codes "cores")) cores.items) }
+    ensures ok { IfOk result (λ cores. AreCoresOf (first_value (found_of words.now) (codes "cores")) cores.items) }
+    ensures refused { IfErr result (λ failure. RefusesCores (first_value (found_of words.now) (codes "cores")) (ended_by failure)) }
 {
     let Some(list) = words.get_str(CORES) else {
         return Ok(Vec::new(alloc));
@@ -25,19 +29,27 @@ pub fn cores_in<'a>(alloc: Global, words: &ArgMatches<'a>) -> Result<Vec<IsdAs>,
     }
 }
 
-/// Why a list has no core ASes: its first text that is no ISD-AS, or want of memory.
-fn no_cores(list: &str, fault: SessionFault) -> Failure<'_> {
+/// Why a list has no core ASes, by the fault of `cores_of`: a text that is no ISD-AS, of which the
+/// first one is shown, or want of memory. No clause says which text is shown.
+fn no_cores(list: &str, fault: SessionFault) -> Failure<'_>
+    ensures { ended_by result ≡ Session fault }
+{
+    let SessionFault::Text(error) = fault else {
+        return Failure::Session(fault);
+    };
     for text in list.split(',') {
-        if let Err(error) = parse(text) {
+        if parse(text).is_err() {
             return Failure::Core(text, error);
         }
     }
     Failure::Session(fault)
 }
 
-/// The key of the words, if an option names one.
+/// The key of the words, if an option names one. A failure means that its text is no key, or that
+/// memory was refused.
 pub fn key_in<'a>(alloc: Global, words: &ArgMatches<'a>) -> Result<Option<Keyed>, Failure<'a>>
-    ensures { IfOk result (λ key. IsKeyOf (first_value (found_of words.now) (codes "key")) key) }
+    ensures ok { IfOk result (λ key. IsKeyOf (first_value (found_of words.now) (codes "key")) key) }
+    ensures refused { IfErr result (λ failure. RefusesKeyOf (first_value (found_of words.now) (codes "key")) (ended_by failure)) }
 {
     let Some(text) = words.get_str(KEY) else {
         return Ok(None);
