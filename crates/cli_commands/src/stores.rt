@@ -1,5 +1,12 @@
 //! The commands over the file of a device.
 
+ghost use Rattle.std.specs.Prelude.{◌≡◌, ◌×◌, ◌<◌, ◌^◌, ℕ, List, Some, None, codes};
+ghost use Rattle.std.specs.Str.Parse.{IsNumeral, digits_value, without_leading_plus};
+ghost use Rattle.clap.specs.Words.{found_of, one_text};
+ghost use Rattle.store_layout.specs.Geometry.{geometry_view};
+ghost use Rattle.cli_store.specs.Sizes.{sizes_for};
+ghost use Rattle.cli_commands.specs.Options.{IsNumberOf};
+
 use crate::opened::{Site, device_over};
 use crate::progress::{MEBIBYTE, Progress};
 use clap::ArgMatches;
@@ -91,7 +98,14 @@ fn make_store<'a, R: AllocGlobal + Files<File = File> + Eprint, O: Write>(
 }
 
 /// The sizes that the options say, and those that they leave out from other sizes.
-fn sizes_of(options: &ArgMatches<'_>, others: Geometry) -> Geometry {
+fn sizes_of(options: &ArgMatches<'_>, others: Geometry) -> Geometry
+    ensures left_out { one_text (found_of options.now) (codes "rows") ≡ None
+        → IsNumberOf (found_of options.now) (codes "checkpoint") 32 others.checkpoint result.checkpoint
+        × IsNumberOf (found_of options.now) (codes "journal") 32 others.journal result.journal }
+    ensures rows { (text : List ℕ) → one_text (found_of options.now) (codes "rows") ≡ Some text
+        → IsNumeral 10 (without_leading_plus text) → digits_value 10 (without_leading_plus text) < 2 ^ 32
+        → geometry_view result ≡ sizes_for (digits_value 10 (without_leading_plus text)) }
+{
     match options.get_one::<u32>(ROWS) {
         Some(rows) => sizes_for(rows),
         None => Geometry {
