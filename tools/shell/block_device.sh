@@ -80,6 +80,13 @@ ends 1 "error: device 1" copy "$work/store" "$device"
 holds "$work/disk"
 losetup -d "$device"
 
+# A file of 300 MiB is announced, and a block device, over which no zeros are written, is not.
+truncate -s 300M "$work/disk"
+device=$(losetup -f --show "$work/disk") || exit 2
+ends 0 "formatted 602003 sectors" format "$device" --checkpoint 300000 --journal 1000 --reserve
+if grep -q zeros "$work/out"; then says "no zeros"; fi
+losetup -d "$device"
+
 # A folder of 64 KiB with a file of 1,040 sectors, of which none has room once the folder is full. As long as the device is open
 # the kernel holds its pages, also those that it could not write.
 mkdir "$work/small"

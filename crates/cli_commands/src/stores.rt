@@ -90,7 +90,7 @@ fn make_store<'a, R: AllocGlobal + Files<File = File> + Eprint, O: Write>(
     } else {
         Room::Later
     };
-    if room == Room::Now && len >= LONG {
+    if room == Room::Now && len >= LONG && file.is_file() {
         let _ = eprintln!(rt; "pathd: {path}: writes {} MiB of zeros", len / MEBIBYTE);
     }
     let (mut device, site) = device_over(path, file.into_zeros(rt, path, len, room))?;

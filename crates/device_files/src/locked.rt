@@ -44,6 +44,11 @@ impl LockedFile {
         Ok(LockedFile { file, kind })
     }
 
+    /// Whether it is a file, whose length can be set, and no block device.
+    pub fn is_file(&self) -> bool {
+        matches!(self.kind, DeviceKind::File)
+    }
+
     /// The file as it was found, to look at it. It shares the lock, which lasts as long as one of
     /// both.
     pub fn as_found(&self, alloc: Global) -> io::Result<SystemFile>
