@@ -36,7 +36,8 @@ fn holder<R: AllocGlobal + Files<File = File>>(rt: &R, path: &str) -> Option<Str
     }
 }
 
-/// The bytes of a file whose first sector is that of a store with more.
+/// The bytes of a file whose first sector is that of a store with more. The system says the length
+/// of a file, which may end within a sector, and none of a block device.
 fn cut_sizes<R: AllocGlobal + Files<File = File>>(rt: &R, path: &str) -> Option<String> {
     let (mut device, _site) = device_over(path, open_to_read(rt, path)).ok()?;
     let sizes = titled_sizes(&mut device).ok()??;
@@ -44,7 +45,8 @@ fn cut_sizes<R: AllocGlobal + Files<File = File>>(rt: &R, path: &str) -> Option<
     if wanted <= sectors {
         return None;
     }
-    let (wanted, bytes) = (in_bytes(wanted), in_bytes(sectors));
+    let len = fs::metadata(rt, path).ok()?.len();
+    let (wanted, bytes) = (in_bytes(wanted), in_bytes(sectors).max(len));
     let alloc = rt.alloc();
     format!(in alloc; ": it was cut to {bytes} bytes, and its first sector says {wanted}").ok()
 }

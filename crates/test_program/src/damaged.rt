@@ -43,6 +43,12 @@ const PARTS: &[Part] = &[
         ],
     },
     Part {
+        what: "the title of a larger store, and a byte after the last sector",
+        before: Before::Changes(&[(TITLE, LARGER), (SECTORS, b"X")]),
+        peers: NO_PEERS,
+        lines: &[("pathd status damaged", &[])],
+    },
+    Part {
         what: "a sector more",
         before: Before::Changes(&[(SECTORS, ZEROS)]),
         peers: NO_PEERS,
