@@ -1,6 +1,6 @@
 //! The commands over the file of a device.
 
-ghost use Rattle.std.specs.Prelude.{◌≡◌, ◌×◌, ◌<◌, ◌^◌, ℕ, List, Some, None, codes};
+ghost use Rattle.std.specs.Prelude.{◌≡◌, ◌<◌, ◌^◌, ℕ, List, Some, None, codes};
 ghost use Rattle.std.specs.Str.Parse.{IsNumeral, digits_value, without_leading_plus};
 ghost use Rattle.clap.specs.Words.{found_of, one_text};
 ghost use Rattle.store_layout.specs.Geometry.{geometry_view};
@@ -20,8 +20,10 @@ use device_files::{LockedFile, Room, open, open_to_read};
 use row_lines::RowForm;
 use sector_dev::{FileDevice, SECTOR, SystemFile};
 use std::alloc::Global;
+use std::fs;
 use std::fs::File;
-use std::io::{BufWriter, Read, Write};
+use std::io::{BufWriter, Error, ErrorKind, Read, Write};
+use std::os::unix::fs::MetadataExt;
 use std::rt::Files;
 use std::time::Clock;
 use store_open::{Geometry, OpenError, has_title, read_geometry};
@@ -135,7 +137,7 @@ pub fn copy_file<'a, R: AllocGlobal + Files<File = File> + Clock + Eprint, O: Wr
         Err(_) => return Err(old.failure(Fault::Open(OpenError::Device))),
     };
     let target = options.get_str(TARGET).unwrap_or("");
-    let (to, new) = empty_device(rt, target, geometry)?;
+    let (to, new) = empty_device(rt, path, target, geometry)?;
     let mut from = Progress::over(rt, from, path, "read");
     let mut to = Progress::over(rt, to, target, "wrote");
     match copy(rt.alloc(), &mut from, &mut to, geometry, output) {
@@ -145,13 +147,18 @@ pub fn copy_file<'a, R: AllocGlobal + Files<File = File> + Clock + Eprint, O: Wr
 }
 
 /// A device over a file of zeros with room for a store of these sizes, or over a block device. A
-/// file that has a store is refused, and left as it is.
+/// file that has a store is refused, and left as it is. So is the file at `old`, which this process
+/// has open.
 fn empty_device<'a, R: AllocGlobal + Files<File = File>>(
     rt: &R,
+    old: &str,
     path: &'a str,
     geometry: Geometry,
 ) -> Result<(FileDevice<SystemFile>, Site<'a>), Failure<'a>> {
-    let file = LockedFile::open(rt, path).map_err(|error| Failure::File(path, error))?;
+    let file = LockedFile::open(rt, path).map_err(|error| Failure::File(
+        path,
+        no_target(rt, old, path, error),
+    ))?;
     let (mut device, site) = device_over(path, file.as_found(rt.alloc()))?;
     match has_title(&mut device) {
         Ok(false) => {}
@@ -160,6 +167,23 @@ fn empty_device<'a, R: AllocGlobal + Files<File = File>>(
     }
     let len = geometry.sectors().saturating_mul(SECTOR as u64);
     device_over(path, file.into_zeros(rt, path, len, Room::Later))
+}
+
+/// Why a file is not opened while this process reads the one at `old`: it may be that file, on which
+/// this process has a lock.
+fn no_target<R: Files<File = File>>(rt: &R, old: &str, path: &str, error: Error) -> Error {
+    if error.kind() == ErrorKind::WouldBlock && is_one_file(rt, old, path) {
+        return Error::new(ErrorKind::InvalidInput, "OLD and NEW are one file");
+    }
+    error
+}
+
+/// Whether two paths have one file. One of which nothing can be said has another.
+fn is_one_file<R: Files<File = File>>(rt: &R, one: &str, other: &str) -> bool {
+    match (fs::metadata(rt, one), fs::metadata(rt, other)) {
+        (Ok(one), Ok(other)) => one.dev() == other.dev() && one.ino() == other.ino(),
+        _ => false,
+    }
 }
 
 /// Prints the rows of a file's store and its place, or the layout of the file, which is then opened
