@@ -16,9 +16,28 @@ use Rattle.whole_writes.specs.Written.{IsWrittenInPart}
 use Rattle.cli_store.specs.Text.{copied_line}
 use Rattle.cli_store.specs.Writing.{TextWriteFails}
 use Rattle.cli_store.specs.Fault.{fault_of_copy}
+use Rattle.cli_store.specs.Devices.{faults_after_command, faults_after_fault}
 use Rattle.cli_store.specs.Copying.{IsCopied, FailsToCopy, IsBeingCopied}
 use Rattle.cli_store.specs.declared.error.Fault.{Fault}
 use Rattle.cli_store.specs.declared.error.Fault.TheVariants.{Output}
+
+-- no error of the copy is a fault of the device that is read
+by_copy : (e : CopyError) (old new : ℕ) → new ≡ old → new ≡ faults_after_fault (fault_of_copy e) old
+by_copy copy.BadGeometry old new same = same
+by_copy copy.TooSmall old new same = same
+by_copy copy.Unfit old new same = same
+by_copy copy.NoMemory old new same = same
+by_copy copy.Fault old new same = same
+
+pub copy_faults : (result : Result (Unit {0}) Fault) (e : CopyError) (old new : ℕ) → IsErrAnd result (λ fault. fault ≡ fault_of_copy e) → new ≡ old
+    → new ≡ faults_after_command result old
+copy_faults (Ok done) e old new is same = absurd is
+copy_faults (Err fault) e old new is same = subst (λ (f : Fault). new ≡ faults_after_fault f old) (sym is) (by_copy e old new same)
+
+-- nor is one of writing
+pub written_faults : (result : Result (Unit {0}) Fault) (old new : ℕ) → IfErr result (λ e. e ≡ Output) → new ≡ old → new ≡ faults_after_command result old
+written_faults (Ok done) old new by same = same
+written_faults (Err e) old new by same = subst (λ (f : Fault). new ≡ faults_after_fault f old) (sym by) same
 
 -- before any call of the copy's device
 pub copied_here : (geometry : Geometry) (from start : Disk) → Stretch start start (IsBeingCopied geometry from start)

@@ -2,6 +2,7 @@
 
 ghost use Rattle.std.specs.Prelude.{◌≡◌, true, codes, OnOk, IfErr};
 ghost use Rattle.std.specs.Io.KnownBytes.{Consumes};
+ghost use Rattle.sector_dev.specs.Calls.{one_more};
 ghost use Rattle.sector_dev.specs.Disk.{IsHonest};
 ghost use Rattle.cli_store.specs.Asking.{consent_of, IsOfAsking, KeepsStore, MayFormat};
 ghost use Rattle.cli_store.specs.Devices.{LeavesDevice};
@@ -73,6 +74,10 @@ pub fn ask<D: Device, R: Read, W: Write>(
     ensures leaves { LeavesDevice (D.disk device.old) (D.disk device.new) }
     ensures agreed { OnOk result (IsHonest (D.disk device.old) → MayFormat wishes (D.disk device.old) (R.remaining reader.old) (R.remaining reader.new)) }
     ensures kept { IfErr result (λ fault. KeepsStore fault wishes (D.disk device.old)) }
+
+    // The fault of the device is returned only where a call of it failed.
+    ensures fault { IfErr result (λ fault. fault ≡ Fault.Open OpenError.Device
+        → (D.disk device.new).faults ≡ one_more (D.disk device.old).faults) }
 {
     let consent = decide(wishes);
     if consent == Consent::Given {
@@ -124,7 +129,7 @@ fn question<D: Device>(alloc: Global, path: &str, device: &mut D) -> Result<Stri
     )
 }
 
-/// The line of the store that is there.
+/// The line of the store that is there. A store for which memory is refused may open elsewhere.
 fn found_line<D: Device>(alloc: Global, path: &str, device: &mut D) -> Result<String, AllocError>
     ensures leaves { LeavesDevice (D.disk device.old) (D.disk device.new) }
 {
@@ -133,6 +138,9 @@ fn found_line<D: Device>(alloc: Global, path: &str, device: &mut D) -> Result<St
             let (version, rows) = (folded.head.version, folded.db.len());
             let place = folded.place;
             format!(in alloc; "{path} has a store: version {version}, place {place}, {rows} rows\n")
+        }
+        Err(OpenError::NoMemory) => {
+            format!(in alloc; "{path} has a store; there is no memory to open it\n")
         }
         Err(error) => { format!(in alloc; "{path} has a store that does not open: {error}\n") }
     }

@@ -1,11 +1,11 @@
 //! Copying a store.
 
-ghost use Rattle.std.specs.Prelude.{OnOk, IfErr};
+ghost use Rattle.std.specs.Prelude.{◌≡◌, OnOk, IfErr};
 ghost use Rattle.std.specs.Io.KnownBytes.{Appends};
 ghost use Rattle.sector_dev.specs.Stretch.{Stretch};
 ghost use Rattle.store_layout.specs.Geometry.{geometry_view};
 ghost use Rattle.cli_store.specs.Copying.{IsCopied, FailsToCopy, IsBeingCopied};
-ghost use Rattle.cli_store.specs.Devices.{LeavesDevice};
+ghost use Rattle.cli_store.specs.Devices.{LeavesDevice, faults_after_command};
 
 use crate::error::Fault;
 use crate::text::copied_line;
@@ -31,6 +31,9 @@ pub fn copy<A: Device, B: Device, W: Write>(
         (Appends (W.contents writer.old) (W.contents writer.new))) }
     ensures refused { IfErr result (λ fault. FailsToCopy fault (geometry_view geometry) (A.disk from.old) (B.disk to.old) (B.disk to.new)
         (W.contents writer.old) (W.contents writer.new)) }
+
+    // Returns the fault of the device that is read exactly when a call of it failed.
+    ensures faults { (A.disk from.new).faults ≡ faults_after_command result (A.disk from.old).faults }
 
     // At every moment the bytes after the copy are unchanged. On a device of zeros, an image that a
     // stop leaves at any moment does not open, or opens to the rows and the place of the other one.
