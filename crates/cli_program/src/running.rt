@@ -10,11 +10,10 @@ use clap::error::ErrorKind;
 use cli_commands::{
     answer, ask_server, copy_file, format_file, more_of, show_file, status_of_file, upgrade_file,
 };
-use cli_lines::{Done, Ended, Failed, Failure, Priority, status_of};
-use cli_once::SessionFault;
+use cli_lines::{Done, Failed, Failure, Priority, status_of};
 use cli_words::{CommandLine, LOG_PRIORITY, Subcommand, read};
-use std::env;
 use std::io::{IsTerminal, Read, Write};
+use std::{env, io};
 
 /// Runs the command line; prints why it failed; returns the status: 0 to 3, as `status_of` says.
 /// No clause says what the words do. The contracts of the commands that it calls do.
@@ -41,16 +40,16 @@ pub fn run<R: System, I: Read + IsTerminal + Drop + Send + 'static, O: Write + I
     input: I,
     output: O,
 ) -> Result<Done, Failed> {
-    let no_memory = Failed::from(Ended::Session(SessionFault::Memory));
-    let Ok(words) = env::args(rt) else {
-        return Err(no_memory);
+    let words = match env::args(rt) {
+        Ok(words) => words,
+        Err(error) => return refuse_words(rt, &error),
     };
-    let words: Vec<String> = words.collect(rt.alloc()).map_err(|_| no_memory)?;
+    let Ok(words) = words.collect::<Vec<String>>(rt.alloc()) else {
+        return Err(say_memory(rt));
+    };
     let line = match read(rt.alloc(), words.as_slice()) {
         Ok(line) => line,
-        Err(error) => {
-            return refuse(rt, &error).map_err(|fault| Failed::from(Ended::Session(fault)));
-        }
+        Err(error) => return refuse(rt, &error),
     };
     let is_terminal = input.is_terminal() && output.is_terminal();
     let mut output = Output::new(output);
@@ -106,20 +105,42 @@ fn explain<R: System, O>(rt: &R, failure: &Failure<'_>, output: &Output<O>, is_m
     };
 }
 
+/// Prints why the words of the command line are not given.
+fn refuse_words<R: System>(rt: &R, error: &io::Error) -> Result<Done, Failed> {
+    if error.kind() == io::ErrorKind::InvalidData {
+        let _ = eprintln!(rt; "pathd: a word of the command line is not UTF-8");
+        return Ok(Done::Refused);
+    }
+    Err(say_memory(rt))
+}
+
+/// Prints that memory was refused before the command was known.
+fn say_memory<R: System>(rt: &R) -> Failed {
+    let failure = Failure::Memory;
+    let _ = eprintln!(rt; "pathd: {failure}");
+    Failed::from(failure.ended())
+}
+
 /// What `clap` says of a number that has something else than digits.
 const NO_DIGIT: &str = "invalid digit found in string";
 
 /// Prints what was wrong with the command line, or the help that it asked for.
-fn refuse<R: System>(rt: &R, error: &Error) -> Result<Done, SessionFault> {
+fn refuse<R: System>(rt: &R, error: &Error) -> Result<Done, Failed> {
     if error.kind() == ErrorKind::OutOfMemory {
-        return Err(SessionFault::Memory);
+        return Err(say_memory(rt));
     }
-    let text = format!(in rt.alloc(); "{}", *error).map_err(|_| SessionFault::Memory)?;
-    match text.split_once(NO_DIGIT) {
+    let Ok(text) = format!(in rt.alloc(); "{}", *error) else {
+        return Err(say_memory(rt));
+    };
+    let printed = match text.split_once(NO_DIGIT) {
         Some((front, end)) => eprint!(rt; "{front}not decimal digits{end}"),
         None => error.print(rt),
+    };
+    if let Err(why) = printed {
+        let failure = Failure::Output;
+        let _ = eprintln!(rt; "pathd: {failure}: {why}");
+        return Err(Failed::from(failure.ended()));
     }
-    .map_err(|_| SessionFault::Output)?;
     Ok(if error.exit_code() == 0 {
         Done::Carried
     } else {

@@ -1,10 +1,10 @@
 //! How a server runs, by the words of its command line.
 
-ghost use Rattle.std.specs.Prelude.{◌≡◌, ℕ, ◌*◌, codes, option_map, IfOk};
+ghost use Rattle.std.specs.Prelude.{◌≡◌, ℕ, ◌*◌, false, codes, option_map, IfOk};
 ghost use Rattle.std.specs.Duration.{as_nanos};
 ghost use Rattle.clap.specs.Words.{first_value, found_of};
-ghost use Rattle.cli_commands.specs.Options.{IsKeyOf, IsNumberOf};
-ghost use Rattle.cli_program.specs.Options.{limit_of, bound_of};
+ghost use Rattle.cli_commands.specs.Options.{AreCoresOf, IsKeyOf, IsNumberOf};
+ghost use Rattle.cli_program.specs.Options.{has_wildcard, IsRosterOf, limit_of, bound_of};
 
 use clap::ArgMatches;
 use cli_commands::{cores_in, key_in, u32_in};
@@ -31,6 +31,7 @@ const GRACE_SECONDS: u32 = 10;
 
 /// The options of the server, as the words have them.
 pub(crate) fn options_of<'a>(alloc: Global, words: &ArgMatches<'a>) -> Result<Options, Failure<'a>>
+    ensures cores { IfOk result (λ options. IsRosterOf (first_value (found_of words.now) (codes "cores")) options.cores) }
     ensures key { IfOk result (λ options. IsKeyOf (first_value (found_of words.now) (codes "key")) options.key) }
     ensures sessions { IfOk result (λ options. IsNumberOf (found_of words.now) (codes "sessions") 64 0 options.sessions) }
     ensures peers { IfOk result (λ options. IsNumberOf (found_of words.now) (codes "peer-sessions") 64 0 options.peer_sessions) }
@@ -63,27 +64,35 @@ pub(crate) fn options_of<'a>(alloc: Global, words: &ArgMatches<'a>) -> Result<Op
 
 /// The core ASes of the words for a server, none of which has a part that is 0: such a text names
 /// no AS, and would only silence the line that says that there is no core AS.
-fn core_ases_in<'a>(alloc: Global, words: &ArgMatches<'a>) -> Result<Vec<IsdAs>, Failure<'a>> {
+fn core_ases_in<'a>(alloc: Global, words: &ArgMatches<'a>) -> Result<Vec<IsdAs>, Failure<'a>>
+    ensures given { IfOk result (λ cores. AreCoresOf (first_value (found_of words.now) (codes "cores")) cores.items) }
+    ensures whole { IfOk result (λ cores. has_wildcard cores.items ≡ false) }
+{
     let cores = cores_in(alloc, words)?;
-    match words.get_str(CORES) {
-        Some(list) => match wildcard_in(list) {
-            Some(text) => Err(Failure::AnyCore(text)),
-            None => Ok(cores),
-        },
-        None => Ok(cores),
+    if has_wildcard(&cores) {
+        let list = words.get_str(CORES).unwrap_or("");
+        return Err(Failure::AnyCore(first_wildcard(list)));
     }
+    Ok(cores)
 }
 
-/// The first text of a list with a part that is 0, which means more than one AS.
-fn wildcard_in(list: &str) -> Option<&str> {
+/// Whether one of these ASes has a part that is 0.
+fn has_wildcard(cores: &[IsdAs]) -> bool
+    ensures { result ≡ has_wildcard cores.now }
+{
+    cores.iter().any(|core| core.has_zero_part())
+}
+
+/// The first text of a list with a part that is 0, which means more than one AS, or else the list.
+fn first_wildcard(list: &str) -> &str {
     for text in list.split(',') {
         if let Ok(core) = parse(text) {
             if core.has_zero_part() {
-                return Some(text);
+                return text;
             }
         }
     }
-    None
+    list
 }
 
 /// The number of an option, or 0 where the option is left out.

@@ -119,6 +119,19 @@ def compare(program: str, words: list[str], first: bytes | None, folder: Path) -
     return 1 + len(CLOSED)
 
 
+def look_at_words(program: str) -> int:
+    """Asks for the summary with a closed output, and gives a word that is no UTF-8; answers how many runs these were."""
+    summary = started([program, "--help"], (1,))
+    _out, err = summary.communicate(timeout=PATIENCE)
+    lines = err.splitlines()
+    if summary.returncode != 1 or len(lines) != 2 or not lines[0].startswith(b"pathd: cannot write standard output") or lines[1] != b"error: output":
+        raise Wrong(f"--help 1>&-: status {summary.returncode}, prints {err!r}")
+    found = subprocess.run([program.encode(), b"show", b"s\xff"], stdin=subprocess.DEVNULL, capture_output=True, timeout=PATIENCE, check=False)
+    if (found.returncode, found.stdout, found.stderr) != (2, b"", b"pathd: a word of the command line is not UTF-8\n"):
+        raise Wrong(f"a word that is no UTF-8: status {found.returncode}, prints {found.stdout!r} and {found.stderr!r}")
+    return 2
+
+
 def main(words: list[str]) -> int:
     """Runs each command."""
     parser = toolbox.parser(__doc__)
@@ -149,6 +162,10 @@ def main(words: list[str]) -> int:
                 count += compare(program, case, first, folder)
             except (Wrong, subprocess.TimeoutExpired, ConnectionError) as fault:
                 faults.append(str(fault))
+    try:
+        count += look_at_words(program)
+    except (Wrong, subprocess.TimeoutExpired) as fault:
+        faults.append(str(fault))
     for fault in faults:
         print(f"  {fault}")
     print(f"{count} runs, {len(faults)} went wrong")
