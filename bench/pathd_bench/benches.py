@@ -17,6 +17,7 @@ SERVING = [
     Tool("waits", "waits", "the longest waits beside purges, wildcards and checkpoints"),
     Tool("day", "day", "a day of an ISD: segments that are renewed, failures, lookups and a kill, as a table of hours"),
     Tool("profile", "profile.sh", "where the program's instructions go"),
+    Tool("samples", "samples", "where the running server's time goes, by samples of `perf`"),
 ]
 
 LIBRARIES = [

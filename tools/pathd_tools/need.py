@@ -92,6 +92,7 @@ THINGS = [
     file("golang-golang-x-net-dev", "/usr/share/gocode/src/golang.org/x/net/http2/server.go"),
     program("strace", "strace"),
     program("valgrind", "valgrind", "callgrind_annotate"),
+    program("perf", "linux-perf"),
     program("perl", "perl"),
     program("curl", "curl"),
     program("bc", "bc"),
