@@ -1,9 +1,9 @@
 package main
 
 import (
+	"bytes"
 	"context"
 	"fmt"
-	"io"
 	"log"
 	"net"
 	"net/http"
@@ -115,10 +115,10 @@ func (g *gateway) makeWeb() error {
 		WriteTimeout:      headerLimit + 3*g.settings.Deadline,
 		IdleTimeout:       g.settings.Idle,
 		MaxHeaderBytes:    mostHeader,
-		ErrorLog:          log.New(io.Discard, "", 0),
+		ErrorLog:          log.New(panicLog{}, "", 0),
 		ConnContext: func(ctx context.Context, conn net.Conn) context.Context {
 			it, _ := conn.(*door.Conn)
-			return connectapi.WithConn(ctx, it)
+			return door.NewContext(ctx, it)
 		},
 	}
 	g.h2 = &http2.Server{
@@ -134,9 +134,19 @@ func (g *gateway) makeWeb() error {
 	return nil
 }
 
+// panicLog passes on the lines of panics, and drops those of faulty peers, who could fill the log.
+type panicLog struct{}
+
+func (panicLog) Write(line []byte) (int, error) {
+	if bytes.HasPrefix(line, []byte("http: panic")) || bytes.HasPrefix(line, []byte("http2: panic")) {
+		log.Print(string(line))
+	}
+	return len(line), nil
+}
+
 // serveHTTP2 serves a connection whose first request is not gRPC's, until it ends.
 func (g *gateway) serveHTTP2(conn *door.Conn) {
-	ctx := connectapi.WithConn(context.Background(), conn)
+	ctx := door.NewContext(context.Background(), conn)
 	g.h2.ServeConn(conn, &http2.ServeConnOpts{Context: ctx, BaseConfig: g.web, Handler: g.web.Handler})
 }
 

@@ -2,7 +2,6 @@ package main
 
 import (
 	"fmt"
-	"io"
 	"log"
 	"net"
 	"net/http"
@@ -31,7 +30,7 @@ func (g *gateway) serveNumbers(listener net.Listener) *http.Server {
 	})
 	server := &http.Server{
 		Handler: paths, ReadTimeout: statusLimit, WriteTimeout: statusLimit, IdleTimeout: statusLimit,
-		MaxHeaderBytes: mostHeader, ErrorLog: log.New(io.Discard, "", 0),
+		MaxHeaderBytes: mostHeader, ErrorLog: log.New(panicLog{}, "", 0),
 	}
 	go server.Serve(listener)
 	return server
@@ -62,7 +61,7 @@ func (g *gateway) writeCalls(p *numbers.Page) {
 	underWay, turned := g.desk.Numbers()
 	p.Gauge("pathd_gateway_calls", "Calls under way.")
 	p.Row("pathd_gateway_calls", "", float64(underWay))
-	p.Counter("pathd_gateway_calls_turned_away_total", "Calls that were ended at once, for want of room.")
+	p.Counter("pathd_gateway_calls_turned_away_total", "Calls that were ended for want of room.")
 	p.Row("pathd_gateway_calls_turned_away_total", "", float64(turned))
 	g.desk.WritePages(p)
 	var memory runtime.MemStats

@@ -242,6 +242,7 @@ func TestFloodsEndTheirConnection(t *testing.T) {
 		},
 		"pings":    func(p *peer, _ int) error { return p.WritePing(false, [8]byte{}) },
 		"settings": func(p *peer, _ int) error { return p.WriteSettings() },
+		"updates":  func(p *peer, _ int) error { return p.WriteWindowUpdate(0, 1) },
 	} {
 		for _, kind := range []string{"application/grpc", "application/proto"} {
 			p := newPeer(t, at)

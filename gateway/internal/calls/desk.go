@@ -27,6 +27,10 @@ type Verifier interface {
 	Verify(ctx context.Context, registration []byte) error
 }
 
+// lookupsAtOnce is how many lookups ask pathd at one time: what each finds is in memory some three times
+// while pages are added to it.
+const lookupsAtOnce = 32
+
 // Options of a Desk.
 type Options struct {
 	// Pathd asks pathd.
@@ -49,13 +53,17 @@ type Options struct {
 type Desk struct {
 	options  Options
 	pages    pages
+	lookups  chan struct{} // has an element for each lookup that asks pathd
 	underWay atomic.Int64
 	turned   atomic.Uint64
 }
 
 // NewDesk answers a desk without calls.
 func NewDesk(options Options) *Desk {
-	return &Desk{options: options, pages: pages{pathd: options.Pathd, most: options.MostSegments}}
+	return &Desk{
+		options: options, pages: pages{pathd: options.Pathd, most: options.MostSegments},
+		lookups: make(chan struct{}, lookupsAtOnce),
+	}
 }
 
 // Numbers answers how many calls are under way, and how many were turned away for want of room.
@@ -72,6 +80,12 @@ func (d *Desk) WritePages(p *numbers.Page) { d.pages.writeNumbers(p) }
 // Segments is SegmentLookupService/Segments: the body of the reply is the response, with pages of a
 // list after it where the lookup may be cut.
 func (d *Desk) Segments(ctx context.Context, request []byte) ([]byte, error) {
+	select {
+	case d.lookups <- struct{}{}:
+		defer func() { <-d.lookups }()
+	case <-ctx.Done():
+		return nil, ctx.Err()
+	}
 	found, err := d.options.Pathd.Ask(ctx, pathd.KindLookup, request)
 	if err != nil {
 		return nil, err
@@ -92,18 +106,39 @@ func (d *Desk) Registration(ctx context.Context, request []byte) ([]byte, error)
 
 // enter makes a place for a call, which leave gives back.
 func (d *Desk) enter(conn *door.Conn) *Fault {
-	o := &d.options
-	fault := (*Fault)(nil)
-	switch underWay := d.underWay.Add(1); {
-	case underWay > int64(o.Calls):
-		fault = NewFault(codes.ResourceExhausted, "%d calls are under way", o.Calls)
-	case conn != nil && conn.Owed() > o.OwedByOne:
-		fault = NewFault(codes.ResourceExhausted, "the connection has not taken its earlier replies")
-	case o.Owed() > o.OwedByAll:
-		fault = NewFault(codes.ResourceExhausted, "the connections have not taken their earlier replies")
+	owed := int64(0)
+	if conn != nil {
+		owed = conn.Owed()
+	}
+	fault := d.untaken(owed, d.options.Owed())
+	if d.underWay.Add(1) > int64(d.options.Calls) {
+		fault = NewFault(codes.ResourceExhausted, "%d calls are under way", d.options.Calls)
 	}
 	if fault != nil {
 		d.leave()
+		d.turned.Add(1)
+	}
+	return fault
+}
+
+// untaken answers a fault where a connection, or all of them, have left too many bytes of replies.
+func (d *Desk) untaken(byOne, byAll int64) *Fault {
+	switch {
+	case byOne > d.options.OwedByOne:
+		return NewFault(codes.ResourceExhausted, "the connection has not taken its earlier replies")
+	case byAll > d.options.OwedByAll:
+		return NewFault(codes.ResourceExhausted, "the connections have not taken their earlier replies")
+	}
+	return nil
+}
+
+// owe notes that a response is about to be written, unless too many were left while it was made.
+func (d *Desk) owe(conn *door.Conn, response []byte) *Fault {
+	size := int64(len(response))
+	byOne, byAll := conn.Owe(len(response))
+	fault := d.untaken(byOne-size, byAll-size)
+	if fault != nil {
+		conn.Waive(len(response))
 		d.turned.Add(1)
 	}
 	return fault
@@ -123,11 +158,12 @@ type Call struct {
 func (d *Desk) Serve(ctx context.Context, m *Method, call Call) ([]byte, *Fault) {
 	begun := time.Now()
 	response, fault := d.serve(ctx, m, call)
+	if fault == nil && call.Conn != nil {
+		fault = d.owe(call.Conn, response)
+	}
 	status := codes.OK
 	if fault != nil {
-		status = fault.Status
-	} else if call.Conn != nil {
-		call.Conn.Owe(len(response))
+		response, status = nil, fault.Status
 	}
 	m.Numbers().Count(call.By, status, time.Since(begun))
 	return response, fault

@@ -1,6 +1,8 @@
 package connectapi
 
 import (
+	"encoding/json"
+
 	"google.golang.org/grpc/codes"
 	"google.golang.org/protobuf/encoding/protojson"
 	"google.golang.org/protobuf/proto"
@@ -36,7 +38,12 @@ var formats = map[string]*format{
 	},
 }
 
+// fromJSON answers the protobuf of a message in JSON. Text that is no JSON, or too deep, is refused before
+// protojson of Debian 12 (1.28) reads it: for some such texts that does not return (CVE-2024-24786).
 func fromJSON(m *calls.Method, content []byte) ([]byte, error) {
+	if !json.Valid(content) {
+		return nil, calls.NewFault(codes.InvalidArgument, "the request is no JSON")
+	}
 	request := m.Request()
 	if err := (protojson.UnmarshalOptions{DiscardUnknown: true}).Unmarshal(content, request); err != nil {
 		return nil, calls.NewFault(codes.InvalidArgument, "the request is no JSON of its message: %v", err)

@@ -60,7 +60,7 @@ func (h *handler) ServeHTTP(w http.ResponseWriter, r *http.Request) {
 		defer cancel()
 	}
 	response, fault := h.desk.Serve(ctx, h.method, calls.Call{
-		By: numbers.Connect, Conn: ConnOf(r.Context()),
+		By: numbers.Connect, Conn: door.FromContext(r.Context()),
 		Read: func(context.Context) ([]byte, error) { return h.read(w, r, body) },
 	})
 	if fault == nil {
@@ -131,17 +131,4 @@ func (h *handler) read(w http.ResponseWriter, r *http.Request, body *format) (co
 
 func tooLarge(most int64) error {
 	return calls.NewFault(codes.ResourceExhausted, "a request has more than %d bytes", most)
-}
-
-type connKey struct{}
-
-// WithConn answers a context by which ConnOf finds a connection.
-func WithConn(ctx context.Context, conn *door.Conn) context.Context {
-	return context.WithValue(ctx, connKey{}, conn)
-}
-
-// ConnOf answers the connection of a context, or nil.
-func ConnOf(ctx context.Context) *door.Conn {
-	conn, _ := ctx.Value(connKey{}).(*door.Conn)
-	return conn
 }

@@ -2,6 +2,7 @@ package door
 
 import (
 	"bytes"
+	"context"
 	"net"
 	"net/netip"
 	"sync"
@@ -15,9 +16,10 @@ type Conn struct {
 	door *Door
 	peer netip.Addr
 
-	isKnown atomic.Bool // what it speaks
-	closing sync.Once
-	mu      sync.Mutex // guards Conn while TLS takes its place
+	isKnown  atomic.Bool // what it speaks
+	isClosed atomic.Bool
+	closing  sync.Once
+	mu       sync.Mutex // guards Conn while TLS takes its place
 
 	seen  bytes.Buffer // read to find out what it speaks, and to be read again
 	guard *guard       // of HTTP/2
@@ -63,16 +65,27 @@ func (c *Conn) Write(p []byte) (int, error) {
 	n, err := c.Conn.Write(left)
 	c.took.Store(time.Now().UnixNano())
 	c.pay(int64(n))
+	if c.guard != nil {
+		c.guard.wrote(n)
+	}
 	return len(p) - len(left) + n, err
 }
 
-// Owe notes that so many bytes of a reply are about to be written.
-func (c *Conn) Owe(bytes int) {
-	if c.owed.Add(int64(bytes)) == int64(bytes) {
+// Owe notes that so many bytes of a reply are about to be written, and answers how many this connection
+// and all of them owe with these.
+func (c *Conn) Owe(bytes int) (byOne, byAll int64) {
+	if byOne = c.owed.Add(int64(bytes)); byOne == int64(bytes) {
 		c.took.Store(time.Now().UnixNano())
 	}
-	c.door.owed.Add(int64(bytes))
+	byAll = c.door.owed.Add(int64(bytes))
+	if c.isClosed.Load() { // while the reply was made: nobody takes it
+		c.pay(c.owed.Load())
+	}
+	return byOne, byAll
 }
+
+// Waive notes that so many bytes that were owed are not written.
+func (c *Conn) Waive(bytes int) { c.pay(int64(bytes)) }
 
 // pay takes off what was written. More than the replies is written, as frames have heads.
 func (c *Conn) pay(bytes int64) {
@@ -107,6 +120,7 @@ func (c *Conn) Close() (err error) {
 		inner := c.Conn
 		c.mu.Unlock()
 		err = inner.Close()
+		c.isClosed.Store(true)
 		c.pay(c.owed.Load())
 		c.door.forget(c)
 	})
@@ -129,4 +143,17 @@ func ConnOf(peer net.Addr) *Conn {
 		return it.conn
 	}
 	return nil
+}
+
+type contextKey struct{}
+
+// NewContext answers a context by which FromContext finds a connection.
+func NewContext(ctx context.Context, conn *Conn) context.Context {
+	return context.WithValue(ctx, contextKey{}, conn)
+}
+
+// FromContext answers the connection of a context, or nil.
+func FromContext(ctx context.Context) *Conn {
+	conn, _ := ctx.Value(contextKey{}).(*Conn)
+	return conn
 }

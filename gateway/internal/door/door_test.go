@@ -6,6 +6,7 @@ import (
 	"io"
 	"math/rand"
 	"net"
+	"net/netip"
 	"testing"
 	"testing/iotest"
 	"time"
@@ -142,6 +143,17 @@ func TestWhatIsOwed(t *testing.T) {
 	}
 }
 
+func TestNothingIsOwedOnceClosed(t *testing.T) {
+	conn, _ := connOf(bytes.NewReader(nil))
+	conn.door.open, conn.door.peers = map[*Conn]struct{}{}, map[netip.Addr]int{}
+	conn.Owe(100)
+	conn.Close()
+	conn.Owe(100)
+	if conn.Owed() != 0 || conn.door.Owed() != 0 {
+		t.Error(conn.Owed(), conn.door.Owed())
+	}
+}
+
 func TestFloods(t *testing.T) {
 	write := map[string]func(*http2.Framer, int){
 		"reset":    func(f *http2.Framer, i int) { f.WriteRSTStream(1, http2.ErrCodeCancel) },
@@ -149,6 +161,8 @@ func TestFloods(t *testing.T) {
 		"settings": func(f *http2.Framer, i int) { f.WriteSettings() },
 		"priority": func(f *http2.Framer, i int) { f.WritePriority(1, http2.PriorityParam{StreamDep: 3}) },
 		"empty":    func(f *http2.Framer, i int) { f.WriteData(1, false, nil) },
+		"small":    func(f *http2.Framer, i int) { f.WriteData(1, false, make([]byte, smallData-1)) },
+		"updates":  func(f *http2.Framer, i int) { f.WriteWindowUpdate(0, 1) },
 		"continued": func(f *http2.Framer, i int) {
 			f.AllowIllegalWrites = true
 			f.WriteContinuation(1, false, []byte{0})
@@ -171,6 +185,34 @@ func TestFloods(t *testing.T) {
 		}
 		if !bytes.Contains(inner.written.Bytes(), []byte{0, 0, 0, byte(http2.ErrCodeEnhanceYourCalm)}) {
 			t.Error(name, "is not told")
+		}
+	}
+}
+
+// TestSmallFramesOfABusyPeer has a peer that sends small frames for each of its requests, and one that
+// gives room for what it is sent.
+func TestSmallFramesOfABusyPeer(t *testing.T) {
+	out := new(bytes.Buffer)
+	frames := http2.NewFramer(out, nil)
+	for i := uint32(0); i < 5000; i++ {
+		frames.WriteHeaders(http2.HeadersFrameParam{StreamID: 2*i + 1, BlockFragment: []byte{0x82}, EndHeaders: true})
+		for range "abcd" {
+			frames.WriteData(2*i+1, false, []byte{0})
+			frames.WriteWindowUpdate(0, 1)
+		}
+		frames.WriteData(2*i+1, true, nil)
+	}
+	g := newGuard(100)
+	g.preface = 0
+	if err := g.look(out.Bytes(), time.Now); err != nil {
+		t.Error(err)
+	}
+	out.Reset()
+	frames.WriteWindowUpdate(0, 1<<14)
+	for i := 0; i < 5000; i++ {
+		g.wrote(1 << 14)
+		if err := g.look(out.Bytes(), time.Now); err != nil {
+			t.Fatal(i, err)
 		}
 	}
 }

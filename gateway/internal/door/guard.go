@@ -3,6 +3,7 @@ package door
 import (
 	"encoding/binary"
 	"fmt"
+	"sync/atomic"
 	"time"
 
 	"golang.org/x/net/http2"
@@ -17,7 +18,13 @@ const (
 
 	controlBurst = 1000 // frames such as RST_STREAM and PING at once, beside those of open streams
 	controlRate  = 100  // such frames a second
-	emptyBurst   = 1000 // DATA without bytes at once
+
+	// WINDOW_UPDATE, and DATA of few bytes that does not end its stream, are noted by grpc-go with more
+	// bytes than they have until they are taken. A peer may send them as often as the frames above, and
+	// more often the more it calls and is sent.
+	smallData       = 256
+	smallOfRequest  = 8    // such frames for each request
+	writtenForSmall = 1024 // one for so many bytes that were written
 )
 
 // Flood is the error of a connection that sends what a guard does not let pass.
@@ -35,14 +42,18 @@ type guard struct {
 	newest uint32 // the stream that was opened last
 
 	headerFrames, headerBytes int
-	empty                     int
-	control                   bucket
+	control, small            bucket
+	written                   atomic.Int64 // bytes that small has no frames for yet
 }
 
 func newGuard(streams uint32) *guard {
 	most := controlBurst + 4*float64(streams)
-	return &guard{preface: len(http2.ClientPreface), control: bucket{most: most, level: most}}
+	full := bucket{most: most, level: most}
+	return &guard{preface: len(http2.ClientPreface), control: full, small: full}
 }
+
+// wrote notes bytes that were written to the peer.
+func (g *guard) wrote(bytes int) { g.written.Add(int64(bytes)) }
 
 // look answers an error where bytes are not let pass.
 func (g *guard) look(p []byte, now func() time.Time) error {
@@ -87,19 +98,26 @@ func (g *guard) frame(now func() time.Time) error {
 	if !g.mayBeOn(kind, binary.BigEndian.Uint32(g.head[5:])&(1<<31-1)) {
 		return http2.ConnectionError(http2.ErrCodeProtocol)
 	}
+	of := &g.control
 	switch kind {
 	case http2.FrameHeaders, http2.FrameContinuation:
 		return g.headers(length, flags)
 	case http2.FrameData:
-		return g.data(length, flags)
+		if length >= smallData || flags.Has(http2.FlagDataEndStream) {
+			return nil
+		}
+		of = &g.small
 	case http2.FrameWindowUpdate:
-		return nil
+		of = &g.small
 	case http2.FrameSettings, http2.FramePing:
 		if flags.Has(http2.FlagPingAck) {
 			return nil
 		}
 	}
-	if !g.control.take(now()) {
+	if of == &g.small {
+		of.add(float64(g.written.Swap(0)) / writtenForSmall)
+	}
+	if !of.take(now()) {
 		return &Flood{fmt.Sprintf("too many frames of the kind %v", kind)}
 	}
 	return nil
@@ -129,17 +147,7 @@ func (g *guard) headers(length int, flags http2.Flags) error {
 	}
 	if flags.Has(http2.FlagHeadersEndHeaders) {
 		g.headerFrames, g.headerBytes = 0, 0
-	}
-	return nil
-}
-
-func (g *guard) data(length int, flags http2.Flags) error {
-	if length > 0 || flags.Has(http2.FlagDataEndStream) {
-		g.empty = 0
-		return nil
-	}
-	if g.empty++; g.empty > emptyBurst {
-		return &Flood{"too many frames without bytes"}
+		g.small.add(smallOfRequest)
 	}
 	return nil
 }
@@ -150,12 +158,16 @@ type bucket struct {
 	last        time.Time
 }
 
+func (b *bucket) add(places float64) {
+	b.level += places
+	if b.level > b.most {
+		b.level = b.most
+	}
+}
+
 func (b *bucket) take(now time.Time) bool {
 	if !b.last.IsZero() {
-		b.level += now.Sub(b.last).Seconds() * controlRate
-		if b.level > b.most {
-			b.level = b.most
-		}
+		b.add(now.Sub(b.last).Seconds() * controlRate)
 	}
 	b.last = now
 	if b.level < 1 {

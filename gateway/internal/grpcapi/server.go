@@ -3,12 +3,13 @@ package grpcapi
 
 import (
 	"context"
+	"io"
 	"strings"
 	"time"
 
 	"google.golang.org/grpc"
+	"google.golang.org/grpc/codes"
 	"google.golang.org/grpc/health"
-	healthpb "google.golang.org/grpc/health/grpc_health_v1"
 	"google.golang.org/grpc/keepalive"
 	"google.golang.org/grpc/metadata"
 	"google.golang.org/grpc/peer"
@@ -37,6 +38,9 @@ const (
 	// workers are goroutines that serve calls, as long as one is free: a new goroutine has its stack
 	// grow in each call. Stop must not be called with them, as a stream that comes meanwhile panics.
 	workers = 256
+
+	// mostOthers is how many calls of health and reflection may be under way.
+	mostOthers = 256
 )
 
 // Options of a server.
@@ -63,26 +67,46 @@ func NewServer(desk *calls.Desk, methods []*calls.Method, checks *health.Server,
 		grpc.KeepaliveEnforcementPolicy(keepalive.EnforcementPolicy{
 			MinTime: pingsApart, PermitWithoutStream: true}),
 		grpc.InTapHandle(limiter(desk.Deadline())),
+		grpc.StreamInterceptor(bounded(make(chan struct{}, mostOthers))),
 	)
 	for service, its := range byService(methods) {
 		server.RegisterService(description(desk, service, its), nil)
 	}
-	healthpb.RegisterHealthServer(server, checks)
+	registerHealth(server, checks)
 	reflection.Register(server)
 	return server
 }
 
-// limiter bounds the calls of the services by a deadline from their first byte on: a client that sends
-// a request slowly, or takes a response slowly, ends with it.
+// limiter bounds calls by a deadline from their first byte on: a client that sends a request slowly, or
+// takes a response slowly, ends with it. Watches and reflection have no end.
 func limiter(limit time.Duration) tap.ServerInHandle {
 	return func(ctx context.Context, info *tap.Info) (context.Context, error) {
-		if !strings.HasPrefix(info.FullMethodName, "/proto.control_plane.v1.") {
+		if !isOfDesk(info.FullMethodName) && info.FullMethodName != checkPath {
 			return ctx, nil
 		}
 		// The context of the stream, which is over with it, ends this one.
 		ctx, cancel := context.WithTimeout(ctx, limit)
 		_ = cancel
 		return ctx, nil
+	}
+}
+
+// isOfDesk answers whether a method is one that a desk serves, and bounds.
+func isOfDesk(path string) bool { return strings.HasPrefix(path, "/proto.control_plane.v1.") }
+
+// bounded has a place for each call that no desk bounds, from its first byte on.
+func bounded(places chan struct{}) grpc.StreamServerInterceptor {
+	return func(server any, stream grpc.ServerStream, info *grpc.StreamServerInfo, handler grpc.StreamHandler) error {
+		if isOfDesk(info.FullMethod) {
+			return handler(server, stream)
+		}
+		select {
+		case places <- struct{}{}:
+			defer func() { <-places }()
+			return handler(server, stream)
+		default:
+			return status.Errorf(codes.ResourceExhausted, "%d calls of health and reflection are under way", cap(places))
+		}
 	}
 }
 
@@ -97,33 +121,46 @@ func byService(methods []*calls.Method) map[string][]*calls.Method {
 func description(desk *calls.Desk, service string, methods []*calls.Method) *grpc.ServiceDesc {
 	it := &grpc.ServiceDesc{ServiceName: service, Metadata: methods[0].File}
 	for _, m := range methods {
-		it.Methods = append(it.Methods, grpc.MethodDesc{MethodName: m.Name, Handler: handler(desk, m)})
+		it.Streams = append(it.Streams, grpc.StreamDesc{StreamName: m.Name, Handler: handler(desk, m)})
 	}
 	return it
 }
 
-// handler serves a method by its bytes. The server has no interceptors.
-func handler(desk *calls.Desk, m *calls.Method) func(any, context.Context, func(any) error, grpc.UnaryServerInterceptor) (any, error) {
-	return func(_ any, ctx context.Context, decode func(any) error, _ grpc.UnaryServerInterceptor) (any, error) {
-		response, fault := desk.Serve(ctx, m, calls.Call{
+// handler serves a method by its bytes, as one of streams: grpc-go calls the handlers of others once the
+// request has come, and the desk would not bound how many are still to come.
+func handler(desk *calls.Desk, m *calls.Method) grpc.StreamHandler {
+	return func(_ any, stream grpc.ServerStream) error {
+		response, fault := desk.Serve(stream.Context(), m, calls.Call{
 			By:   numbers.GRPC,
-			Conn: connOf(ctx),
+			Conn: connOf(stream.Context()),
 			Read: func(context.Context) (request []byte, err error) {
-				err = decode((*Raw)(&request))
-				return request, err
+				err = stream.RecvMsg((*Raw)(&request))
+				return request, noEOF(err)
 			},
 		})
 		if fault == nil {
-			return Raw(response), nil
+			return stream.SendMsg(Raw(response))
 		}
 		if fault.Code != 0 {
-			grpc.SetTrailer(ctx, metadata.Pairs(calls.CodeKey, refusal.NumberOf(fault.Code)))
+			stream.SetTrailer(metadata.Pairs(calls.CodeKey, refusal.NumberOf(fault.Code)))
 		}
-		return nil, status.Error(fault.Status, fault.Text)
+		return status.Error(fault.Status, fault.Text)
 	}
 }
 
+// noEOF answers the error of a call without a request in the place of the end of its stream.
+func noEOF(err error) error {
+	if err == io.EOF {
+		return status.Error(codes.InvalidArgument, "the call has no request")
+	}
+	return err
+}
+
+// connOf answers the connection of a call, or nil where it is not known.
 func connOf(ctx context.Context) *door.Conn {
+	if it := door.FromContext(ctx); it != nil {
+		return it
+	}
 	if it, isThere := peer.FromContext(ctx); isThere {
 		return door.ConnOf(it.Addr)
 	}
