@@ -18,6 +18,7 @@ import time
 from collections.abc import Iterator, Sequence
 from contextlib import contextmanager
 from pathlib import Path
+from typing import Self
 
 from pathd_model import model
 from pathd_tools import TOP, messages
@@ -77,11 +78,16 @@ def scratch() -> Iterator[Path]:
         shutil.rmtree(folder, ignore_errors=True)
 
 
+def sum_of(program: str) -> str:
+    """The start of a program's SHA-256."""
+    return hashlib.sha256(Path(program).read_bytes()).hexdigest()[:12]
+
+
 def commit_name(program: str) -> str:
     """What the figures are of: the commit of this tree, and the start of the program's SHA-256."""
     words = ["git", "-C", str(TOP), "rev-parse", "--short=12", "HEAD"]
     commit = subprocess.run(words, capture_output=True, text=True, check=False).stdout.strip() or "no commit"
-    return f"commit {commit}, program {hashlib.sha256(Path(program).read_bytes()).hexdigest()[:12]}"
+    return f"commit {commit}, program {sum_of(program)}"
 
 
 def format_store(program: str, store: Path, layout: model.Layout, version: int = 2) -> None:
@@ -101,7 +107,50 @@ def connected(port: int, timeout: float = 60.0) -> socket.socket:
     return connection
 
 
-class Server:
+class Process:
+    """A program that serves until it is ended, whose standard error is kept in a file, and its output where `has_output` is true."""
+
+    def __init__(self, command: Sequence[str], notices: Path, env: dict | None = None, has_output: bool = False) -> None:
+        self.notices = notices
+        with open(notices, "wb") as lines:
+            output = lines if has_output else subprocess.DEVNULL
+            self.process = subprocess.Popen(command, stdin=subprocess.DEVNULL, stdout=output, stderr=lines, env={**os.environ, **(env or {})})
+
+    def _noticed(self, line: str) -> int:
+        """The port of a line that it has written, or is still to write."""
+        for _ in range(2000):
+            found = re.search(line, self.notices.read_text(), re.M)
+            if found:
+                return int(found.group(1))
+            if self.process.poll() is not None:
+                raise RuntimeError(f"the server ended: {self.notices.read_text()}")
+            time.sleep(0.005)
+        self.kill()
+        raise RuntimeError("the server doesn't listen")
+
+    def status(self, name: str) -> int:
+        """A number of /proc/PID/status, as VmRSS or VmHWM in KiB, or Threads."""
+        text = Path(f"/proc/{self.process.pid}/status").read_text()
+        return int(re.search(rf"^{name}:\s+(\d+)", text, re.M).group(1))
+
+    def descriptors(self) -> int:
+        """How many descriptors it has open."""
+        return len(os.listdir(f"/proc/{self.process.pid}/fd"))
+
+    def kill(self) -> None:
+        """Ends the program at once, as a crash does."""
+        if self.process.poll() is None:
+            self.process.send_signal(signal.SIGKILL)
+        self.process.wait()
+
+    def __enter__(self) -> Self:
+        return self
+
+    def __exit__(self, *_ended: object) -> None:
+        self.kill()
+
+
+class Server(Process):
     """A server of a store on the loopback, run by the words `under` where there are some. Port 0 is any free one."""
 
     def __init__(
@@ -115,27 +164,11 @@ class Server:
         under: Sequence[str] = (),
         port: int = 0,
     ) -> None:
-        self.notices = notices or Path(f"{store}.notices")
         command = [*under, program, "run", str(store), "--listen", f"127.0.0.1:{port}", *CORE_WORDS, *words]
         if limits:
             command = ["bash", "-c", f'{limits} && exec "$@"', "bash", *command]
-        with open(self.notices, "wb") as lines:
-            self.process = subprocess.Popen(
-                command, stdin=subprocess.DEVNULL, stdout=subprocess.DEVNULL, stderr=lines, env={**os.environ, **(env or {})}
-            )
+        super().__init__(command, notices or Path(f"{store}.notices"), env)
         self.port = self._noticed(r" at 127\.0\.0\.1:(\d+):")
-
-    def _noticed(self, line: str) -> int:
-        """The port of a line on standard error, which may be still to come."""
-        for _ in range(2000):
-            found = re.search(line, self.notices.read_text(), re.M)
-            if found:
-                return int(found.group(1))
-            if self.process.poll() is not None:
-                raise RuntimeError(f"the server ended: {self.notices.read_text()}")
-            time.sleep(0.005)
-        self.kill()
-        raise RuntimeError("the server doesn't listen")
 
     def status_port(self) -> int:
         """The port at which the server's numbers are asked for, where `--status` is among its words."""
@@ -148,23 +181,6 @@ class Server:
     def connect(self, timeout: float = 60.0, port: int = 0) -> socket.socket:
         """A connection to the server, at its first listener if no port is named."""
         return connected(port or self.port, timeout)
-
-    def status(self, name: str) -> int:
-        """A number of /proc/PID/status, as VmRSS or VmHWM in KiB, or Threads."""
-        text = Path(f"/proc/{self.process.pid}/status").read_text()
-        return int(re.search(rf"^{name}:\s+(\d+)", text, re.M).group(1))
-
-    def kill(self) -> None:
-        """Ends the server at once, as a crash does."""
-        if self.process.poll() is None:
-            self.process.send_signal(signal.SIGKILL)
-        self.process.wait()
-
-    def __enter__(self) -> Server:
-        return self
-
-    def __exit__(self, *_ended: object) -> None:
-        self.kill()
 
 
 class Replies:

@@ -59,13 +59,14 @@ ATTACKS = [
     Tool("refused-tests", "attacks.refused_tests", "refuses each allocation of each test"),
     Tool("refused", "attacks.refused", "refused-memory, refused-calls and refused-tests"),
     Tool("peers", "attacks.peers", "slow, silent, deaf and resetting peers, 10,000 connections, and the server's memory"),
+    Tool("web-peers", "attacks.web_peers", "hostile HTTP for the gateway and the pages of numbers, and the memory of both programs"),
     Tool("servers", "attacks.servers", "three servers with the same commands, each killed and started again in turn"),
     Tool("replicated", "attacks.replicated", "a store on three machines by GlusterFS: replicas, servers and machines lost, a split; as root"),
     Tool("soak", "attacks.soak", "a mixed load for an hour, with many checkpoints"),
     Tool("full-disk", "attacks.full_disk", "a file system that runs out of room; as root"),
     Tool("snapshots", "attacks.snapshots", "snapshots of a store beside its running server; as root"),
     Tool("planted", "attacks.planted", "faults in the program's sources, each of which power-cuts, histories or hostile has to see"),
-    Tool("attacks", "attacks.together", "power-cuts, histories, refused, peers, hostile, soak and planted, with a summary"),
+    Tool("attacks", "attacks.together", "power-cuts, histories, refused, peers, web-peers, hostile, soak and planted, with a summary"),
 ]
 
 LOAD = [

@@ -23,6 +23,7 @@ docs/RELIABILITY.md names. It needs Python 3, 10,100 descriptors, and the loopba
 """
 from __future__ import annotations
 
+import http.client
 import resource
 import select
 import socket
@@ -58,36 +59,34 @@ def registration(leaf: int, first: int, count: int, size: int) -> bytes:
     return messages.registration((model.DOWN, segment) for segment in segments)
 
 
-class Witness(threading.Thread):
-    """A session that asks all the time, and notes the latest reply."""
+class Asking(threading.Thread):
+    """A client that has to be served, and asks all the time until a reply is missing. It notes the latest reply."""
 
-    def __init__(self, server: runs.Server) -> None:
+    def __init__(self, name: str) -> None:
         super().__init__(daemon=True)
-        self.server = server
+        self.called = name
         self.latest = 0.0
         self.replies = 0
         self.faults: list[str] = []
         self.ended = threading.Event()
-        self.connection = server.connect(60)
+
+    def ask(self) -> str:
+        """Asks once, and answers what is wrong with the reply, or nothing."""
+        raise NotImplementedError
 
     def run(self) -> None:
-        replies = runs.Replies(self.connection)
-        commands = runs.Commands("witness", 12)
         while not self.ended.is_set():
-            is_lookup = commands.random.random() < 0.5
-            request = messages.lookup_frame(runs.LEAVES[1], runs.CORE_A) if is_lookup else messages.command_frame(commands.next(0, 0))
             begun = time.monotonic()
             try:
-                self.connection.sendall(request)
-                content = replies.next()
-            except OSError as fault:
-                self.faults.append(f"the session that has to be served: {fault}")
+                fault = self.ask()
+            except (OSError, ValueError, EOFError, http.client.HTTPException) as error:
+                self.faults.append(f"{self.called}: {error!r} after {time.monotonic() - begun:.1f} seconds")
                 return
             took = time.monotonic() - begun
             self.latest = max(self.latest, took)
             self.replies += 1
-            if content[0] != (0x82 if is_lookup else 0x81) or took > LATEST:
-                self.faults.append(f"the session that has to be served: {content[:2].hex()} after {took:.1f} seconds")
+            if fault or took > LATEST:
+                self.faults.append(f"{self.called}: {fault or 'a reply'} after {took:.1f} seconds")
             time.sleep(0.005)
 
     def take(self) -> tuple[int, float]:
@@ -95,6 +94,25 @@ class Witness(threading.Thread):
         taken = self.replies, self.latest
         self.replies, self.latest = 0, 0.0
         return taken
+
+
+class Witness(Asking):
+    """A session that asks all the time."""
+
+    def __init__(self, server: runs.Server) -> None:
+        super().__init__("the session that has to be served")
+        self.server = server
+        self.connection = server.connect(60)
+        self.contents = runs.Replies(self.connection)
+        self.commands = runs.Commands("witness", 12)
+
+    def ask(self) -> str:
+        """Looks up or registers."""
+        is_lookup = self.commands.random.random() < 0.5
+        request = messages.lookup_frame(runs.LEAVES[1], runs.CORE_A) if is_lookup else messages.command_frame(self.commands.next(0, 0))
+        self.connection.sendall(request)
+        content = self.contents.next()
+        return "" if content[0] == (0x82 if is_lookup else 0x81) else content[:2].hex()
 
 
 def read_all(connection: socket.socket, length: int) -> bytes:
@@ -119,12 +137,12 @@ class Attack:
         self.connections, self.seconds = connections, seconds
         self.faults: list[str] = []
 
-    def seated(self, count: int = MOST_SESSIONS - 1) -> list[socket.socket]:
-        """Connections with a session each, of which some may have to wait for the end of earlier ones."""
+    def seated(self, count: int = MOST_SESSIONS - 1, port: int = 0) -> list[socket.socket]:
+        """Connections with a session each, of which some may have to wait for the end of earlier ones; at the first listener if no port is named."""
         held: list[socket.socket] = []
         until = time.monotonic() + 30
         while len(held) < count and time.monotonic() < until:
-            connection = self.server.connect(60)
+            connection = self.server.connect(60, port)
             try:
                 connection.sendall(NOTHING)
                 if connection.recv(6) == FOUND_NOTHING:
@@ -338,6 +356,14 @@ def short_of_descriptors(program: str, folder: Path) -> list[str]:
     return faults
 
 
+def allow_descriptors(needed: int) -> None:
+    """Lets this process, and those that it starts, have so many descriptors; ends the tool where it may not."""
+    soft, hard = resource.getrlimit(resource.RLIMIT_NOFILE)
+    if hard != resource.RLIM_INFINITY and hard < needed:
+        raise SystemExit(f"{needed} descriptors are needed, and {hard} may be had: raise `ulimit -Hn`, or take fewer --connections")
+    resource.setrlimit(resource.RLIMIT_NOFILE, (max(soft, needed), hard))
+
+
 def main(words: list[str]) -> int:
     """Attacks, and prints what was measured."""
     parser = toolbox.parser(__doc__)
@@ -346,11 +372,7 @@ def main(words: list[str]) -> int:
     parser.add_argument("--seconds", type=int, default=21, help="how long peers are held")
     options = parser.parse_args(words)
     program = runs.program_of(options.program)
-    needed = options.connections + 100
-    soft, hard = resource.getrlimit(resource.RLIMIT_NOFILE)
-    if hard != resource.RLIM_INFINITY and hard < needed:
-        raise SystemExit(f"{needed} descriptors are needed, and {hard} may be had: raise `ulimit -Hn`, or take fewer --connections")
-    resource.setrlimit(resource.RLIMIT_NOFILE, (max(soft, needed), hard))
+    allow_descriptors(options.connections + 100)
     print(f"{runs.commit_name(program)}", flush=True)
     faults: list[str] = []
     with runs.scratch() as folder:

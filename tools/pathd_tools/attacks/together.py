@@ -1,5 +1,6 @@
 """Runs each tool that attacks the built program from outside: power cuts, histories, refusals,
-peers, hostile bytes and a soak, and planted faults. docs/RELIABILITY.md says what each tries.
+peers, also of HTTP, hostile bytes and a soak, and planted faults. docs/RELIABILITY.md says what each
+tries.
 
     tools/pathd-tools attacks [--short] [--only NAME ..] [--for MINUTES] [--seed N] [--jobs N] [--summary FILE] [PROGRAM]
 
@@ -14,8 +15,8 @@ that several can run side by side:
     histories             32 sessions, each of which sends 1 to 128 requests ahead
     histories-kills       the same, the server killed again and again
     refused               refused-memory, refused-calls and refused-tests
-    peers, hostile, soak, expiring
-                          the tools of these names
+    peers, web-peers, hostile, soak, expiring
+                          the tools of these names; web-peers builds the gateway
     loop                  what a loop device has of a store while the server is stopped; as root, by --only alone
     planted               faults in the sources, for which `rt` builds programs; by --only alone
 
@@ -24,7 +25,8 @@ is not cut off. Each line of the summary has when the attack ended, the start of
 SHA-256, the attack with its words, its status, how long it took and its last line. The summary is
 printed at the end with the whole SHA-256, and its lines are added to FILE as they come, which
 several runs may share. A part that fails gives the status 1. It needs Python 3 and gcc (apt-get
-install python3 gcc libc6-dev), 10,100 descriptors, and the loopback, and is no part of the gate.
+install python3 gcc libc6-dev), for web-peers what `gateway/build` names, 10,100 descriptors, and the
+loopback, and is no part of the gate.
 """
 from __future__ import annotations
 
@@ -69,6 +71,7 @@ ATTACKS = [
     attack("histories-kills", "histories", "--kills 11", "--replies 30000", "--replies 1000000", "program seed for"),
     attack("refused", "refused", "", "--short", "", "last"),
     attack("peers", "peers", "", "--connections 2000 --seconds 5", "", "program"),
+    attack("web-peers", "web-peers", "", "--connections 500 --seconds 5 --requests 4000", "", "program seed"),
     attack("hostile", "hostile", "", "--frames 60000 --images 4000", "--frames 1000000 --images 100000", "program seed jobs"),
     attack("expiring", "expiring", "", "--seconds 20", "--seconds 300", "program seed"),
     attack("soak", "soak", "", "--minutes 1 --rate 0", "--minutes 60 --rate 0", "program seed minutes"),
