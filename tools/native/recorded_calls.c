@@ -13,8 +13,8 @@
 // a journal alone), `chunks` (a checkpoint area), `half` (the gate of a half), `close` (the two gates
 // of a half). Every second sync of that kind isn't made, and the program isn't told.
 // CHECKPOINT and JOURNAL are the sizes of the store's parts in sectors, by which a write is judged.
-// Where PURGES_ALONE is set, only 'W' is written, and only of a write with the record of a purge.
-// tools/pathd_tools/recording.py uses it.
+// Where WRITES_ALONE is set, only 'W' is written. Where PURGES_ALONE is set, only 'W' is written, and
+// only of a write with the record of a purge. tools/pathd_tools/recording.py uses it.
 #define _GNU_SOURCE
 #include <dlfcn.h>
 #include <fcntl.h>
@@ -38,6 +38,7 @@ static __thread char last_kind[8] = "";
 static long syncs_of_kind;
 
 static int is_left_out(char letter, const void *bytes, size_t len) {
+  if (getenv("WRITES_ALONE")) return letter != 'W';
   return getenv("PURGES_ALONE") && (letter != 'W' || !memmem(bytes, len, PURGE, sizeof PURGE));
 }
 

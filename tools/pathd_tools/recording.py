@@ -184,17 +184,22 @@ class Stream:
     takes_commands: bool | None = None
 
 
-def own_purges(events: list[Event], layout: model.Layout) -> dict[int, tuple[int, tuple]]:
-    """The server's own purges by their places, each with the number of the event that first writes it, and the command."""
-    found: dict[int, tuple[int, tuple]] = {}
+def written_records(events: list[Event], layout: model.Layout) -> dict[int, tuple[int, bytes]]:
+    """The records of commands by their places, each with the number of the event that first writes it."""
+    found: dict[int, tuple[int, bytes]] = {}
     for number, event in enumerate(events):
         within = (event.offset // SECTOR - 1) % (layout.checkpoint + 1 + layout.journal)
         if event.letter != "W" or event.offset == 0 or within <= layout.checkpoint:
             continue
         for place, record in runs.records_of(event.content):
-            if runs.is_own_purge(record):
-                found.setdefault(place, (number, ("purge", int.from_bytes(record[1:], "big"))))
+            found.setdefault(place, (number, record))
     return found
+
+
+def own_purges(events: list[Event], layout: model.Layout) -> dict[int, tuple[int, tuple]]:
+    """The server's own purges by their places, each with the number of the event that first writes it, and the command."""
+    records = written_records(events, layout).items()
+    return {place: (number, ("purge", int.from_bytes(record[1:], "big"))) for place, (number, record) in records if runs.is_own_purge(record)}
 
 
 def judged(name: str, first: bytes, events: list[Event], layout: model.Layout) -> Recorded:

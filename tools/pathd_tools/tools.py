@@ -60,6 +60,7 @@ ATTACKS = [
     Tool("refused", "attacks.refused", "refused-memory, refused-calls and refused-tests"),
     Tool("peers", "attacks.peers", "slow, silent, deaf and resetting peers, 10,000 connections, and the server's memory"),
     Tool("web-peers", "attacks.web_peers", "hostile HTTP for the gateway and the pages of numbers, and the memory of both programs"),
+    Tool("hanging", "attacks.hanging", "a device that hangs for seconds, while clients give up with commands under way"),
     Tool("servers", "attacks.servers", "three servers with the same commands, each killed and started again in turn"),
     Tool("replicated", "attacks.replicated", "a store on three machines by GlusterFS: replicas, servers and machines lost, a split; as root"),
     Tool("soak", "attacks.soak", "a mixed load for an hour, with many checkpoints"),

@@ -47,7 +47,7 @@ import struct
 import time
 from collections import Counter
 from collections.abc import Iterator
-from dataclasses import dataclass, replace
+from dataclasses import dataclass, field, replace
 from itertools import accumulate, islice
 from pathlib import Path
 
@@ -155,7 +155,7 @@ def is_for_lookups(number: int, every: int) -> bool:
 @dataclass(frozen=True)
 class Round:
     """What a round left: what its sessions asked, the server's own purges by their places, the file after the kill, what `show`
-    prints of it, and when it began and ended."""
+    prints of it, when it began and ended, and by their places the commands that a library has seen written, where one has."""
 
     sessions: list[list[Asked]]
     own: dict[int, tuple]
@@ -163,6 +163,7 @@ class Round:
     printed: tuple[int, bytes, bytes]
     begun: float
     ended: float
+    written: dict[int, tuple] = field(default_factory=dict)
 
 
 class Fold:
@@ -205,11 +206,12 @@ class Fold:
 
 class Checker:
     """Folds the commands of one round after the other, and compares what was answered. Every so many sessions one is of the
-    listener for lookups; none is where that is 0."""
+    listener for lookups; none is where that is 0. Any command without a reply may have been refused where that is said."""
 
-    def __init__(self, pool: list[tuple], for_lookups: int = FOR_LOOKUPS) -> None:
+    def __init__(self, pool: list[tuple], for_lookups: int = FOR_LOOKUPS, may_refuse: bool = False) -> None:
         self.pool = pool
         self.for_lookups = for_lookups
+        self.may_refuse = may_refuse
         self.db: dict = {}
         self.place = 0
         self.faults: list[str] = []
@@ -228,7 +230,7 @@ class Checker:
         # One that was written when the server was killed may be in no journal.
         own = {place: command for place, command in ended.own.items() if place < end}
         self._check_own(own, placed, ended)
-        commands, sent, received = self._order(sessions, placed, own, opened, start, end)
+        commands, sent, received = self._order(ended, placed, own, opened, start, end)
         if commands is None:
             return
         answers = runs.Answers(runs.ASKED, self.db)
@@ -283,20 +285,21 @@ class Checker:
         return command[0] == "register" and any(model.row_of(segment).expiry <= 2 * answered + 1 for _, segment in command[1])
 
     def _order(
-        self, sessions: list[list[Asked]], placed: dict[int, Asked], own: dict[int, tuple], opened: model.Opened, start: int, end: int
+        self, ended: Round, placed: dict[int, Asked], own: dict[int, tuple], opened: model.Opened, start: int, end: int
     ) -> tuple[list[tuple] | None, list[int], list[int]]:
         """The commands of a round by place, with when they were sent and when their acknowledgements came."""
         if placed and not start <= min(placed) <= max(placed) < end:
             self.fault(f"a place outside of {start} to {end} was acknowledged, as the store opens to {end}")
             return None, [], []
         missing = [place for place in range(start, end) if place not in placed and place not in own]
-        wanted = [opened.commands[place - opened.place] if place >= opened.place else None for place in missing]
+        known = {**ended.written, **dict(enumerate(opened.commands, opened.place))}
+        wanted = [known.get(place) for place in missing]
         # A command came before whatever of a later place was acknowledged.
         before = list(accumulate((placed[place].received if place in placed else NEVER for place in reversed(range(start, end))), min))
         limits = [before[end - 1 - place] for place in missing]
         unanswered = [
             [it for it in session if it.kind == 0 and it.request < LOOKUPS and not is_for_lookups(number, self.for_lookups)]
-            for number, session in enumerate(sessions)
+            for number, session in enumerate(ended.sessions)
         ]
         found = None
         for fold in ([self._fold(placed, own, missing, end)] if None in wanted else []) + [None]:
@@ -316,8 +319,8 @@ class Checker:
             commands.append(self.pool[asked.request] if asked else own[place])
             sent.append(asked.sent if asked else 0)
             received.append(asked.received if asked else NEVER)
-        for place in range(max(start, opened.place), end):
-            if opened.commands[place - opened.place] != commands[place - start]:
+        for place, command in enumerate(commands, start):
+            if known.get(place, command) != command:
                 self.fault(f"the journal has another command at the place {place}")
         return commands, sent, received
 
@@ -343,16 +346,23 @@ class Checker:
         taken = [0] * len(unanswered)
         before: list[int] = []
         tried: list[list[tuple[int, int]]] = []
+        by_command: dict[tuple, list[tuple[int, int]]] = {}
+        for it, session in enumerate(unanswered):
+            for at, asked in enumerate(session):
+                by_command.setdefault(self.pool[asked.request], []).append((it, at))
         while True:
             is_whole = len(found) == len(wanted)
             if is_whole:
                 yield list(found)
             elif len(tried) == len(found):
                 command = wanted[len(found)]
-                able = [(it, at) for it, session in enumerate(unanswered) for at in self._next_of(session, taken[it])]
-                able = [(it, at) for it, at in able if command is None or self.pool[unanswered[it][at].request] == command]
+                if command is None:
+                    able = [(it, at) for it, session in enumerate(unanswered) for at in self._next_of(session, taken[it])]
+                else:
+                    able = [(it, at) for it, at in by_command.get(command, []) if at in self._next_of(unanswered[it], taken[it])]
                 able = [(it, at) for it, at in able if unanswered[it][at].sent < limits[len(found)]]
-                tried.append(sorted(able, key=lambda it: (unanswered[it[0]][it[1]].sent, it[1]), reverse=True))
+                passed_over = {(it, at): at - taken[it] if self.may_refuse else 0 for it, at in able}
+                tried.append(sorted(able, key=lambda it: (passed_over[it], unanswered[it[0]][it[1]].sent, it[1]), reverse=True))
             if not is_whole and tried[-1]:
                 session, at = tried[-1].pop()
                 if fold and not fold.push(unanswered[session][at]):
@@ -370,12 +380,15 @@ class Checker:
                 return
 
     def _next_of(self, session: list[Asked], first: int) -> Iterator[int]:
-        """The requests of a session, of which each may be its next one: those before it may have been refused, as their rows had expired."""
+        """The requests of a session, of which each may be its next one: those before it may have been refused."""
         for at in range(first, len(session)):
             yield at
-            command = self.pool[session[at].request]
-            if command[0] != "register" or all(model.row_of(segment).expiry > 2 * runs.MADE for _, segment in command[1]):
+            if not self.may_refuse and not self._may_expire(self.pool[session[at].request]):
                 return
+
+    def _may_expire(self, command: tuple) -> bool:
+        """Whether a command may be refused as its row had expired."""
+        return command[0] == "register" and any(model.row_of(segment).expiry <= 2 * runs.MADE for _, segment in command[1])
 
     def _check_times(self, sent: list[int], received: list[int], start: int) -> None:
         latest = 0

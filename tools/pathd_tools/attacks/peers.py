@@ -129,6 +129,19 @@ def read_all(connection: socket.socket, length: int) -> bytes:
     return data
 
 
+def watcher(server: runs.Server, request: bytes) -> socket.socket:
+    """A connection to the second listener of a server, over which this was sent."""
+    connection = socket.create_connection(("127.0.0.1", server.status_port()), 30)
+    connection.sendall(request)
+    return connection
+
+
+def page(server: runs.Server) -> str:
+    """A server's numbers, or what is sent in their place."""
+    with watcher(server, b"GET /metrics HTTP/1.1\r\nHost: here\r\n\r\n") as connection:
+        return read_all(connection, 1 << 20).decode()
+
+
 class Attack:
     """What is tried, one after the other."""
 
@@ -290,28 +303,17 @@ class Attack:
                 self.faults.append("a frame of the greatest size without a message isn't refused")
             connection.close()
 
-    def watcher(self, request: bytes) -> socket.socket:
-        """A connection to the second listener, over which this was sent."""
-        connection = socket.create_connection(("127.0.0.1", self.server.status_port()), 30)
-        connection.sendall(request)
-        return connection
-
-    def page(self) -> str:
-        """The server's numbers, or what is sent in their place."""
-        with self.watcher(b"GET /metrics HTTP/1.1\r\nHost: here\r\n\r\n") as connection:
-            return read_all(connection, 1 << 20).decode()
-
     def watchers(self) -> None:
         """Peers of the second listener."""
-        before = self.page()
-        held = [self.watcher(request) for request in (b"", b"GET /met", b"GET /metrics HTTP/1.1\r\nHost:")]
+        before = page(self.server)
+        held = [watcher(self.server, request) for request in (b"", b"GET /met", b"GET /metrics HTTP/1.1\r\nHost:")]
         for count in range(200):
-            connection = self.watcher(b"GET /metrics HTTP/1.1\r\n\r\n"[: count % 27])
+            connection = watcher(self.server, b"GET /metrics HTTP/1.1\r\n\r\n"[: count % 27])
             connection.setsockopt(socket.SOL_SOCKET, socket.SO_LINGER, struct.pack("ii", 1, 0))
             connection.close()
-        refused = [self.watcher(request) for request in (bytes(100), b"a" * 10_000, b"GET " + b"/" * 5_000)]
+        refused = [watcher(self.server, request) for request in (bytes(100), b"a" * 10_000, b"GET " + b"/" * 5_000)]
         begun = time.monotonic()
-        after = self.page()
+        after = page(self.server)
         print(f"    a page after {time.monotonic() - begun:.1f} seconds, beside {len(held)} peers that end no request")
         for connection in held:
             if read_all(connection, 1):
@@ -321,9 +323,9 @@ class Attack:
             if not read_all(connection, 32).startswith(b"HTTP/1.1 400 "):
                 self.faults.append("what is no request isn't answered by 400")
             connection.close()
-        for page in (before, after):
-            if not page.startswith("HTTP/1.1 200 OK\r\n") or "\npathd_stopped 0\n" not in page:
-                self.faults.append(f"the page is {page[:200]!r}")
+        for text in (before, after):
+            if not text.startswith("HTTP/1.1 200 OK\r\n") or "\npathd_stopped 0\n" not in text:
+                self.faults.append(f"the page is {text[:200]!r}")
         if before.partition("\npathd_replies_total")[2] == after.partition("\npathd_replies_total")[2]:
             self.faults.append("the page doesn't count the replies of the session beside it")
 

@@ -1,6 +1,6 @@
 """Runs each tool that attacks the built program from outside: power cuts, histories, refusals,
-peers, also of HTTP, hostile bytes and a soak, and planted faults. docs/RELIABILITY.md says what each
-tries.
+peers, also of HTTP, a device that hangs, hostile bytes and a soak, and planted faults.
+docs/RELIABILITY.md says what each tries.
 
     tools/pathd-tools attacks [--short] [--only NAME ..] [--for MINUTES] [--seed N] [--jobs N] [--summary FILE] [PROGRAM]
 
@@ -15,7 +15,7 @@ that several can run side by side:
     histories             32 sessions, each of which sends 1 to 128 requests ahead
     histories-kills       the same, the server killed again and again
     refused               refused-memory, refused-calls and refused-tests
-    peers, web-peers, hostile, soak, expiring
+    peers, web-peers, hanging, hostile, soak, expiring
                           the tools of these names; web-peers builds the gateway
     loop                  what a loop device has of a store while the server is stopped; as root, by --only alone
     planted               faults in the sources, for which `rt` builds programs; by --only alone
@@ -72,6 +72,7 @@ ATTACKS = [
     attack("refused", "refused", "", "--short", "", "last"),
     attack("peers", "peers", "", "--connections 2000 --seconds 5", "", "program"),
     attack("web-peers", "web-peers", "", "--connections 500 --seconds 5 --requests 4000", "", "program seed"),
+    attack("hanging", "hanging", "", "--rounds 2 --seconds 5", "--rounds 20 --seconds 20", "program seed"),
     attack("hostile", "hostile", "", "--frames 60000 --images 4000", "--frames 1000000 --images 100000", "program seed jobs"),
     attack("expiring", "expiring", "", "--seconds 20", "--seconds 300", "program seed"),
     attack("soak", "soak", "", "--minutes 1 --rate 0", "--minutes 60 --rate 0", "program seed minutes"),
