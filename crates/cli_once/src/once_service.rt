@@ -166,6 +166,12 @@ impl<V: Verifier> Service for OnceService<'_, V> {
 
     ghost is_for = { λ _ _ _. ⊥ };
 
+    ghost Sent = { Unit {0} };
+
+    ghost sent = { λ _. tt };
+
+    ghost hands_in = { λ _ _ _. Unit {0} };
+
     fn register(&mut self, alloc: Global, message: &[u8]) -> Result<Ack, Code> {
         Ok(self.accept(alloc, message)?)
     }

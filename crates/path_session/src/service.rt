@@ -333,6 +333,8 @@ impl<D: Device, N: HubName, R: Wait + Clock, V: Verifier, C: Now, P: Waiter> Ser
     ghost use Rattle.path_session.specs.Answered.{HubAnswers};
     ghost use Rattle.path_session.specs.Kept.{serving};
     ghost use Rattle.path_session.specs.UnderWay.{IsFor};
+    ghost use Rattle.path_session.specs.Sending.{HandsInAtMost};
+    ghost use Rattle.command_queue.specs.Handed.{Handed};
 
     type UnderWay = HubUnderWay<N>;
 
@@ -343,6 +345,12 @@ impl<D: Device, N: HubName, R: Wait + Clock, V: Verifier, C: Now, P: Waiter> Ser
     ghost answers = { HubAnswers N.opening N.refused };
 
     ghost is_for = { λ service under_way message. IsFor N.refused service.verifies under_way message };
+
+    ghost Sent = { Handed };
+
+    ghost sent = { λ service. service.sender };
+
+    ghost hands_in = { λ old message new. HandsInAtMost message old new };
 
     fn register(&mut self, alloc: Global, message: &[u8]) -> Result<Ack, Code>
         ensures answers { HubAnswers N.opening N.refused (serving V.verifies P.has_left self.old)
@@ -394,11 +402,13 @@ impl<D: Device, N: HubName, R: Wait + Clock, V: Verifier, C: Now, P: Waiter> Ser
     }
 
     /// Where a registration is taken that was read, its moment is the one that the clock gave last.
+    #[tactic(auto, using(crate::proofs::Sending::registration_sent, crate::proofs::Sending::purge_sent, crate::proofs::Sending::removal_sent))]
     fn hand_in(&mut self, alloc: Global, message: Message<&[u8]>) -> Option<HubUnderWay<N>>
         ensures command { IfSome result (λ _. IsSome (command_kind (message_at message.entry))) }
         ensures known { IfSome result (λ under_way. IsFor N.refused (serving V.verifies P.has_left self.new).verifies under_way (message_at message.entry)) }
         ensures same { serving V.verifies P.has_left self.new ≡ serving V.verifies P.has_left self.old }
-        ensures sent { MatchOption result (self.new.sender ≡ self.old.sender) (λ under_way. HandsIn under_way.handed self.old.sender self.new.sender) }
+        ensures sent { MatchOption result (self.new.sender ≡ self.old.sender) (λ _. HandsInAtMost (message_at message.entry) self.old.sender self.new.sender) }
+        ensures handed { IfSome result (λ under_way. HandsIn under_way.handed self.old.sender self.new.sender) }
         ensures clock { IfSome result (λ under_way. IfSome under_way.moment (λ moment. moment ≡ C.moment self.new.clock)) }
     {
         match message {

@@ -1,6 +1,6 @@
 //! Services, which answer the messages of a session.
 
-ghost use Rattle.std.specs.Prelude.{◌≡◌, ◌≤◌, length, IfOk, IfSome, IsSome, Some};
+ghost use Rattle.std.specs.Prelude.{◌≡◌, ◌≤◌, length, IfOk, IfSome, IsSome, MatchOption, Some};
 ghost use Rattle.std.specs.List.{AllByRecursion};
 ghost use Rattle.std.specs.Borrow.{GName};
 ghost use Rattle.seg_core.specs.Encoding.{IsSegment};
@@ -64,44 +64,63 @@ pub trait Service {
     /// In this state it is known that this is under way for the message.
     ghost is_for: { State → Self.UnderWay → MessageView → Type 0 };
 
+    /// What contracts see of the commands that were handed in to what keeps them, such as a hub.
+    ghost Sent: { Type 0 };
+
+    /// What a service has handed in.
+    ghost sent: { Self → Sent };
+
+    /// To take the message leads from the first to the second: at most the message's own command is
+    /// handed in, once.
+    ghost hands_in: { Sent → MessageView → Sent → Type 0 };
+
     /// Answers the body of a registration.
     fn register(&mut self, alloc: Global, message: &[u8]) -> Result<Ack, Code>
-        ensures { answers (state self.old) (Register message.now) (reply_to_register result) (state self.new) };
+        ensures answers { answers (state self.old) (Register message.now) (reply_to_register result) (state self.new) }
+        ensures sent { hands_in (sent self.old) (Register message.now) (sent self.new) };
 
-    /// Answers the body of a lookup: segments of one type.
+    /// Answers the body of a lookup: segments of one type. Nothing is handed in.
     fn lookup(&mut self, alloc: Global, message: &[u8]) -> Result<(SegType, Vec<Segment>), Code>
         ensures answers { answers (state self.old) (Lookup message.now) (reply_to_lookup result) (state self.new) }
         ensures few { IfOk result (λ found. length found.1.items ≤ MOST_SEGMENTS) }
-        ensures whole { IfOk result (λ found. AllByRecursion IsSegment found.1.items) };
+        ensures whole { IfOk result (λ found. AllByRecursion IsSegment found.1.items) }
+        ensures sent { sent self.new ≡ sent self.old };
 
     /// Answers a purge of the rows that expire at this moment or before, in half seconds since
     /// 1970.
     fn purge(&mut self, moment: u64) -> Result<Ack, Code>
-        ensures { answers (state self.old) (Purge moment) (reply_to_purge result) (state self.new) };
+        ensures answers { answers (state self.old) (Purge moment) (reply_to_purge result) (state self.new) }
+        ensures sent { hands_in (sent self.old) (Purge moment) (sent self.new) };
 
     /// Answers the removal of a segment by the byte of its type, which can be any byte, and its id.
     fn remove(&mut self, kind: u8, id: &[u8; 32]) -> Result<Ack, Code>
-        ensures { answers (state self.old) (Remove kind id.now) (reply_to_remove result) (state self.new) };
+        ensures answers { answers (state self.old) (Remove kind id.now) (reply_to_remove result) (state self.new) }
+        ensures sent { hands_in (sent self.old) (Remove kind id.now) (sent self.new) };
 
-    /// Answers a list: a page of segments of one type. The number of the type can be any byte.
+    /// Answers a list: a page of segments of one type. The number of the type can be any byte. Nothing
+    /// is handed in.
     fn list(&mut self, alloc: Global, request: &ListRequest) -> Result<Listing, Code>
         ensures answers { answers (state self.old) (List request.now) (reply_to_list result) (state self.new) }
         ensures few { IfOk result (λ listing. length listing.segments.items ≤ MOST_SEGMENTS) }
-        ensures whole { IfOk result (λ listing. AllByRecursion IsSegment listing.segments.items) };
+        ensures whole { IfOk result (λ listing. AllByRecursion IsSegment listing.segments.items) }
+        ensures sent { sent self.new ≡ sent self.old };
 
     /// Takes a command ahead of its reply. `None` means that the service takes the message only
-    /// when all messages before it are answered, as each lookup and each list. A refusal is no
-    /// `None`: it is the answer of `settle`.
+    /// when all messages before it are answered, as each lookup and each list. Nothing is handed in
+    /// then. A refusal is no `None`: it is the answer of `settle`.
     fn hand_in(&mut self, alloc: Global, message: Message<&[u8]>) -> Option<Self::UnderWay>
         ensures command { IfSome result (λ _. IsSome (command_kind (message_at message.entry))) }
         ensures known { IfSome result (λ under_way. is_for (state self.new) under_way (message_at message.entry)) }
-        ensures same { state self.new ≡ state self.old };
+        ensures same { state self.new ≡ state self.old }
+        ensures sent { MatchOption result (sent self.new ≡ sent self.old) (λ _. hands_in (sent self.old) (message_at message.entry) (sent self.new)) };
 
-    /// Answers a command that was handed in. It is known of the others what was known before.
+    /// Answers a command that was handed in. It is known of the others what was known before. Nothing
+    /// more is handed in.
     fn settle(&mut self, under_way: Self::UnderWay) -> Result<Ack, Code>
         ensures answers { (message : MessageView) (kind : KindOfCommand) → is_for (state self.old) under_way message → command_kind message ≡ Some kind
             → answers (state self.old) message (reply_to_kind kind result) (state self.new) }
-        ensures others { (other : Self.UnderWay) (message : MessageView) → is_for (state self.old) other message → is_for (state self.new) other message };
+        ensures others { (other : Self.UnderWay) (message : MessageView) → is_for (state self.old) other message → is_for (state self.new) other message }
+        ensures sent { sent self.new ≡ sent self.old };
 }
 
 /// A borrowed service answers as the service itself does.
@@ -115,6 +134,12 @@ impl<S: Service> Service for &mut S {
     ghost answers = { AnswersBehind S.answers };
 
     ghost is_for = { λ behind. S.is_for behind.0 };
+
+    ghost Sent = { S.Sent };
+
+    ghost sent = { λ service. S.sent service.now };
+
+    ghost hands_in = { S.hands_in };
 
     fn register(&mut self, alloc: Global, message: &[u8]) -> Result<Ack, Code> {
         (**self).register(alloc, message)

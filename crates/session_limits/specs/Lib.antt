@@ -1,2 +1,3 @@
 pub mod Future
 pub mod Limits
+pub mod Sending

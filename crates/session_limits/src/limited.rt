@@ -1,12 +1,13 @@
 //! A service that refuses some messages before another one is asked.
 
-ghost use Rattle.std.specs.Prelude.{◌≡◌, true, false, Some, None, IsSome, IfSome, OnErr, is_some};
+ghost use Rattle.std.specs.Prelude.{◌≡◌, true, false, Some, None, IsSome, IfSome, MatchOption, OnErr, is_some};
 ghost use Rattle.session_core.specs.Commands.{command_kind};
 ghost use Rattle.session_core.specs.Frames.{MessageView};
 ghost use Rattle.session_core.specs.Front.{message_at};
 ghost use Rattle.session_core.specs.declared.message.Message.TheVariants.{Register, Purge, Remove};
 ghost use Rattle.session_limits.specs.declared.limit.Limit.TheVariants.{Future, NoCommands};
 ghost use Rattle.session_limits.specs.Limits.{limited, after_judging, IsAdmission, IsLimitedFor};
+ghost use Rattle.session_limits.specs.Sending.{limited_sent, LimitedHandsIn};
 
 use crate::future::{is_after, is_one_after};
 use crate::limit::Limit;
@@ -134,6 +135,8 @@ impl<'a, S: Service, C: Now, R: Clock> Limited<'a, S, C, R> {
         ensures clock { IfSome result.moment (λ moment. moment ≡ C.moment self.new.clock) }
         ensures same { limited S.state self.new ≡ limited S.state self.old }
         ensures untouched { self.new.inner ≡ self.old.inner }
+        ensures sent { limited_sent S.sent self.new ≡ limited_sent S.sent self.old }
+        ensures taken { result.limit ≡ None → self.old.commands ≡ true }
     {
         if !self.commands {
             return not_taken();
@@ -148,6 +151,8 @@ impl<'a, S: Service, C: Now, R: Clock> Limited<'a, S, C, R> {
         ensures clock { IfSome result.moment (λ moment. moment ≡ C.moment self.new.clock) }
         ensures same { limited S.state self.new ≡ limited S.state self.old }
         ensures untouched { self.new.inner ≡ self.old.inner }
+        ensures sent { limited_sent S.sent self.new ≡ limited_sent S.sent self.old }
+        ensures taken { result.limit ≡ None → self.old.commands ≡ true }
     {
         if !self.commands {
             return not_taken();
@@ -162,6 +167,8 @@ impl<'a, S: Service, C: Now, R: Clock> Limited<'a, S, C, R> {
         ensures clock { IfSome result.moment (λ moment. moment ≡ C.moment self.new.clock) }
         ensures same { limited S.state self.new ≡ limited S.state self.old }
         ensures untouched { self.new.inner ≡ self.old.inner }
+        ensures sent { limited_sent S.sent self.new ≡ limited_sent S.sent self.old }
+        ensures taken { result.limit ≡ None → self.old.commands ≡ true }
     {
         if !self.commands {
             return not_taken();
@@ -177,6 +184,7 @@ impl<'a, S: Service, C: Now, R: Clock> Limited<'a, S, C, R> {
         ensures clock { IfSome result.moment (λ moment. moment ≡ C.moment self.new.clock) }
         ensures same { limited S.state self.new ≡ limited S.state self.old }
         ensures untouched { self.new.inner ≡ self.old.inner }
+        ensures sent { limited_sent S.sent self.new ≡ limited_sent S.sent self.old }
     {
         let Some(bound) = self.future else {
             return unjudged();
@@ -201,6 +209,7 @@ impl<'a, S: Service, C: Now, R: Clock> Limited<'a, S, C, R> {
         ensures clock { IfSome result.moment (λ moment. moment ≡ C.moment self.new.clock) }
         ensures same { limited S.state self.new ≡ limited S.state self.old }
         ensures untouched { self.new.inner ≡ self.old.inner }
+        ensures sent { limited_sent S.sent self.new ≡ limited_sent S.sent self.old }
     {
         let Some(bound) = self.future else {
             return unjudged();
@@ -219,6 +228,7 @@ impl<'a, S: Service, C: Now, R: Clock> Limited<'a, S, C, R> {
         ensures clock { self.new.clock ≡ self.old.clock }
         ensures same { limited S.state self.new ≡ limited S.state self.old }
         ensures untouched { self.new.inner ≡ self.old.inner }
+        ensures sent { limited_sent S.sent self.new ≡ limited_sent S.sent self.old }
     {
         if judged.limit.is_some() || self.enter() {
             return judged;
@@ -237,6 +247,7 @@ impl<'a, S: Service, C: Now, R: Clock> Limited<'a, S, C, R> {
         ensures same { limited S.state self.new ≡ limited S.state self.old }
         ensures untouched { self.new.inner ≡ self.old.inner }
         ensures clock { self.new.clock ≡ self.old.clock }
+        ensures sent { limited_sent S.sent self.new ≡ limited_sent S.sent self.old }
     {
         let Some(rooms) = self.rooms else {
             return true;
@@ -258,6 +269,7 @@ impl<'a, S: Service, C: Now, R: Clock> Limited<'a, S, C, R> {
         ensures same { limited S.state self.new ≡ limited S.state self.old }
         ensures inner { self.new.inner ≡ self.old.inner }
         ensures clock { self.new.clock ≡ self.old.clock }
+        ensures sent { limited_sent S.sent self.new ≡ limited_sent S.sent self.old }
     {
         self.under_way = self.under_way.saturating_add(1);
     }
@@ -267,6 +279,7 @@ impl<'a, S: Service, C: Now, R: Clock> Limited<'a, S, C, R> {
         ensures same { limited S.state self.new ≡ limited S.state self.old }
         ensures inner { self.new.inner ≡ self.old.inner }
         ensures clock { self.new.clock ≡ self.old.clock }
+        ensures sent { limited_sent S.sent self.new ≡ limited_sent S.sent self.old }
     {
         self.under_way = self.under_way.saturating_sub(1);
         self.leave();
@@ -277,6 +290,7 @@ impl<'a, S: Service, C: Now, R: Clock> Limited<'a, S, C, R> {
         ensures same { limited S.state self.new ≡ limited S.state self.old }
         ensures inner { self.new.inner ≡ self.old.inner }
         ensures clock { self.new.clock ≡ self.old.clock }
+        ensures sent { limited_sent S.sent self.new ≡ limited_sent S.sent self.old }
     {
         if self.under_way == 0 {
             self.room = None;
@@ -288,6 +302,7 @@ impl<'a, S: Service, C: Now, R: Clock> Limited<'a, S, C, R> {
         ensures view { limited S.state self.new ≡ after_judging (limited S.state self.old) moment }
         ensures inner { self.new.inner ≡ self.old.inner }
         ensures clock { self.new.clock ≡ self.old.clock }
+        ensures sent { limited_sent S.sent self.new ≡ limited_sent S.sent self.old }
     {
         if let Some(moment) = moment {
             self.moment = moment;
@@ -333,6 +348,7 @@ fn judged(now: u64, is_future: bool) -> Admission
 /// is in its hands until `settle`.
 impl<S: Service, C: Now, R: Clock> Service for Limited<'_, S, C, R> {
     ghost use Rattle.session_limits.specs.Limits.{LimitedView, limited, LimitedAnswers, IsLimitedFor};
+    ghost use Rattle.session_limits.specs.Sending.{LimitedSent, limited_sent, LimitedHandsIn};
 
     type UnderWay = LimitedCommand<S::UnderWay>;
 
@@ -343,6 +359,12 @@ impl<S: Service, C: Now, R: Clock> Service for Limited<'_, S, C, R> {
     ghost answers = { LimitedAnswers S.answers };
 
     ghost is_for = { IsLimitedFor S.is_for };
+
+    ghost Sent = { LimitedSent S.Sent };
+
+    ghost sent = { limited_sent S.sent };
+
+    ghost hands_in = { LimitedHandsIn S.hands_in };
 
     fn register(&mut self, alloc: Global, message: &[u8]) -> Result<Ack, Code> {
         let admission = self.admit_registration(alloc, message);
@@ -394,6 +416,8 @@ impl<S: Service, C: Now, R: Clock> Service for Limited<'_, S, C, R> {
         ensures command { IfSome result (λ _. IsSome (command_kind (message_at message.entry))) }
         ensures known { IfSome result (λ command. IsLimitedFor S.is_for (limited S.state self.new) command (message_at message.entry)) }
         ensures same { limited S.state self.new ≡ limited S.state self.old }
+        ensures sent { MatchOption result (limited_sent S.sent self.new ≡ limited_sent S.sent self.old)
+            (λ _. LimitedHandsIn S.hands_in (limited_sent S.sent self.old) (message_at message.entry) (limited_sent S.sent self.new)) }
         ensures untouched { IfSome result (λ command. OnErr command.taken (self.new.inner ≡ self.old.inner)) }
         ensures clock { IfSome result (λ command. IfSome command.moment (λ moment. moment ≡ C.moment self.new.clock)) }
     {

@@ -80,6 +80,12 @@ impl<S: Service, K: Clock> Service for Counted<'_, S, K> {
 
     ghost is_for = { λ state counted message. S.is_for state counted.under_way message };
 
+    ghost Sent = { S.Sent };
+
+    ghost sent = { λ counted. S.sent counted.service };
+
+    ghost hands_in = { S.hands_in };
+
     fn register(&mut self, alloc: Global, message: &[u8]) -> Result<Ack, Code> {
         let answered = self.service.register(alloc, message);
         self.count_command(CommandKind::Register, &answered);

@@ -24,6 +24,12 @@ impl<S: Service> Service for Busy<'_, S> {
 
     ghost is_for = { S.is_for };
 
+    ghost Sent = { S.Sent };
+
+    ghost sent = { λ busy. S.sent busy.service };
+
+    ghost hands_in = { S.hands_in };
+
     fn register(&mut self, alloc: Global, message: &[u8]) -> Result<Ack, Code> {
         self.clock.pass(self.takes);
         self.service.register(alloc, message)

@@ -65,6 +65,12 @@ impl Service for Desk {
 
     ghost is_for = { λ _ _ _. Unit {0} };
 
+    ghost Sent = { Unit {0} };
+
+    ghost sent = { λ _. tt };
+
+    ghost hands_in = { λ _ _ _. Unit {0} };
+
     fn register(&mut self, _alloc: Global, _message: &[u8]) -> Result<Ack, Code> {
         self.note(b'c');
         Ok(self.ack(0))

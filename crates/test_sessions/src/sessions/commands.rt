@@ -43,6 +43,12 @@ impl Service for Counter {
 
     ghost is_for = { λ _ _ _. ⊥ };
 
+    ghost Sent = { Unit {0} };
+
+    ghost sent = { λ _. tt };
+
+    ghost hands_in = { λ _ _ _. Unit {0} };
+
     fn register(&mut self, _alloc: Global, _message: &[u8]) -> Result<Ack, Code> {
         Ok(self.ack(0, 0))
     }

@@ -49,6 +49,12 @@ impl Service for Shelf {
 
     ghost is_for = { λ _ _ _. ⊥ };
 
+    ghost Sent = { Unit {0} };
+
+    ghost sent = { λ _. tt };
+
+    ghost hands_in = { λ _ _ _. Unit {0} };
+
     fn register(&mut self, _alloc: Global, _message: &[u8]) -> Result<Ack, Code> {
         Err(Code(0x64))
     }
