@@ -25,6 +25,9 @@ type Conn struct {
 	guard *guard       // of HTTP/2
 	skip  skip         // the settings that a server of HTTP/2 writes, which the door has sent
 
+	writing sync.Mutex // held while bytes of HTTP/2 are written
+	bound   bound      // where the last written frame ends
+
 	owed atomic.Int64 // bytes of replies that the peer has not taken yet
 	took atomic.Int64 // when it has last taken some, or begun to owe, in Unix nanoseconds
 }
@@ -62,13 +65,25 @@ func (c *Conn) Write(p []byte) (int, error) {
 	if len(left) == 0 {
 		return len(p), nil
 	}
-	n, err := c.Conn.Write(left)
+	n, err := c.write(left)
 	c.took.Store(time.Now().UnixNano())
 	c.pay(int64(n))
 	if c.guard != nil {
 		c.guard.wrote(n)
 	}
 	return len(p) - len(left) + n, err
+}
+
+// write writes, and notes where a frame of HTTP/2 ends.
+func (c *Conn) write(p []byte) (int, error) {
+	if c.guard == nil {
+		return c.Conn.Write(p)
+	}
+	c.writing.Lock()
+	defer c.writing.Unlock()
+	n, err := c.Conn.Write(p)
+	c.bound.pass(p[:n])
+	return n, err
 }
 
 // Owe notes that so many bytes of a reply are about to be written, and answers how many this connection

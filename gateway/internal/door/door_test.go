@@ -127,6 +127,26 @@ func TestTheServersSettingsAreCut(t *testing.T) {
 	}
 }
 
+func TestNothingIsSentWithinAFrame(t *testing.T) {
+	var settings, ping bytes.Buffer
+	http2.NewFramer(&settings, nil).WriteSettings()
+	http2.NewFramer(&ping, nil).WritePing(true, [8]byte{1})
+	for size := 0; size <= ping.Len(); size++ {
+		conn, inner := connOf(bytes.NewReader(request("application/grpc", false)))
+		if _, err := conn.sniff(); err != nil {
+			t.Fatal(err)
+		}
+		conn.Write(append(settings.Bytes(), ping.Bytes()...))
+		conn.Write(ping.Bytes()[:size])
+		before := inner.written.Len()
+		conn.goAway(&Flood{"a test"})
+		isWhole, isSent := size == 0 || size == ping.Len(), inner.written.Len() > before
+		if isWhole != isSent {
+			t.Errorf("after %d bytes: %v", size, isSent)
+		}
+	}
+}
+
 func TestWhatIsOwed(t *testing.T) {
 	conn, _ := connOf(bytes.NewReader(nil))
 	conn.Owe(100)

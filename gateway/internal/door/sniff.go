@@ -117,7 +117,8 @@ func kindOf(headers *http2.MetaHeadersFrame) Kind {
 	return HTTP2
 }
 
-// goAway tells a peer of HTTP/2 why its connection is about to be closed.
+// goAway tells a peer of HTTP/2 why its connection is about to be closed. A peer that has been sent a
+// part of a frame is told nothing, as a server may write a frame in two pieces.
 func (c *Conn) goAway(reason error) {
 	code := http2.ErrCodeProtocol
 	var of http2.ConnectionError
@@ -130,7 +131,12 @@ func (c *Conn) goAway(reason error) {
 	case errors.Is(reason, http2.ErrFrameTooLarge):
 		code = http2.ErrCodeFrameSize
 	}
-	c.Conn.SetWriteDeadline(time.Now().Add(time.Second))
+	c.Conn.SetWriteDeadline(time.Now().Add(time.Second)) // ends a write that is under way, too
+	c.writing.Lock()
+	defer c.writing.Unlock()
+	if !c.bound.isWhole() {
+		return
+	}
 	http2.NewFramer(c.Conn, nil).WriteGoAway(0, code, []byte(reason.Error()))
 }
 
@@ -160,3 +166,32 @@ func (s *skip) cut(p []byte) []byte {
 	}
 	return p
 }
+
+// bound knows where the frames end that are written.
+type bound struct {
+	left int    // bytes of a frame that are still to come after its head
+	head []byte // what was written of a head
+}
+
+// pass notes bytes that were written.
+func (b *bound) pass(p []byte) {
+	for len(p) > 0 {
+		if b.left >= len(p) {
+			b.left -= len(p)
+			return
+		}
+		p, b.left = p[b.left:], 0
+		n := frameHead - len(b.head)
+		if n > len(p) {
+			n = len(p)
+		}
+		b.head, p = append(b.head, p[:n]...), p[n:]
+		if len(b.head) == frameHead {
+			b.left = int(b.head[0])<<16 | int(b.head[1])<<8 | int(b.head[2])
+			b.head = b.head[:0]
+		}
+	}
+}
+
+// isWhole answers whether what was written ends with a whole frame.
+func (b *bound) isWhole() bool { return b.left == 0 && len(b.head) == 0 }
