@@ -26,6 +26,7 @@ LIBRARIES = [
     Tool("store", "store.sh", "opening a store and its checkpoint at rest, beside LevelDB and SQLite"),
     Tool("journal", "journal.sh", "a journal written and scanned, beside LevelDB's log"),
     Tool("rows", "rows.sh", "registrations into 1,000 to 1,000,000 rows, and purges of them"),
+    Tool("visits", "visits", "how many rows lookups and a purge visit, among 1,000 to 1,000,000"),
     Tool("walks", "walks.sh", "a lookup among 1,000, 20,000 and 200,000 rows, beside LMDB"),
     Tool("segments", "segments.sh", "copies of segments, and their memory"),
     Tool("device-memory", "device_memory.sh", "memory of a device in memory"),

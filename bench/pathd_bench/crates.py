@@ -27,6 +27,7 @@ PROGRAMS = {
     "rows": "path_db seg_core",
     "segments": "seg_core",
     "stores": "store_open sector_dev path_db",
+    "visits": "path_db seg_core isd_as",
     "walks": "seg_lookup path_db seg_core isd_as",
 }
 
