@@ -7,6 +7,7 @@ use Rattle.session_core.specs.declared.error.FrameError.{FrameError}
 use Rattle.session_core.specs.declared.error.FrameError.TheVariants as error
 use Rattle.session_core.specs.declared.source.TheConstants.{MOST_READS}
 use Rattle.session_core.specs.Frames.{MessageView}
+use Rattle.session_core.specs.HandedIn.{HandsInFromSource}
 use Rattle.session_core.specs.Reply.{ReplyView}
 use Rattle.session_core.specs.Session.{IsServed, IsSentFor}
 use Rattle.session_core.proofs.AtOnce.{ends_at_once, fails_at_once}
@@ -51,6 +52,19 @@ module _ {S P T : Type 0} (answers : S → MessageView → ReplyView → S → T
       → FoldsTo (λ a bytes b. given (stream b) ≡ given (stream a) ++ bytes) old pieces new → FoldsTo (λ a bytes b. given b ≡ given a ++ bytes) (stream old) pieces (stream new)
   reads_through old [] new same = ap stream same
   reads_through old (piece ∷ pieces) new (next, first, rest) = (stream next, first, reads_through next pieces new rest)
+
+  -- what was handed in from what reads the connection was handed in from the connection
+  pub handed_in_through : {X : Type 0} (hands_in : X → MessageView → X → Type 0) (reader reader_left : P) (input input_left : T) (x y : X)
+      → HandsInFromSource hands_in (λ a bytes b. given (stream b) ≡ given (stream a) ++ bytes) MOST_READS reader reader_left x y → stream reader ≡ input → input_left ≡ stream reader_left
+      → HandsInFromSource hands_in (λ a bytes b. given b ≡ given a ++ bytes) MOST_READS input input_left x y
+  handed_in_through hands_in reader reader_left input input_left x y h begins ends =
+      subst (λ (u : T). HandsInFromSource hands_in (λ a bytes b. given b ≡ given a ++ bytes) MOST_READS input u x y) (sym ends)
+      (subst (λ (u : T). HandsInFromSource hands_in (λ a bytes b. given b ≡ given a ++ bytes) MOST_READS u (stream reader_left) x y) begins (record {
+        pieces = h.pieces;
+        read = record { made = reads_through reader h.pieces reader_left h.read.made; few = h.read.few; short = h.read.short };
+        rest = h.rest;
+        front = h.front;
+      }))
 
   abbrev Over : S → S → T → T → List ℕ → List ℕ → Result ℕ FrameError → Type 0
   Over s t input input_left written written_left result = IsServed answers (λ a bytes b. given b ≡ given a ++ bytes) MOST_READS s t input input_left (is_at_end input_left) (Some written) (Some written_left) result

@@ -1,5 +1,8 @@
 //! One session over a connection.
 
+ghost use Rattle.std.specs.Prelude.{◌≡◌, ◌++◌};
+ghost use Rattle.session_core.specs.HandedIn.{HandsInFromSource};
+ghost use Rattle.session_core.specs.declared.source.TheConstants.{MOST_READS};
 ghost use Rattle.paced_stream.specs.Connection.{IsConnectionServed};
 
 use crate::buffered::{BUFFER, Buffered};
@@ -39,8 +42,10 @@ pub fn serve_connection<C: Clock, T: StreamCalls, S: Service>(
     service: &mut S,
     idle: Option<Duration>,
 ) -> Ended<T>
-    ensures { IsConnectionServed S.answers T.given T.taken T.is_at_end (S.state service.old) (S.state service.new)
+    ensures served { IsConnectionServed S.answers T.given T.taken T.is_at_end (S.state service.old) (S.state service.new)
         input result.input output result.output result.replies }
+    ensures handed_in { HandsInFromSource S.hands_in (λ old bytes new. T.given new ≡ T.given old ++ bytes) MOST_READS input result.input
+        (S.sent service.old) (S.sent service.new) }
 {
     if set_up(&input, &output, idle).is_err() {
         return Ended {

@@ -15,7 +15,7 @@ use Rattle.session_core.specs.declared.message.Message.{Message}
 use Rattle.session_core.specs.declared.reply.Reply.{Reply}
 use Rattle.session_core.specs.declared.service.Ack.{Ack}
 use Rattle.session_core.specs.declared.service.Code.{Code}
-use Rattle.session_core.specs.Ahead.{IsHandedIn, AreHandedIn}
+use Rattle.session_core.specs.Ahead.{frames_len, IsHandedIn, AreHandedIn}
 use Rattle.session_core.specs.Answered.{IsFirstAnswered, LeavesFewAhead}
 use Rattle.session_core.specs.Commands.{command_kind, reply_to_kind}
 use Rattle.session_core.specs.Frames.{MessageView, AreWholeFrames}
@@ -54,11 +54,6 @@ front_fits bytes at (Ok (Some next)) fits reads =
 front_fits bytes at (Err e) fits reads = tt
 
 -- ---- commands in a row
-
--- The number of bytes of the frames.
-abbrev pub frames_len : {U : Type 0} → List (Handed U) → ℕ
-frames_len [] = 0
-frames_len (h ∷ hs) = h.len + frames_len hs
 
 pub frames_len-push : {U : Type 0} (hs : List (Handed U)) (h : Handed U) → frames_len (hs ++ h ∷ []) ≡ frames_len hs + h.len
 frames_len-push [] h = omega arith

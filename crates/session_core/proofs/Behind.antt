@@ -4,6 +4,7 @@ use Rattle.std.proofs.Common.{◌≡◌, ℕ, List, [], ◌∷◌, Option, Resul
 use Rattle.std.specs.Borrow.{GName}
 use Rattle.session_core.specs.declared.error.FrameError.{FrameError}
 use Rattle.session_core.specs.Frames.{MessageView}
+use Rattle.session_core.specs.HandedIn.{HandsInFromSource}
 use Rattle.session_core.specs.Reply.{ReplyView}
 use Rattle.session_core.specs.Service.{Exchange, AreAnswered, AnswersBehind}
 use Rattle.session_core.specs.Session.{IsServed}
@@ -40,6 +41,12 @@ module _ {S : Type 0} (answers : S → MessageView → ReplyView → S → Type 
     prompt = x.prompt;
     ended = x.ended;
   }
+
+  -- what was handed in at the end of the borrow
+  pub handed_in_behind : {R X : Type 0} (hands_in : X → MessageView → X → Type 0) (gives : R → List ℕ → R → Type 0) (turns : ℕ) (a b : S × GName) (r t : R) (i : Type 0) (o p : Option (List ℕ)) (result : Result ℕ FrameError) (x y last : X)
+      → (a.1 ≡ b.1 → last ≡ y) → IsServed (AnswersBehind answers) gives turns a b r t i o p result → HandsInFromSource hands_in gives turns r t x y → HandsInFromSource hands_in gives turns r t x last
+  handed_in_behind hands_in gives turns a b r t i o p result x y last end served h =
+      subst (HandsInFromSource hands_in gives turns r t x) (sym (end (same_reference a served.exchanges b served.answered))) h
 
   pub served_in_lines_behind : (bytes : List ℕ) (a b : S × GName) (last : S) (o p : Option (List ℕ)) (result : Result ℕ FrameError)
       → (a.1 ≡ b.1 → last ≡ b.0) → IsServedInLines (AnswersBehind answers) bytes a b o p result → IsServedInLines answers bytes a.0 last o p result

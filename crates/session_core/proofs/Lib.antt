@@ -9,6 +9,7 @@ mod AheadLemmas
 mod Exchanges
 pub mod AtOnce
 mod SessionLemmas
+pub mod HandedInLemmas
 mod InboxLemmas
 mod Behind
 pub mod FramerLemmas

@@ -1,9 +1,14 @@
 -- Commands that were handed in and are not answered yet.
-use Rattle.std.specs.Prelude.{◌≡◌, ℕ, List, [], ◌∷◌, Some, drop}
+use Rattle.std.specs.Prelude.{◌≡◌, ℕ, ◌+◌, List, [], ◌∷◌, Some, drop}
 use Rattle.session_core.specs.declared.ahead.Handed.{Handed}
 use Rattle.session_core.specs.Commands.{command_kind}
 use Rattle.session_core.specs.Frames.{MessageView}
 use Rattle.session_core.specs.Front.{BeginsWithFrame}
+
+-- The number of bytes of the frames of these commands.
+abbrev pub frames_len : {U : Type 0} → List (Handed U) → ℕ
+frames_len [] = 0
+frames_len (h ∷ hs) = h.len + frames_len hs
 
 module _ {S U : Type 0} (is_for : S → U → MessageView → Type 0) where
   -- In this state, this is under way for the message at the front of the bytes, a command.

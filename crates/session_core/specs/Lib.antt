@@ -6,6 +6,7 @@ pub mod Service
 pub mod Commands
 pub mod Ahead
 pub mod Source
+pub mod HandedIn
 pub mod Session
 pub mod Answered
 pub mod Framer

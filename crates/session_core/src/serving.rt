@@ -1,7 +1,9 @@
 //! The loop of a session over a reader and a writer.
 
-ghost use Rattle.std.specs.Prelude.{◌≡◌, [], IfOk, IfErr, OnOk};
+ghost use Rattle.std.specs.Prelude.{◌≡◌, [], drop, IfOk, IfErr, OnOk};
+ghost use Rattle.session_core.specs.Ahead.{frames_len};
 ghost use Rattle.session_core.specs.Answered.{AreFrontsAnswered};
+ghost use Rattle.session_core.specs.HandedIn.{HandsInFrontOf, HandsInFromSource};
 ghost use Rattle.session_core.specs.Session.{IsServed, IsSentFor};
 
 use crate::ahead::Ahead;
@@ -20,7 +22,8 @@ use std::alloc::Global;
 ///
 /// The commands whose frames are whole in the input, up to `MOST_AHEAD` in a row, are handed in
 /// before the first of them is answered. A message that the service does not take ahead is answered
-/// once all before it are.
+/// once all before it are. Messages at the front of the input are handed in once at most, in their
+/// order, and nothing else is.
 ///
 /// At any time memory has one piece of the input, less than a frame before it, and one reply. What
 /// was written is sent before each further read, and after a failed write no message is answered:
@@ -38,6 +41,7 @@ pub fn serve<R: Source, W: Sink, S: Service>(
     ensures served { IsServed S.answers R.gives turns (S.state service.old) (S.state service.new) reader.old reader.new
         (R.is_at_end reader.new) (W.contents writer.old) (W.contents writer.new) result }
     ensures sent { W.is_sent writer.old → IsSentFor (W.is_sent writer.new) result }
+    ensures handed_in { HandsInFromSource S.hands_in R.gives turns reader.old reader.new (S.sent service.old) (S.sent service.new) }
 {
     let ahead = Ahead::new(alloc)?;
     let mut session = Session::new(service, Inbox::new(alloc), ahead);
@@ -59,6 +63,7 @@ fn serve_session<R: Source, W: Sink, S: Service>(
     ensures served { IsServed S.answers R.gives turns (S.state session.old.service) (S.state session.new.service) reader.old reader.new
         (R.is_at_end reader.new) (W.contents writer.old) (W.contents writer.new) result }
     ensures sent { W.is_sent writer.old → IsSentFor (W.is_sent writer.new) result }
+    ensures handed_in { HandsInFromSource S.hands_in R.gives turns reader.old reader.new (S.sent session.old.service) (S.sent session.new.service) }
 {
     let mut count = 0;
     for _turn in 0..turns {
@@ -96,6 +101,8 @@ pub(crate) fn answer_and_flush<W: Sink, S: Service>(
         session.new.inbox (W.contents writer.old) (W.contents writer.new) count result }
     ensures none { OnOk result (session.new.ahead.queue.items ≡ []) }
     ensures sent { IsSentFor (W.is_sent writer.new) result }
+    ensures handed_in { HandsInFrontOf S.hands_in session.old.inbox (drop (frames_len session.new.ahead.queue.items) session.new.inbox)
+        (S.sent session.old.service) (S.sent session.new.service) }
 {
     match answer_all(alloc, writer, session, form, count) {
         Err(FrameError::Write) => Err(FrameError::Write),
@@ -121,6 +128,8 @@ fn answer_all<W: Sink, S: Service>(
     ensures fronts { AreFrontsAnswered form S.answers (S.state session.old.service) session.old.inbox (S.state session.new.service)
         session.new.inbox (W.contents writer.old) (W.contents writer.new) count result }
     ensures none { OnOk result (session.new.ahead.queue.items ≡ []) }
+    ensures handed_in { HandsInFrontOf S.hands_in session.old.inbox (drop (frames_len session.new.ahead.queue.items) session.new.inbox)
+        (S.sent session.old.service) (S.sent session.new.service) }
 {
     let mut sum = count;
     while let Some(reply) = session.next_reply(alloc)? {

@@ -1,10 +1,11 @@
 //! The core of a session, which writes nothing: it reads pieces of input, and returns replies.
 
-ghost use Rattle.std.specs.Prelude.{◌≡◌, ◌+◌, ◌^◌, ◌<◌, ◌≤◌, [], drop, length, Some, IfSome, IfOk, IfErr, OnErr, IsTrue, ◌↔◌};
-ghost use Rattle.session_core.specs.Ahead.{IsHandedIn, AreHandedIn};
+ghost use Rattle.std.specs.Prelude.{◌≡◌, ◌+◌, ◌^◌, ◌<◌, ◌≤◌, [], drop, length, Some, IfSome, IfOk, IfErr, OnErr, MatchOption, IsTrue, ◌↔◌};
+ghost use Rattle.session_core.specs.Ahead.{frames_len, IsHandedIn, AreHandedIn};
 ghost use Rattle.session_core.specs.Answered.{IsFirstAnswered, IsNextReply, LeavesFewAhead};
 ghost use Rattle.session_core.specs.Commands.{command_kind};
 ghost use Rattle.session_core.specs.Front.{message_at};
+ghost use Rattle.session_core.specs.HandedIn.{HandsInAtMostFor, HandsInFirst, HandsInFrontOf};
 ghost use Rattle.session_core.specs.Reply.{HasReplySize};
 ghost use Rattle.session_core.specs.ReplyViews.{reply_view};
 ghost use Rattle.session_core.specs.Source.{TakesIn, FailsToTakeIn};
@@ -67,6 +68,8 @@ impl<S: Service> Session<S> {
         ensures next { IsNextReply S.answers (S.state self.old.service) self.old.inbox (S.state self.new.service) self.new.inbox result }
         ensures ahead { AreHandedIn S.is_for (S.state self.new.service) self.new.ahead.queue.items self.new.inbox }
         ensures few { LeavesFewAhead result self.new.ahead.queue.items }
+        ensures handed_in { HandsInFrontOf S.hands_in (drop (frames_len self.old.ahead.queue.items) self.old.inbox)
+            (drop (frames_len self.new.ahead.queue.items) self.new.inbox) (S.sent self.old.service) (S.sent self.new.service) }
     {
         if let Some(first) = self.ahead.pop() {
             return Ok(Some(self.settle(first)));
@@ -93,6 +96,8 @@ impl<S: Service> Session<S> {
         ensures inbox { self.new.inbox ≡ self.old.inbox }
         ensures ahead { AreHandedIn S.is_for (S.state self.new.service) self.new.ahead.queue.items (drop len self.new.inbox) }
         ensures few { length self.new.ahead.queue.items < MOST_AHEAD }
+        ensures handed_in { HandsInFrontOf S.hands_in (drop len self.new.inbox) (drop (frames_len self.new.ahead.queue.items) (drop len self.new.inbox))
+            (S.sent self.old.service) (S.sent self.new.service) }
     {
         let mut at = len;
         for _turn in 1..MOST_AHEAD {
@@ -112,6 +117,8 @@ impl<S: Service> Session<S> {
         ensures state { S.state self.new.service ≡ S.state self.old.service }
         ensures inbox { self.new.inbox ≡ self.old.inbox }
         ensures ahead { self.new.ahead ≡ self.old.ahead }
+        ensures handed_in { MatchOption result (S.sent self.new.service ≡ S.sent self.old.service)
+            (λ handed. HandsInFirst S.hands_in (drop at self.new.inbox) handed.len (S.sent self.old.service) (S.sent self.new.service)) }
     {
         let Ok(Some((message, len))) = self.inbox.front_after(at) else {
             return None;
@@ -125,7 +132,9 @@ impl<S: Service> Session<S> {
         requires others { AreHandedIn S.is_for (S.state self.old.service) self.old.ahead.queue.items (drop first.len self.old.inbox) }
         ensures answered { IsFirstAnswered S.answers (S.state self.old.service) self.old.inbox (reply_view result) (S.state self.new.service) self.new.inbox }
         ensures others { AreHandedIn S.is_for (S.state self.new.service) self.new.ahead.queue.items self.new.inbox }
+        ensures left { self.new.inbox ≡ drop first.len self.old.inbox }
         ensures same { self.new.ahead ≡ self.old.ahead }
+        ensures handed_in { S.sent self.new.service ≡ S.sent self.old.service }
     {
         let Handed {
             kind,
@@ -169,6 +178,8 @@ fn hand_in<S: Service>(
     ensures len { IfSome result (λ handed. handed.len ≡ len) }
     ensures known { IfSome result (λ handed. S.is_for (S.state service.new) handed.under_way (message_at message.entry)) }
     ensures same { S.state service.new ≡ S.state service.old }
+    ensures handed_in { MatchOption result (S.sent service.new ≡ S.sent service.old)
+        (λ _. S.hands_in (S.sent service.old) (message_at message.entry) (S.sent service.new)) }
 {
     let kind = CommandKind::of(&message)?;
     let under_way = service.hand_in(alloc, message)?;
@@ -183,6 +194,7 @@ fn hand_in<S: Service>(
 fn answer<S: Service>(alloc: Global, service: &mut S, message: Message<&[u8]>) -> Reply
     ensures answers { S.answers (S.state service.old) (message_at message.entry) (reply_view result) (S.state service.new) }
     ensures sized { HasReplySize (reply_view result) }
+    ensures handed_in { HandsInAtMostFor S.hands_in (S.sent service.old) (message_at message.entry) (S.sent service.new) }
 {
     match message {
         Message::Register(body) => reply_to(CommandKind::Register, service.register(alloc, body)),

@@ -1,13 +1,14 @@
 use Rattle.std.proofs.Common.{◌≡◌, [], ◌++◌, ap, ◌∙◌}
 use Rattle.std.proofs.lemmas.List.{append-nil}
-use Rattle.paced_stream.proofs.ConnectionLemmas.{not_set_up, without_buffer, served_through}
+use Rattle.session_core.proofs.HandedInLemmas.{hands_in_at_once}
+use Rattle.paced_stream.proofs.ConnectionLemmas.{not_set_up, without_buffer, handed_in_through, served_through}
 use Rattle.paced_stream.proofs.connection.serve_connection.Goals as goal
 
 pub returns-then-is_err : goal.returns-then-is_err
-returns-then-is_err g c = not_set_up _ _ _ _ _ _ _
+returns-then-is_err g c = record { served = not_set_up _ _ _ _ _ _ _; handed_in = hands_in_at_once _ _ _ _ _ }
 
 pub returns-in_default : goal.returns-in_default
-returns-in_default g c = without_buffer _ _ _ _ _ _ _
+returns-in_default g c = record { served = without_buffer _ _ _ _ _ _ _; handed_in = hands_in_at_once _ _ _ _ _ }
 
 pub returns : goal.returns
 returns g c =
@@ -19,5 +20,9 @@ returns g c =
     ∙ ap (λ paced. taken paced.stream) c.new-output.ensures.0 ∙ ap taken c.new.ensures in
     let left = c.into_paced-output.ensures in
     let last = ap (λ stream. taken stream ++ left.0) c.into_stream-2.ensures ∙ left.1 in
-    served_through g.S.Service.answers g.T.StreamCalls.given taken g.T.StreamCalls.is_at_end (λ paced. paced.stream) _ _ _ _ _ _ _ _ _ _ left.0 _ _
-    c.serve-replies.ensures.served (c.serve-replies.ensures.sent nothing) c.new-input.ensures c.into_stream.ensures first last left.2
+    record {
+      served = served_through g.S.Service.answers g.T.StreamCalls.given taken g.T.StreamCalls.is_at_end (λ paced. paced.stream) _ _ _ _ _ _ _ _ _ _ left.0 _ _
+          c.serve-replies.ensures.served (c.serve-replies.ensures.sent nothing) c.new-input.ensures c.into_stream.ensures first last left.2;
+      handed_in = handed_in_through g.S.Service.answers g.T.StreamCalls.given taken g.T.StreamCalls.is_at_end (λ paced. paced.stream) g.S.Service.hands_in _ _ _ _ _ _
+          c.serve-replies.ensures.handed_in c.new-input.ensures c.into_stream.ensures;
+    }

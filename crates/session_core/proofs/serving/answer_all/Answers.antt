@@ -1,7 +1,9 @@
-use Rattle.std.proofs.Common.{length, ap, arith}
+use Rattle.std.proofs.Common.{length, drop, refl, ap, arith}
 use Rattle.std.proofs.lemmas.Result.{err_from_is_err_and}
+use Rattle.session_core.specs.Ahead.{frames_len}
 use Rattle.session_core.proofs.AheadLemmas.{nothing_handed_in, are_ahead}
 use Rattle.session_core.proofs.Exchanges.{answered_none, answered_next, stops_at_fault, stops_at_write}
+use Rattle.session_core.proofs.HandedInLemmas.{hands_nothing, hands_then}
 use Rattle.session_core.proofs.serving.answer_all.Goals as goal
 
 pub loop-reply-init : goal.loop-reply-init
@@ -9,6 +11,7 @@ loop-reply-init g c = record {
   answered = answered_none _ _ _ _ _ _ (omega arith);
   ahead = nothing_handed_in g.S.Service.is_for _ _ _ c.requires;
   few = omega (arith, ap length c.requires);
+  handed_in = hands_nothing g.S.Service.hands_in _ _ _ _ (ap (λ (hs : _). drop (frames_len hs) c.args.session.now.inbox) c.requires) refl;
 }
 
 pub returns-in_err-write_reply-clause-fronts : goal.returns-in_err-write_reply-clause-fronts
@@ -32,6 +35,7 @@ loop-reply-preserved-in_ok-write_reply g c =
       answered = answered_next _ _ _ _ _ _ _ _ _ _ _ _ _ c.loop-reply.invariant.answered first _ _ c.in_ok-write_reply.ensures.ok c.saturating_add-sum.ensures;
       ahead = c.in_ok-reply.ensures.ahead;
       few = omega (arith, few);
+      handed_in = hands_then g.S.Service.hands_in _ _ _ _ _ _ c.loop-reply.invariant.handed_in c.in_ok-reply.ensures.handed_in;
     }
 
 pub loop-reply-preserved-in_ok-write_reply-2 : goal.loop-reply-preserved-in_ok-write_reply-2
@@ -42,6 +46,7 @@ loop-reply-preserved-in_ok-write_reply-2 g c =
       answered = answered_next _ _ _ _ _ _ _ _ _ _ _ _ _ c.loop-reply.invariant.answered first _ _ c.in_ok-write_reply.ensures.ok c.saturating_add-sum.ensures;
       ahead = c.in_ok-reply.ensures.ahead;
       few = omega (arith, few);
+      handed_in = hands_then g.S.Service.hands_in _ _ _ _ _ _ c.loop-reply.invariant.handed_in c.in_ok-reply.ensures.handed_in;
     }
 
 pub loop-reply-preserved : goal.loop-reply-preserved
@@ -52,4 +57,14 @@ loop-reply-preserved g c =
       answered = answered_next _ _ _ _ _ _ _ _ _ _ _ _ _ c.loop-reply.invariant.answered first _ _ c.in_ok-write_reply.ensures.ok c.saturating_add-sum.ensures;
       ahead = c.in_ok-reply.ensures.ahead;
       few = omega (arith, few);
+      handed_in = hands_then g.S.Service.hands_in _ _ _ _ _ _ c.loop-reply.invariant.handed_in c.in_ok-reply.ensures.handed_in;
     }
+
+pub returns-in_err-reply-clause-handed_in : goal.returns-in_err-reply-clause-handed_in
+returns-in_err-reply-clause-handed_in g c = hands_then g.S.Service.hands_in _ _ _ _ _ _ c.loop-reply.invariant.handed_in c.next_reply.ensures.handed_in
+
+pub returns-in_err-write_reply-clause-handed_in : goal.returns-in_err-write_reply-clause-handed_in
+returns-in_err-write_reply-clause-handed_in g c = hands_then g.S.Service.hands_in _ _ _ _ _ _ c.loop-reply.invariant.handed_in c.next_reply.ensures.handed_in
+
+pub returns-clause-handed_in : goal.returns-clause-handed_in
+returns-clause-handed_in g c = hands_then g.S.Service.hands_in _ _ _ _ _ _ c.loop-reply.invariant.handed_in c.next_reply.ensures.handed_in

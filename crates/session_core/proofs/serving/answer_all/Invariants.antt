@@ -1,6 +1,7 @@
 use Rattle.session_core.specs.declared.ahead.TheConstants.{MOST_AHEAD}
-use Rattle.std.proofs.Common.{◌≤◌, length}
-use Rattle.session_core.specs.Ahead.{AreHandedIn}
+use Rattle.std.proofs.Common.{◌≤◌, length, drop}
+use Rattle.session_core.specs.Ahead.{frames_len, AreHandedIn}
+use Rattle.session_core.specs.HandedIn.{HandsInFrontOf}
 use Rattle.session_core.proofs.Exchanges.{HasAnswered}
 use Rattle.session_core.proofs.serving.answer_all.Given as goal
 
@@ -10,6 +11,8 @@ invariant-loop-reply g l = record {
       (g.W.Sink.contents l.fn.writer) (g.W.Sink.contents l.writer) l.count l.sum;
   ahead : AreHandedIn g.S.Service.is_for (g.S.Service.state l.session.service) l.session.ahead.queue.items l.session.inbox;
   few : length l.session.ahead.queue.items ≤ MOST_AHEAD;
+  handed_in : HandsInFrontOf g.S.Service.hands_in l.fn.session.inbox (drop (frames_len l.session.ahead.queue.items) l.session.inbox)
+      (g.S.Service.sent l.fn.session.service) (g.S.Service.sent l.session.service);
 }
 
 abbrev pub decreases-loop-reply : goal.decreases-loop-reply

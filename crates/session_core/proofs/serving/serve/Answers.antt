@@ -2,7 +2,8 @@ use Rattle.std.proofs.Common.{rules, ap}
 use Rattle.std.proofs.lemmas.Result.{err_from_is_err_and}
 use Rattle.session_core.proofs.AtOnce.{ends_at_once}
 use Rattle.session_core.proofs.SessionLemmas.{sent_for}
-use Rattle.session_core.proofs.Behind.{served_behind}
+use Rattle.session_core.proofs.Behind.{served_behind, handed_in_behind}
+use Rattle.session_core.proofs.HandedInLemmas.{hands_in_at_once}
 use Rattle.session_core.proofs.serving.serve.Goals as goal
 
 pub returns-in_err-ahead-clause-served : goal.returns-in_err-ahead-clause-served
@@ -17,3 +18,12 @@ returns-clause-served g c =
 
 pub returns-in_err-ahead-clause-sent : goal.returns-in_err-ahead-clause-sent
 returns-in_err-ahead-clause-sent g c before = sent_for _ _ before
+
+pub returns-in_err-ahead-clause-handed_in : goal.returns-in_err-ahead-clause-handed_in
+returns-in_err-ahead-clause-handed_in g c = hands_in_at_once _ _ _ _ _
+
+pub returns-clause-handed_in : goal.returns-clause-handed_in
+returns-clause-handed_in g c =
+    let served = rw (c.new-session.ensures.service, ← c.into_service-service.ensures) at c.serve_session-served.ensures.served in
+    let handed = rw (c.new-session.ensures.service, ← c.into_service-service.ensures) at c.serve_session-served.ensures.handed_in in
+    handed_in_behind _ _ _ _ _ _ _ _ _ _ _ _ _ _ _ (λ same. ap g.S.Service.sent (search rules)) served handed

@@ -2,6 +2,7 @@ use Rattle.std.proofs.Common.{◌≡◌, ℕ, Err, arith, refl, subst}
 use Rattle.std.proofs.lemmas.Result.{err_from_is_err_and}
 use Rattle.session_core.specs.declared.error.FrameError.TheVariants as error
 use Rattle.session_core.specs.Session.{IsServed}
+use Rattle.session_core.proofs.HandedInLemmas.{hands_none, hands_in_none, hands_in_more, hands_in_all, hands_in_failed}
 use Rattle.session_core.proofs.SessionLemmas.{so_far_none, so_far_read, fails_to_take_in, ends_after_read, ends_at_read_piece, ends_at_turns}
 use Rattle.session_core.proofs.serving.serve_session.Goals as goal
 
@@ -10,6 +11,7 @@ loop-turn-init g c = record {
   none = c.requires.none;
   so_far = so_far_none _ _ _ _ _ _ c.requires.fresh;
   sent = λ before. before;
+  handed_in = hands_in_none _ _ _ _ _ c.requires.fresh;
 }
 
 pub returns-in_err-read_from-clause-served : goal.returns-in_err-read_from-clause-served
@@ -31,10 +33,12 @@ returns-in_err-count-clause-served g c =
 pub loop-turn-preserved : goal.loop-turn-preserved
 loop-turn-preserved g c =
     let fronts = rw c.read_from.ensures.service at c.in_ok-count.ensures.fronts in
+    let taken = rw (c.read_from.ensures.service, c.in_ok-count.ensures.none) at c.in_ok-count.ensures.handed_in in
     record {
       none = c.in_ok-count.ensures.none;
       so_far = so_far_read _ _ _ _ _ _ _ _ _ _ _ c.loop-turn.invariant.so_far _ _ _ c.in_ok-read_from.ensures.ok _ _ _ _ _ refl fronts;
       sent = λ before. c.in_ok-count.ensures.sent;
+      handed_in = hands_in_more _ _ _ _ _ _ _ _ c.loop-turn.invariant.handed_in _ _ _ _ _ _ c.in_ok-read_from.ensures.ok refl taken;
     }
 
 pub returns-clause-served : goal.returns-clause-served
@@ -43,3 +47,21 @@ returns-clause-served g c =
     subst (λ (turns : ℕ). IsServed g.S.Service.answers g.R.Source.gives turns (g.S.Service.state c.args.session.now.service) (g.S.Service.state c.loop-turn.session.service) c.args.reader.now c.loop-turn.reader (g.R.Source.is_at_end c.loop-turn.reader)
     (g.W.Sink.contents c.args.writer.now) (g.W.Sink.contents c.loop-turn.writer) (Err error.Turns)) all
     (ends_at_turns _ _ _ _ _ _ _ _ _ _ _ c.loop-turn.invariant.so_far _)
+
+pub returns-in_err-read_from-clause-handed_in : goal.returns-in_err-read_from-clause-handed_in
+returns-in_err-read_from-clause-handed_in g c =
+    rw c.read_from.ensures.service (hands_in_failed _ _ _ _ _ _ _ _ c.loop-turn.invariant.handed_in _ _ _ c.loop-turn-test.true c.in_err-read_from.ensures.err)
+
+pub returns-then-branch-eq0-clause-handed_in : goal.returns-then-branch-eq0-clause-handed_in
+returns-then-branch-eq0-clause-handed_in g c =
+    let after = hands_in_more _ _ _ _ _ _ _ _ c.loop-turn.invariant.handed_in _ _ _ _ _ _ c.in_ok-read_from.ensures.ok refl (hands_none _ _ _) in
+    rw c.read_from.ensures.service (hands_in_all _ _ _ _ _ _ _ _ after _ (omega (arith, c.loop-turn-test.true)))
+
+pub returns-in_err-count-clause-handed_in : goal.returns-in_err-count-clause-handed_in
+returns-in_err-count-clause-handed_in g c =
+    let taken = rw c.read_from.ensures.service at c.in_err-count.ensures.handed_in in
+    let after = hands_in_more _ _ _ _ _ _ _ _ c.loop-turn.invariant.handed_in _ _ _ _ _ _ c.in_ok-read_from.ensures.ok refl taken in
+    hands_in_all _ _ _ _ _ _ _ _ after _ (omega (arith, c.loop-turn-test.true))
+
+pub returns-clause-handed_in : goal.returns-clause-handed_in
+returns-clause-handed_in g c = hands_in_all _ _ _ _ _ _ _ _ c.loop-turn.invariant.handed_in _ (omega arith)

@@ -1,4 +1,5 @@
 use Rattle.std.proofs.Common.{◌≡◌, []}
+use Rattle.session_core.proofs.HandedInLemmas.{HandsInSoFar}
 use Rattle.session_core.proofs.SessionLemmas.{SoFar}
 use Rattle.session_core.proofs.serving.serve_session.Given as goal
 
@@ -8,4 +9,5 @@ invariant-loop-turn g l = record {
   so_far : SoFar g.S.Service.answers g.R.Source.gives (g.S.Service.state l.fn.session.service) (g.S.Service.state l.session.service) l.fn.reader l.reader l.session.inbox
       (g.W.Sink.contents l.fn.writer) (g.W.Sink.contents l.writer) l.count l._turn;
   sent : g.W.Sink.is_sent l.fn.writer → g.W.Sink.is_sent l.writer;
+  handed_in : HandsInSoFar g.S.Service.hands_in g.R.Source.gives l.fn.reader l.reader l.session.inbox l._turn (g.S.Service.sent l.fn.session.service) (g.S.Service.sent l.session.service);
 }

@@ -1,6 +1,8 @@
 use Rattle.std.proofs.Common.{◌≡◌, [], ◌∷◌, ◌++◌, length, ap, ◌∙◌, arith}
 use Rattle.std.proofs.lemmas.List.{length-append}
-use Rattle.session_core.proofs.AheadLemmas.{frames_len, frames_len-push, handed_in-next, within}
+use Rattle.session_core.specs.Ahead.{frames_len}
+use Rattle.session_core.proofs.AheadLemmas.{frames_len-push, handed_in-next, within}
+use Rattle.session_core.proofs.HandedInLemmas.{hands_next}
 use Rattle.session_core.proofs.session.Session.hand_in_after.Goals as goal
 
 pub loop-turn-preserved : goal.loop-turn-preserved
@@ -15,5 +17,6 @@ loop-turn-preserved g c =
       ahead = handed_in-next g.S.Service.is_for _ _ _ _ _ _ _ _ _ c.hand_in_at.ensures.state c.hand_in_at.ensures.inbox c.loop-turn.invariant.at_is pushed c.loop-turn.invariant.ahead one;
       count = omega (arith, ap length pushed, length-append hs (h ∷ []), c.loop-turn.invariant.count);
       at_is = omega (arith, c.loop-turn.invariant.at_is, frames_len-push hs h, ap frames_len pushed);
+      handed_in = hands_next g.S.Service.hands_in _ _ _ _ _ _ _ _ c.hand_in_at.ensures.inbox c.loop-turn.invariant.handed_in (rw c.in-Some.is at c.hand_in_at.ensures.handed_in);
       within = within g.S.Service.is_for _ h c.hand_in_at.new.self.inbox c.loop-turn.at (omega (arith, ap length c.hand_in_at.ensures.inbox, c.loop-turn.invariant.within)) one;
     }

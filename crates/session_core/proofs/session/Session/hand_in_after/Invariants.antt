@@ -1,6 +1,6 @@
 use Rattle.std.proofs.Common.{◌≡◌, ◌+◌, ◌≤◌, length, drop}
-use Rattle.session_core.specs.Ahead.{AreHandedIn}
-use Rattle.session_core.proofs.AheadLemmas.{frames_len}
+use Rattle.session_core.specs.Ahead.{frames_len, AreHandedIn}
+use Rattle.session_core.specs.HandedIn.{HandsInFrontOf}
 use Rattle.session_core.proofs.session.Session.hand_in_after.Given as goal
 
 abbrev pub invariant-loop-turn : goal.invariant-loop-turn
@@ -11,4 +11,5 @@ invariant-loop-turn g l = record {
   count : 1 + length l.self.ahead.queue.items ≡ l._turn;
   at_is : l.at ≡ l.len + frames_len l.self.ahead.queue.items;
   within : l.at ≤ length l.self.inbox;
+  handed_in : HandsInFrontOf g.S.Service.hands_in (drop l.len l.self.inbox) (drop l.at l.self.inbox) (g.S.Service.sent l.fn.self.service) (g.S.Service.sent l.self.service);
 }

@@ -8,5 +8,7 @@ returns g c = record {
   answered = rw c.advance.ensures (first_settled g.S.Service.is_for g.S.Service.answers _ _ c.args.first c.args.self.now.inbox c.settle-answered.result (reply_view c.reply_to.result)
       c.requires.first c.reply_to.ensures.reply c.reply_to.ensures.sized c.settle-answered.ensures.answers);
   others = rw c.advance.ensures (still_handed_in g.S.Service.is_for _ _ _ _ c.settle-answered.ensures.others c.requires.others);
+  left = c.advance.ensures;
   same = refl;
+  handed_in = c.settle-answered.ensures.sent;
 }
