@@ -3,7 +3,8 @@ functions whose modules took longest.
 
     gate-time run FOLDER [CRATE ..]     runs `rt ci`, of these crates if any is named, and notes all in FOLDER
     gate-time show FOLDER [..]          prints the tables of one run, or of several together
-    gate-time edits FOLDER [..]         hands what the prover said of each edit to `edits --write`
+    gate-time edits FOLDER [..]         hands what the prover said of each edit to `edits --write`, but of those
+                                        that only an answer refuses, as `edits` tries these without it
 
 What an earlier run on this machine has passed is not proved again, but by `--anew`. The seconds of a program are those that the system counts when the
 program ends. A function's seconds are the times between the modules that the prover has written,
@@ -21,6 +22,7 @@ from collections import Counter, defaultdict
 from pathlib import Path
 
 from pathd_tools import TOP
+from pathd_tools.pages import edits
 from pathd_tools.toolbox import parser
 
 HOOK = Path(__file__).with_name("gate_hook")
@@ -120,15 +122,17 @@ def functions(provers: list[dict]) -> Counter:
 
 def hand_edits_on(folders: list[Path]) -> int:
     """Puts what the prover said where `edits --judge` and `edits --write` look for it."""
+    known = {(it.crate, it.path.stem): it for it in edits.edits_of([])}
     commit = subprocess.run(["git", "rev-parse", "--short", "HEAD"], cwd=TOP, capture_output=True, text=True, check=True).stdout.strip()
     seconds = {(it["crate"], it["edit"]): it["seconds"] for it in rows(folders, "programs") if it["step"] == "edit"}
     for row in rows(folders, "edits"):
-        folder = TOP / "crates" / row["crate"] / "out" / "edits"
-        folder.mkdir(parents=True, exist_ok=True)
+        edit = known.get((row["crate"], row["edit"]))
         ran = {it: row[it] for it in ("status", "output", "unread")}
+        if edit is None or ran["status"] and not ran["unread"] and not edits.judge(edit, ran).is_well:
+            continue
         ran |= {"sum": hashlib.sha256(row["text"].encode()).hexdigest()[:16], "commit": commit, "date": time.strftime("%Y-%m-%d")}
         ran["seconds"] = seconds.get((row["crate"], row["edit"]), 0)
-        (folder / f"{row['edit']}.json").write_text(json.dumps(ran, indent=1))
+        edits.store(edit, ran)
     return 0
 
 
