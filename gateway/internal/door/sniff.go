@@ -118,7 +118,7 @@ func kindOf(headers *http2.MetaHeadersFrame) Kind {
 }
 
 // goAway tells a peer of HTTP/2 why its connection is about to be closed. A peer that has been sent a
-// part of a frame is told nothing, as a server may write a frame in two pieces.
+// part of a frame is sent nothing more, as a server may write a frame in two pieces.
 func (c *Conn) goAway(reason error) {
 	code := http2.ErrCodeProtocol
 	var of http2.ConnectionError
