@@ -90,6 +90,10 @@ impl fmt::Display for AskError {
 }
 
 impl From<AllocError> for AskError {
+    ghost use Rattle.cli_ask.specs.declared.error.AskError.TheVariants.{NoMemory};
+
+    ghost from_gives = { λ _ e. e ≡ NoMemory };
+
     fn from(_error: AllocError) -> AskError {
         AskError::NoMemory
     }
