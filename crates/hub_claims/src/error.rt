@@ -10,7 +10,7 @@ pub enum HubError {
     /// Memory was refused, or a thread of an actor was not given.
     #[error("out of memory")]
     NoMemory,
-    /// All 65 readers are taken, or the library gave none.
+    /// All 64 readers are taken, or the library gave none.
     #[error("no reader is left")]
     NoReader,
     /// The state stopped before the command of this place was committed. It is not known whether

@@ -17,9 +17,11 @@ use std::alloc::{AllocError, Global};
 use std::sync::Wait;
 use std::thread::Threads;
 
-/// The number of readers of a hub: one for each of 64 sessions, and one for the purges that a server
-/// makes by itself.
-pub const READERS: usize = 65;
+/// The number of readers of a hub that are handed out.
+pub const READERS: usize = 64;
+
+/// The number of readers that are made: one more is the hub's own.
+pub const SEATS: usize = READERS + 1;
 
 /// Makes the showcase of the hub of this name, and all its readers, over rows at a place. The
 /// history is of what is shown. No group is published yet, and nothing is owed. Up to four threads
@@ -36,7 +38,7 @@ pub fn open_readers<N: ReaderName, R: Wait + Threads + Drop + Sync>(
     ensures value { IfOk result (λ made. made.0.value ≡ N.opening) }
     ensures owed { IfOk result (λ made. made.0.owed ≡ []) }
     ensures groups { IfOk result (λ made. made.0.groups ≡ []) }
-    ensures readers { IfOk result (λ made. length made.1.items ≡ READERS) }
+    ensures readers { IfOk result (λ made. length made.1.items ≡ SEATS) }
 {
     let past = history.past();
     let writer = new_writer::<N, R>(&rt, alloc, &past, db, place)?;
@@ -67,7 +69,7 @@ fn new_writer<N: ReaderName, R: Threads + Sync>(
     let (first, second) = db.indexed_pair(rt)?;
     let first = Published::new(first, place, past.again());
     let second = Published::new(second, place, past.again());
-    Writer::new(alloc, first, second, READERS)
+    Writer::new(alloc, first, second, SEATS)
 }
 
 /// All readers of a writer. Nothing is shown to them yet.
@@ -77,10 +79,10 @@ fn new_readers<N: ReaderName>(
     writer: &HubWriter<N>,
 ) -> Result<Vec<HubReader<N>>, ReaderError>
     requires { past.now ≡ new_log N.shown }
-    ensures { IfOk result (λ readers. length readers.items ≡ READERS) }
+    ensures { IfOk result (λ readers. length readers.items ≡ SEATS) }
 {
-    let mut readers = Vec::with_capacity(alloc, READERS)?;
-    for _ in 0..READERS {
+    let mut readers = Vec::with_capacity(alloc, SEATS)?;
+    for _ in 0..SEATS {
         let Ok(seat) = writer.factory().reader() else {
             return Err(ReaderError::NoReader);
         };

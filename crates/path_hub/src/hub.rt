@@ -42,6 +42,8 @@ pub struct Hub<D: Device, N: HubName, R: Wait + Clock> {
     /// Whether an actor has given up a stranger.
     pub(crate) has_stranger: AtomicBool,
     pub(crate) readers: Mutex<Vec<HubReader<N>>>,
+    /// The reader that the workload looks up by for itself, unless a thread has taken it.
+    pub(crate) own_reader: Mutex<Option<HubReader<N>>>,
     pub(crate) collector: ClaimCollector<N>,
     /// The claims of the commands that sessions which have ended had acknowledged.
     pub(crate) acknowledged: Mutex<LoggedList<N>>,
@@ -62,7 +64,7 @@ impl<D: Device, N: HubName, R: Wait + Clock> Hub<D, N, R> {
         &self.rt
     }
 
-    /// Takes a free reader. A hub has 65 readers. A reader that is dropped and not given back is
+    /// Takes a free reader. A hub has 64 of them. A reader that is dropped and not given back is
     /// lost to the hub.
     pub fn reader(&self) -> Result<HubReader<N>, HubError>
         ensures { IfErr result (λ e. e ≡ NoReader) }
@@ -76,6 +78,17 @@ impl<D: Device, N: HubName, R: Wait + Clock> Hub<D, N, R> {
     /// Gives a reader back.
     pub fn give_back(&self, reader: HubReader<N>) {
         let _ = self.readers.lock(&self.rt).push(reader);
+    }
+
+    /// Takes the hub's own reader, by which a workload looks up for itself. It is none of those that
+    /// `reader` hands out. The result is `None` while a thread has it.
+    pub fn take_own_reader(&self) -> Option<HubReader<N>> {
+        self.own_reader.lock(&self.rt).take()
+    }
+
+    /// Gives the hub's own reader back.
+    pub fn keep_own_reader(&self, reader: HubReader<N>) {
+        *self.own_reader.lock(&self.rt) = Some(reader);
     }
 
     /// The collector of the claims of receipts. Its calls wait for nobody.

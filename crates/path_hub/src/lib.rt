@@ -3,7 +3,7 @@
 //!
 //! A hub has one flusher, which commits accepted commands in groups, and one checkpointer, which
 //! writes all rows after a sealed journal to the other half. It has any number of threads that
-//! register commands, and the 65 readers of `hub_readers`, which look up what is published without
+//! register commands, and the 64 readers of `hub_readers`, which look up what is published without
 //! a lock.
 //!
 //! A thread that registers a command does not take the state's lock. It hands the command in to a

@@ -157,7 +157,7 @@ impl<D: Device, N: HubName, R: Wait + Clock> Hub<D, N, R> {
             shown,
         } = name;
         let opened = open_readers::<N, R>(rt, alloc, shown, store.db(), store.place());
-        let (show, readers) = match opened {
+        let (show, mut readers) = match opened {
             Ok(made) => made,
             Err(ReaderError::NoMemory) => return Err((store, HubError::NoMemory)),
             Err(ReaderError::NoReader) => return Err((store, HubError::NoReader)),
@@ -188,6 +188,7 @@ impl<D: Device, N: HubName, R: Wait + Clock> Hub<D, N, R> {
             changes: Changes::new(),
             status,
             has_stranger: AtomicBool::new(false),
+            own_reader: Mutex::new(readers.pop()),
             readers: Mutex::new(readers),
             acknowledged: Mutex::new(collector.empty_list()),
             looks: Mutex::new(looks),
@@ -224,6 +225,7 @@ impl<D: Device, N: HubName, R: Wait + Clock> Hub<D, N, R> {
             status: _status,
             has_stranger: _has_stranger,
             readers: _readers,
+            own_reader: _own_reader,
             collector: _collector,
             acknowledged,
             looks,

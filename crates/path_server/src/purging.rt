@@ -70,15 +70,16 @@ impl<L: Listener + Drop, V: Verifier, O: Reports> Server<'_, L, V, O> {
     }
 
     /// A sample of the rows, of which those have expired that expire at this moment or before. There
-    /// is none where no reader is free, or memory is refused.
+    /// is none where memory is refused, or what is published is older than what the hub's own reader
+    /// was shown.
     fn sample<D: Device, N: HubName, R: Wait + Clock>(
         &self,
         hub: &Hub<D, N, R>,
         until: u64,
     ) -> Option<Sample> {
-        let mut reader = hub.reader().ok()?;
+        let mut reader = hub.take_own_reader()?;
         let sample = Sample::of(self.alloc, &mut reader, until);
-        hub.give_back(reader);
+        hub.keep_own_reader(reader);
         sample.ok()
     }
 

@@ -27,8 +27,8 @@ use std::sync::Wait;
 use std::sync::atomic::{AtomicBool, AtomicU64, Ordering};
 use std::time::{Clock, Duration, Instant};
 
-// Each session at one time has a reader of the hub, and so have the purges of the server itself.
-const _: () = prove!(MOST_SESSIONS + 1 == READERS as u64);
+// Each session at one time has a reader of the hub.
+const _: () = prove!(MOST_SESSIONS == READERS as u64);
 
 const _: () = prove!(MOST_SESSIONS == 64);
 
