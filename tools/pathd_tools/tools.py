@@ -26,6 +26,7 @@ PAGES = [
 
 CHECKS = [
     Tool("vectors", "checks.vectors", "the cases of folders such as tools/cases"),
+    Tool("defined", "checks.defined", "what the program does without options, as tools/cases/defined has it"),
     Tool("client", "client.sh", "sessions of the Python client, with and without a key, and after a kill"),
     Tool("go-client", "go_client.sh", "the tests of the Go client"),
     Tool("examples", "checks.examples", "the programs on the clients' pages, and the one in Rust: each prints what its page says"),

@@ -24,6 +24,8 @@ from pathd_tools import runs, toolbox
 SECONDS = 60
 # The status of a run that was ended after these seconds, as the command `timeout` gives it.
 TIMED_OUT = 124
+# Most characters of an output that are printed where it differs.
+MOST_SHOWN = 200
 
 
 def part(case: Path, ending: str) -> bytes | None:
@@ -36,6 +38,12 @@ def given_to(case: Path, words: list[str]) -> bytes:
     """The standard input of a case."""
     text = part(case, "in") or b""
     return text if "--hex" in words else bytes.fromhex("".join(text.decode().split()))
+
+
+def differs(what: str, got: bytes, wanted: bytes) -> str:
+    """Says what an output is and what it has to be."""
+    shown = [text.decode(errors="replace").strip()[:MOST_SHOWN] or "empty" for text in (got, wanted)]
+    return f"{what} is {shown[0]}, not {shown[1]}" if shown[0] != shown[1] else f"{what} differs after {MOST_SHOWN} characters, or in spaces"
 
 
 def run_case(program: str, case: Path, device: Path) -> list[str]:
@@ -56,13 +64,13 @@ def run_case(program: str, case: Path, device: Path) -> list[str]:
     if status != wanted:
         found.append(f"status {status}, not {wanted}")
     if out != part(case, "out"):
-        found.append("standard output")
+        found.append(differs("standard output", out, part(case, "out") or b""))
     errors = b"".join(line + b"\n" for line in err.split(b"\n") if line.startswith(b"error:"))
     if wanted != 2 and errors != (part(case, "err") or b""):
-        found.append("standard error")
+        found.append(differs("standard error", errors, part(case, "err") or b""))
     after = part(case, "after")
     if after is not None and (not device.exists() or hashlib.sha256(device.read_bytes()).hexdigest().encode() != after[:64]):
-        found.append("the file")
+        found.append("the file differs")
     return found
 
 
@@ -72,8 +80,9 @@ def run_folder(program: str, folder: str, device: Path) -> int:
     wrong = 0
     for case in cases:
         found = run_case(program, case, device)
+        note = (part(case, "note") or b"").decode().strip()
         for it in found:
-            print(f"{case}: {it}")
+            print(f"{case}{f' ({note})' if note else ''}: {it}")
         wrong += bool(found)
     print(f"{folder}: {len(cases)} cases, {wrong} differ")
     return wrong if cases else 1

@@ -21,6 +21,7 @@ SUITES = [
     ("python3-protobuf", "client PROGRAM"),
     ("rustc", "examples --program PROGRAM clients/rust/client.rs"),
     ("", "vectors -p PROGRAM tools/cases"),
+    ("gcc", "defined PROGRAM"),
     ("", "help-texts PROGRAM"),
     ("", "asking PROGRAM"),
     ("python3-protobuf python3-venv curl", "steps PROGRAM"),
