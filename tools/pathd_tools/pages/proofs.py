@@ -6,6 +6,10 @@ a trait may be in place of the function, and a definition is `CRATE specs::MODUL
 of the same crate, or `CRATE/EDIT`. On the page of a crate a contract is [`name`](src/FILE.rt):
 `clause`, `clause`. Several contracts of docs/PROOFS.md are joined by commas, and those of a crate's
 page by semicolons.
+
+docs/DECISIONS.md has a table of what is other than first defined. Its rows are counted, since the
+page says how many there are: so none is lost where words are cut. What shows a row is a contract or
+a test, an edit in either folder as `CRATE/EDIT`, or the path of a file.
 """
 from __future__ import annotations
 
@@ -20,6 +24,9 @@ HEADER = "| claim | contract | edit |"
 # An edit of the gate, or in parentheses one beside it.
 EDIT = r"(?:`[^`]+`|\(`[^`]+`\))"
 CRATE_HEADER = "| claim | contract |"
+OTHER_HEADER = "| here, other than first defined | why | shown by |"
+# How many rows the page says that the table has.
+OTHER_COUNT = re.compile(r"differs from that in (\d+) points")
 
 
 def rows(path: Path, header: str) -> list[tuple[int, list[str]]]:
@@ -49,7 +56,7 @@ def known_in(path: Path) -> dict[str, set[str]]:
     for it in source.functions(path.relative_to(CRATES).parts[0]):
         if it.path == path:
             known.setdefault(it.name, set()).update(it.clauses)
-    known.update({it: {""} for it in re.findall(r"^pub (?:trait|struct|enum) (\w+)", path.read_text(), re.M)})
+    known.update({it: {""} for it in re.findall(r"^pub (?:trait|struct|enum|const) (\w+)", path.read_text(), re.M)})
     return known
 
 
@@ -87,6 +94,37 @@ def problems(cells: list[str]) -> list[str]:
     return found
 
 
+def other_problems(cells: list[str]) -> list[str]:
+    """What is wrong with a row of what is other than first defined."""
+    if len(cells) != 3 or not all(cells):
+        return ["the row has not three columns"]
+    names = re.findall(r"`([^`]+)`", cells[2])
+    found = [] if names else ["nothing shows the row"]
+    for name in names:
+        crate, _, contract = name.partition(" ")
+        if contract:
+            path, *clauses = contract.split()
+            *modules, last = path.split("::")
+            found += lacks(file_of(crate, modules), last, clauses, may_lack=True)
+        elif not (TOP / name).exists() and not is_edit(name):
+            found.append(f"no file and no edit {name}")
+    return found
+
+
+def is_edit(name: str) -> bool:
+    """Whether `CRATE/EDIT` is an edit of either folder."""
+    crate, _, word = name.rpartition("/")
+    return any((CRATES / crate / folder / f"{word}.edit").is_file() for folder in ("must-fail", "more-edits"))
+
+
+def count_problems(page: Path, count: int) -> list[str]:
+    """What is wrong with the number of rows that the page says."""
+    stated = OTHER_COUNT.search(" ".join(page.read_text().split()))
+    if stated is None:
+        return ["the page doesn't say in how many points the product differs from its first definition"]
+    return [] if int(stated[1]) == count else [f"the page says {stated[1]} points, and the table has {count} rows"]
+
+
 def crate_problems(crate: Path, cells: list[str]) -> list[str]:
     """What is wrong with a row of a crate's page."""
     if len(cells) != 2:
@@ -103,6 +141,10 @@ def main(words: list[str]) -> int:
     parser(__doc__).parse_args(words)
     proofs = TOP / "docs" / "PROOFS.md"
     found = [(proofs, at, it) for at, cells in rows(proofs, HEADER) for it in problems(cells)]
+    decisions = TOP / "docs" / "DECISIONS.md"
+    others = rows(decisions, OTHER_HEADER)
+    found += [(decisions, at, it) for at, cells in others for it in other_problems(cells)]
+    found += [(decisions, 1, it) for it in count_problems(decisions, len(others))]
     for page in sorted(CRATES.glob("*/README.md")):
         found += [(page, at, it) for at, cells in rows(page, CRATE_HEADER) for it in crate_problems(page.parent, cells)]
     for path, at, it in found:
