@@ -44,7 +44,7 @@ LINKED = sed -zE 's!\]\(docs/!](!g; s!\]\(\.\./(\.\./)?(README|CHANGELOG)\.md!](
   s!\]\((\.\./)?((\.\./)?)deploy/([^)]*/)?!](\2examples/!g; \
   s!\]\(((\.\./|operating/|examples/|\.\./examples/)?($(NAMES))(\#[^)]*)?|\#[^)]*|https?:[^)]*)\)!]\x01\1\x02!g; \
   s!\[([^][]*)\]\([^)]*\)!\1!g; s/\x01/(/g; s/\x02/)/g; \
-  s!(^|[ \n`])deploy/([a-z.]*/)?(pathd\.nft|pathd\.rules\.yml|grafana-dashboard\.json|status\.conf)!\1$(PREFIX)/share/doc/pathd/examples/\3!g; \
+  s!(^|[ \n`])deploy/([a-z.]*/)?(pathd\.nft|pathd\.rules\.yml|grafana-dashboard\.json|status\.conf|try)!\1$(PREFIX)/share/doc/pathd/examples/\3!g; \
   s!/usr/local/(bin|lib)/!$(PREFIX)/\1/!g'
 
 help:
@@ -74,6 +74,7 @@ install-pages:
 	chmod 644 $(patsubst %,$(DOC)/%,$(notdir $(PAGES))) $(DOC)/operating/*.md
 	install -m 644 $(PICTURES) $(DOC)
 	install -m 644 $(EXAMPLES) $(DOC)/examples
+	install -m 755 deploy/try $(DOC)/examples
 
 # The settings and the store stay.
 uninstall:

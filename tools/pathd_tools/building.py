@@ -12,12 +12,14 @@ from __future__ import annotations
 import os
 import shutil
 import tempfile
-from collections.abc import Sequence
+from collections.abc import Callable, Sequence
 from pathlib import Path
 from typing import Any
 
 from pathd_tools import bounded
 
+# The stages of a build.
+FRONT_END, LLVM, LINKER = "front end", "LLVM", "linker"
 TARGET = "x86_64-unknown-linux-gnu"
 # Words of rt try's clang that ask for its checks, for their speed of compilation, or for files.
 LEFT_OUT = {"-O0", "-fsanitize=address", "-Werror"}
@@ -104,14 +106,20 @@ def compiler_words(words: list[str], kit: Path, kept: Path, level: int) -> list[
     return [str(clang), *(sysroot if word.startswith("--sysroot=") else changed.get(word, word) for word in left), f"-O{level}"]
 
 
-def build(crate: Path, program: Path, level: int = 1, has_tests: bool = False) -> None:
-    """Builds the program of a crate's folder, or that of its tests, by LLVM at an optimization level; else it raises NotBuilt."""
+def build(crate: Path, program: Path, level: int = 1, has_tests: bool = False, begin: Callable[[str], None] = lambda _: None) -> None:
+    """Builds the program of a crate's folder, or that of its tests, by LLVM at an optimization level; else it raises NotBuilt.
+
+    `begin` is called with the name of each stage as it begins.
+    """
     kit = kit_of_rt()
     with tempfile.TemporaryDirectory(prefix="pathd-build-") as name:
         folder = Path(name)
+        begin(FRONT_END)
         words = keep_module(crate, keeping_kit(kit, folder), folder / "kept", has_tests)
         module = folder / "kept" / "module.o"
+        begin(LLVM)
         step(compiler_words(words, kit, folder / "kept", level), f"clang for {crate.name}", module, cwd=folder)
         libraries = [str(kit / "c" / it) for it in ("libos_c.a", "liblibc_c.a")]
+        begin(LINKER)
         linker = [str(kit / "bin" / "rattle-link"), "--target", TARGET, "--toolchain", str(kit / "toolchain")]
         step([*linker, "-o", str(program), str(module), *libraries], f"the linker for {crate.name}", program)

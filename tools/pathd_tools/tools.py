@@ -79,6 +79,7 @@ LOAD = [
 ]
 
 OTHERS = [
+    Tool("try", "trying", "shows the program at work in a minute; builds it first, without its proofs, where it is not built"),
     Tool("test", "testing.together", "every test without a proof, in minutes: of crates, pages and clients; or of the crates that are named"),
     Tool("gate", "gate", "the gate of a merge: `rt ci` without the proofs of the tests, or with them"),
     Tool("gate-time", "gate_time", "runs the gate, and prints the seconds of each crate's proof, edits and tests"),

@@ -76,6 +76,7 @@ expect "no file names /usr/local" sh_inside \
 expect "each link of its pages leads to something, and no block needs the repository" \
   "$top/tools/pathd-tools" installed --folder "$root/usr/share/doc/pathd"
 expect "the program prints its help" inside /usr/bin/pathd --help
+expect "its example shows the program at work" /usr/bin/python3 "$root/usr/share/doc/pathd/examples/try" --once "$program"
 expect "a store is made and served, and the probe is answered" sh_inside '
   cd /var/lib/pathd
   setpriv --reuid pathd --regid pathd --clear-groups pathd format store --new --checkpoint 64 --journal 516

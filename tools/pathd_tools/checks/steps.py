@@ -6,7 +6,7 @@ print.
 The blocks of a page are carried out by one shell in their order, in a folder that is thrown away.
 There `pathd` is the built program, other ports are in place of 30252, 30253 and 30262, the folder
 itself is in place of /run and /opt, and clients/python is a copy of that of the repository. The file
-DEV has a new store. On docs/CLI.md and docs/WATCHING.md a server of DEV runs. The pages are README.md,
+DEV has a new store. On docs/CLI.md and docs/WATCHING.md a server of DEV runs. The pages are
 docs/CLI.md, docs/WATCHING.md, docs/operating/first-hour.md, docs/operating/run.md and
 clients/python/README.md. It needs Python 3 with protobuf, Debian's python3-venv and curl.
 
@@ -35,7 +35,6 @@ from pathd_tools.pages.blocks import Block, blocks
 NAME = "steps"
 # The pages, and whether a server of DEV runs beside the blocks.
 PAGES = {
-    "README.md": False,
     "docs/CLI.md": True,
     "docs/WATCHING.md": True,
     "docs/operating/first-hour.md": False,
@@ -148,10 +147,7 @@ def free_ports(count: int) -> list[str]:
 def prepared(program: str, is_served: bool) -> Iterator[tuple[Path, dict[str, str], dict[str, str]]]:
     """A folder for a page's blocks, the environment of their shell, and what is in place of other texts."""
     with runs.scratch() as folder:
-        other = {
-            **dict(zip(PORTS, free_ports(len(PORTS)))),
-            "/tmp/unproved/pathd": program, "/tmp/store": str(folder / "store"), "/run/": f"{folder}/", "/opt/": f"{folder}/",
-        }
+        other = {**dict(zip(PORTS, free_ports(len(PORTS)))), "/run/": f"{folder}/", "/opt/": f"{folder}/"}
         (folder / "bin").mkdir()
         (folder / "bin/pathd").symlink_to(program)
         shutil.copytree(TOP / "clients/python", folder / "clients/python", ignore=shutil.ignore_patterns("__pycache__"))

@@ -22,6 +22,7 @@ SUITES = [
     ("rustc", "examples --program PROGRAM clients/rust/client.rs"),
     ("", "vectors -p PROGRAM tools/cases"),
     ("gcc", "defined PROGRAM"),
+    ("", "try --once --program PROGRAM"),
     ("", "help-texts PROGRAM"),
     ("", "asking PROGRAM"),
     ("python3-protobuf python3-venv curl", "steps PROGRAM"),
