@@ -13,8 +13,8 @@ import (
 	"pathd/gateway/internal/settings"
 )
 
-// version is set by the linker: gateway/build has it from the last commit.
-var version = "unknown"
+// version is that of the program pathd: `tools/pathd-tools versions` compares them.
+const version = "0.9.0"
 
 // The heap is small, so that it may grow by much before garbage is collected: that takes a tenth of a
 // call's processor time else. The environment's GOGC and GOMEMLIMIT count before these.

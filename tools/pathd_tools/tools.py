@@ -18,6 +18,7 @@ PAGES = [
     Tool("help-texts", "pages.help_texts", "the man page and the completions have the program's commands and options"),
     Tool("codes", "pages.codes", "the pages, the crate and the clients have the codes of docs/codes.csv; --write"),
     Tool("plots-page", "pages.plots_page", "the page of plots in crates/status_page is its page/plots.html; --write"),
+    Tool("versions", "pages.versions", "the program, the clients, the gateway and the pages have one version"),
     Tool("metric-names", "pages.metric_names", "the alert rules, the dashboard and the pages have the names of the server's numbers"),
     Tool("installed", "pages.installed", "the pages as they are installed: each link leads to something, and no block needs the repository"),
     Tool("pictures", "pages.pictures", "each picture of docs/ is that of its text in docs/pictures; --write"),
