@@ -65,13 +65,17 @@ pre { overflow-x: auto; padding: .6rem .8rem; border-radius: 6px; background: va
 
 // The milliseconds between two reads, those after which an answer is given up, and those that a plot has.
 const EVERY = 2000, PATIENCE = 1500, SPAN = 300000;
+// How many answers in a row are missed until the server counts as away.
+const AWAY = 2;
+// The replies to lookups without sides, by which a gateway probes the server. They are no refusals.
+const PROBED = 'pathd_refusals_total{code="41"}';
 // The size of a plot, in units of its own.
 const WIDTH = 300, HEIGHT = 80;
 
 // What was read, the oldest first: the moment, and the numbers by their names, or null without an answer.
 const samples = [];
-// The sample that the pointer is at, or null, and the moment of the last answer.
-let chosen = null, answered = Date.now();
+// The sample that the pointer is at, or null, the moment of the last answer, and how many were missed since.
+let chosen = null, answered = Date.now(), missed = 0;
 
 const find = (name) => document.querySelector(name);
 const clock = (at) => new Date(at).toLocaleTimeString();
@@ -99,17 +103,19 @@ function current(now, start) {
   return [label(name).replaceAll('_', ' '), number];
 }
 
-// How much numbers have grown since the sample before; null where there is none, or the server was started since.
-function growth(start, { now, before }) {
-  const grown = before ? sum(now, start) - sum(before, start) : -1;
+// How much numbers have grown since the sample before, but for one of them; null where there is none, or the
+// server was started since.
+function growth(start, { now, before }, but) {
+  const all = (numbers) => sum(numbers, start) - (numbers.get(but) ?? 0);
+  const grown = before ? all(now) - all(before) : -1;
   return grown < 0 ? null : grown;
 }
 
 // What a plot shows of a sample: a number, its growth in a second, its growth by that of another one,
 // and the milliseconds within which a part of what a histogram counts was done, as the end of a bucket.
 const level = (name) => ({ now }) => now.get(name);
-const rate = (start) => (sample) => {
-  const grown = growth(start, sample);
+const rate = (start, but) => (sample) => {
+  const grown = growth(start, sample, but);
   return grown === null ? null : grown / sample.seconds;
 };
 const share = (start, of) => (sample) => {
@@ -138,7 +144,7 @@ const PLOTS = [
   ['Room for segments that is taken', '%', [({ now }) => 100 * now.get('pathd_rows_bytes') / now.get('pathd_rows_limit_bytes')], 100],
   ['Commands that await their commit', 'of 64', [level('pathd_commands_pending')], 64],
   ['Sessions', 'of 64', [level('pathd_sessions')], 64],
-  ['Refusals', 'a second', [rate('pathd_refusals_total')]],
+  ['Refusals', 'a second', [rate('pathd_refusals_total', PROBED)]],
   ['Call of the device under way', 'ms', [({ now }) => 1000 * sum(now, 'pathd_call_seconds')]],
 ];
 
@@ -259,12 +265,13 @@ async function step() {
     const [reason, isReady] = await ask('readyz');
     now = read(text);
     answered = at;
+    missed = 0;
     find('pre').textContent = text;
     const [[build]] = named(now, 'pathd_build_info');
     find('#about').textContent = `${label(build)} at ${location.host}, running for ${lasting(now.get('pathd_uptime_seconds'))}`;
     say(isReady ? 'good' : 'bad', isReady ? 'commands are accepted' : reason);
   } catch {
-    say('away', `the server has not answered since ${clock(answered)}; this page goes on once it does`);
+    if (++missed >= AWAY) say('away', `the server has not answered since ${clock(answered)}; this page goes on once it does`);
   }
   samples.push({ at, now });
   while (samples[0].at < at - SPAN) samples.shift();
@@ -281,7 +288,7 @@ step();
 
 /// What a browser may load and run for it. The hashes are those of its script and of its style.
 const POLICY: &str =
-    "default-src 'none'; script-src 'sha256-sPy0tFjNx9v8SKU/Zkb7O+rJYOaTJ59OIi8sdSj5yMA='; style-src 'sha256-oJQnRmJOxfddD3oSFOsc3/+dd1j2GHjH3KRdIry138w='; img-src data:; connect-src 'self'; base-uri 'none'; form-action 'none'; frame-ancestors 'none'";
+    "default-src 'none'; script-src 'sha256-Ec+/eLR+bj9eI94KrnMHR8s5KDBhOcL34P7FHTIx6FM='; style-src 'sha256-oJQnRmJOxfddD3oSFOsc3/+dd1j2GHjH3KRdIry138w='; img-src data:; connect-src 'self'; base-uri 'none'; form-action 'none'; frame-ancestors 'none'";
 
 /// The page that draws the numbers of a server, and reads them from it again and again.
 #[tactic(auto, unfolding(crate::specs::Response::plots))]
