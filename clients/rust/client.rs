@@ -43,6 +43,11 @@ fn bytes(digits: &str) -> Vec<u8> {
         .collect()
 }
 
+/// The number that big-endian bytes are.
+fn number(bytes: &[u8]) -> u64 {
+    bytes.iter().fold(0, |above, byte| above << 8 | u64::from(*byte))
+}
+
 /// The seconds since 1970 as a varint of protobuf, which has five bytes until the year 3058.
 fn now() -> Vec<u8> {
     let clock = SystemTime::now().duration_since(SystemTime::UNIX_EPOCH);
@@ -66,11 +71,9 @@ fn main() -> Result<()> {
     let mut server = TcpStream::connect(address)?;
     server.set_read_timeout(Some(Duration::from_secs(30)))?;
     let reply = ask(&mut server, 0x01, &registration())?;
-    let number = |at: usize| u32::from_be_bytes(reply[at..at + 4].try_into().unwrap());
-    let place = u64::from_be_bytes(reply[..8].try_into().unwrap());
     println!(
-        "registered at place {place}: {} inserted, {} updated, {} kept",
-        number(8), number(12), number(16),
+        "registered at place {}: {} inserted, {} updated, {} kept",
+        number(&reply[..8]), number(&reply[8..12]), number(&reply[12..16]), number(&reply[16..20]),
     );
     // From 1-ff00:0:110 to 1-ff00:0:111.
     let sides = bytes("089082808080e07f109182808080e07f");

@@ -53,7 +53,7 @@ def command(file: Path) -> list[str]:
         return ["/usr/bin/python3", "-B", str(file)]
     if file.suffix == ".go":
         return ["go", "run", str(file)]
-    subprocess.run(["rustc", "--edition", "2021", "-D", "warnings", str(file), "-o", str(file.with_suffix(""))], check=True)
+    subprocess.run(["rustc", "-D", "warnings", str(file), "-o", str(file.with_suffix(""))], check=True)
     return [str(file.with_suffix(""))]
 
 
