@@ -26,12 +26,14 @@ from pathd_tools.pages import source
 PROVED = TOP / "crates/pathd/out/pathd"
 # Some seconds of a processor that each stage of a build takes, and what it does.
 STAGES = {
-    building.FRONT_END: (170, "compiles the crates"),
-    building.LLVM: (40, "makes machine code"),
-    building.LINKER: (1, "makes the program"),
+    building.FRONT_END: (110, "the front end compiles the crates"),
+    building.LLVM: (60, "LLVM makes machine code"),
+    building.LINKER: (1, "the linker makes the program"),
 }
+# LLVM's level of optimization. A greater one takes a minute more.
+LEVEL = 0
 # The seconds between two lines on how far a stage is.
-BETWEEN = 15
+BETWEEN = 20
 
 
 def sources() -> list[Path]:
@@ -82,15 +84,15 @@ class Progress:
         self.stage, self.count = stage, self.count + 1
         self.begun, self.before, self.has_ended = time.monotonic(), used(os.getpid()), threading.Event()
         left = sum(seconds for seconds, _ in list(STAGES.values())[self.count - 1 :])
-        print(f"  {self.count} of {len(STAGES)}: the {stage} {STAGES[stage][1]}; some {left} s of a processor are left", flush=True)
+        print(f"  {self.count} of {len(STAGES)}: {STAGES[stage][1]}; some {left} s of a processor are left", flush=True)
         threading.Thread(target=self._go_on, args=(self.has_ended,), daemon=True).start()
 
     def _go_on(self, has_ended: threading.Event) -> None:
         seconds = STAGES[self.stage][0]
         while not has_ended.wait(BETWEEN):
             took, done = time.monotonic() - self.begun, max(used(os.getpid()) - self.before, 0.1)
-            left = max(seconds - done, 1) * took / done
-            print(f"    {took:.0f} s: {min(99, 100 * done / seconds):.0f} %, some {left:.0f} s are left of this stage", flush=True)
+            left = f"{100 * done / seconds:.0f} %, some {(seconds - done) * took / done:.0f} s are left of this stage"
+            print(f"    {took:.0f} s: {left if done < seconds else 'it takes longer than it did elsewhere'}", flush=True)
 
     def end(self) -> None:
         """The last stage that began has ended."""
@@ -105,7 +107,7 @@ def built(program: Path) -> Path:
     program.parent.mkdir(parents=True, exist_ok=True)
     progress, made = Progress(), program.with_name(f"making{os.getpid()}")
     try:
-        building.build(TOP / "crates/pathd", made, begin=progress.begin)
+        building.build(TOP / "crates/pathd", made, LEVEL, begin=progress.begin)
         made.replace(program)
     finally:
         made.unlink(missing_ok=True)
