@@ -17,6 +17,7 @@ from __future__ import annotations
 
 import socket
 import subprocess
+import threading
 import time
 from collections.abc import Callable
 from contextlib import ExitStack, suppress
@@ -46,15 +47,14 @@ PURGED, REGISTERED = "0000001983", "0000001981"
 
 def ended(command: list[str]) -> tuple[str, str]:
     """The status of a command line of `run`, `serves` if it prints `ready`, and its last line `error:`."""
-    process = subprocess.Popen(command, stdin=subprocess.DEVNULL, stdout=subprocess.PIPE, stderr=subprocess.PIPE)
-    try:
+    with subprocess.Popen(command, stdin=subprocess.DEVNULL, stdout=subprocess.PIPE, stderr=subprocess.PIPE) as process:
+        late = threading.Timer(PATIENCE, process.kill)
+        late.start()
         serves = process.stdout.readline() == b"ready\n"
         if serves:
             process.kill()
-        _, errors = process.communicate(timeout=PATIENCE)
-    finally:
-        process.kill()
-        process.wait()
+        _, errors = process.communicate()
+        late.cancel()
     lines = [line for line in errors.decode(errors="replace").splitlines() if line.startswith("error:")]
     return "serves" if serves else str(process.returncode), "" if serves else lines[-1] if lines else ""
 
