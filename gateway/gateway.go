@@ -71,11 +71,12 @@ func newGateway(s *settings.Settings, listener net.Listener) (g *gateway, err er
 	})
 	g.door = door.New(listener, door.Options{
 		Connections: s.Connections, PeerConnections: s.PeerConnections,
+		OwedByOne: owedByOne, OwedByAll: owedByAll,
 		Streams: uint32(s.Streams), Stuck: s.Deadline, TLS: g.certificates.current(),
 	}, g.serveHTTP2)
 	options := calls.Options{
 		Pathd: g.pathd, MostSegments: s.MostSegments, Deadline: s.Deadline,
-		Calls: s.Calls, OwedByOne: owedByOne, OwedByAll: owedByAll, Owed: g.door.Owed,
+		Calls: s.Calls, Registrations: s.Registrations,
 	}
 	if g.keeper != nil {
 		options.Verifier = g.keeper
@@ -101,11 +102,11 @@ func (g *gateway) services() []string {
 // makeWeb makes the server of HTTP/1 and of HTTP/2 that is not gRPC's. A connection of HTTP/2 whose
 // first request is Connect's may have calls of gRPC later.
 func (g *gateway) makeWeb() error {
-	connect := connectapi.NewHandler(g.desk, g.methods)
+	connect, byGRPC := connectapi.NewHandler(g.desk, g.methods), grpcapi.Handler(g.grpc, g.settings.Deadline)
 	g.web = &http.Server{
 		Handler: http.HandlerFunc(func(w http.ResponseWriter, r *http.Request) {
 			if r.ProtoMajor == 2 && strings.HasPrefix(r.Header.Get("Content-Type"), "application/grpc") {
-				g.grpc.ServeHTTP(w, r)
+				byGRPC.ServeHTTP(w, r)
 			} else {
 				connect.ServeHTTP(w, r)
 			}

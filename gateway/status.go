@@ -58,9 +58,10 @@ func (g *gateway) page() *numbers.Page {
 }
 
 func (g *gateway) writeCalls(p *numbers.Page) {
-	underWay, turned := g.desk.Numbers()
-	p.Gauge("pathd_gateway_calls", "Calls under way.")
-	p.Row("pathd_gateway_calls", "", float64(underWay))
+	underWay, whole, turned := g.desk.Numbers()
+	p.Gauge("pathd_gateway_calls", "Calls under way, by whether their requests are whole.")
+	p.Row("pathd_gateway_calls", `request="whole"`, float64(whole))
+	p.Row("pathd_gateway_calls", `request="incomplete"`, float64(underWay-whole))
 	p.Counter("pathd_gateway_calls_turned_away_total", "Calls that were ended for want of room.")
 	p.Row("pathd_gateway_calls_turned_away_total", "", float64(turned))
 	g.desk.WritePages(p)
@@ -86,7 +87,7 @@ func (g *gateway) writeDoor(p *numbers.Page) {
 	for _, it := range []struct {
 		why   string
 		count uint64
-	}{{"no_room", n.Refused}, {"faulty", n.Faulty}, {"flood", n.Flooded}, {"stuck", n.Stuck}} {
+	}{{"no_room", n.Refused}, {"faulty", n.Faulty}, {"flood", n.Flooded}, {"stuck", n.Stuck}, {"idle", n.Idle}, {"slow", n.Slow}} {
 		p.Row("pathd_gateway_connections_closed_total", fmt.Sprintf("why=%q", it.why), float64(it.count))
 	}
 }

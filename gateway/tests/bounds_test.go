@@ -6,13 +6,10 @@ import (
 	"strconv"
 	"strings"
 	"testing"
-	"time"
 
 	"golang.org/x/net/http2"
 	"golang.org/x/net/http2/hpack"
-	"google.golang.org/grpc/codes"
 	health "google.golang.org/grpc/health/grpc_health_v1"
-	"google.golang.org/grpc/status"
 	"google.golang.org/protobuf/proto"
 
 	pki "pathd/gateway/internal/testpki"
@@ -54,41 +51,15 @@ func TestJSONThatIsNone(t *testing.T) {
 	}
 }
 
-// TestCallsCountFromTheirFirstByte has calls of gRPC without a request take the places of others.
-func TestCallsCountFromTheirFirstByte(t *testing.T) {
-	at := gateway(t, fake(t, healthy), "--calls", "4", "--deadline", "3").address
-	p := newPeer(t, at)
-	for stream := uint32(1); stream < 16; stream += 2 {
-		p.begin(stream, lookupPath)
-	}
-	begun := time.Now()
-	for refused := 0; refused < 4; refused++ {
-		if p.until(isRefusal) == nil {
-			t.Fatal("the calls are not refused")
-		}
-	}
-	if time.Since(begun) > 2*time.Second {
-		t.Error("the calls are refused late")
-	}
-	conn, ctx := dial(t, at)
-	waitUntil(t, "calls that have no request do not end", func() bool {
-		_, err := lookup(ctx, conn)
-		if err != nil && status.Code(err) != codes.ResourceExhausted {
-			t.Error(err)
-		}
-		return err == nil
-	})
-}
-
-// TestHealthChecksAreBounded has more watches and checks than there is room for.
+// TestHealthChecksAreBounded has more watches and checks than one address has a share of: a quarter of 256.
 func TestHealthChecksAreBounded(t *testing.T) {
 	at := gateway(t, fake(t, healthy), "--streams", "512").address
 	for _, path := range []string{watchPath, checkPath} {
-		p := newPeer(t, at)
+		p := peerOf(t, dialFrom(t, other, at))
 		for stream := uint32(1); stream < 2*300; stream += 2 {
 			p.begin(stream, path)
 		}
-		for refused := 0; refused < 44; refused++ {
+		for refused := 0; refused < 299-64; refused++ {
 			if p.until(isRefusal) == nil {
 				t.Fatal(path, refused, "calls are refused")
 			}
@@ -97,11 +68,10 @@ func TestHealthChecksAreBounded(t *testing.T) {
 		if _, err := lookup(ctx, conn); err != nil {
 			t.Error(path, err)
 		}
+		if _, err := health.NewHealthClient(conn).Check(ctx, &health.HealthCheckRequest{}); err != nil {
+			t.Error(path, err)
+		}
 		p.Close()
-		waitUntil(t, path+": a check has no room", func() bool {
-			_, err := health.NewHealthClient(conn).Check(ctx, &health.HealthCheckRequest{})
-			return err == nil
-		})
 	}
 }
 
@@ -109,15 +79,19 @@ func TestHealthChecksAreBounded(t *testing.T) {
 func TestWatchesOfUnknownServices(t *testing.T) {
 	t.Setenv("GOGC", "20")
 	at := gateway(t, fake(t, healthy), "--status", "127.0.0.1:0")
-	for round := 0; round < 10; round++ {
+	for round := 0; round < 20; round++ {
 		conn, ctx := dial(t, at.address)
-		for i := 0; i < 100; i++ {
+		for i := 0; i < 50; i++ { // fewer than an address may have, while those before are ended
 			name := fmt.Sprint(round, " ", i, strings.Repeat("x", 100_000))
-			watch, err := health.NewHealthClient(conn).Watch(ctx, &health.HealthCheckRequest{Service: name})
-			pki.Must(t, err)
-			if got, err := watch.Recv(); err != nil || got.Status != health.HealthCheckResponse_SERVICE_UNKNOWN {
-				t.Fatal(got, err)
-			}
+			waitUntil(t, "a watch has no room", func() bool {
+				watch, err := health.NewHealthClient(conn).Watch(ctx, &health.HealthCheckRequest{Service: name})
+				pki.Must(t, err)
+				got, err := watch.Recv()
+				if err == nil && got.Status != health.HealthCheckResponse_SERVICE_UNKNOWN {
+					t.Fatal(got)
+				}
+				return err == nil
+			})
 		}
 		conn.Close()
 	}
@@ -149,7 +123,7 @@ func TestRepliesOfClosedConnectionsAreNotOwed(t *testing.T) {
 		p.Close()
 		at.waitFor("pathd_gateway_connections", "0")
 		more <- struct{}{}
-		at.waitFor("pathd_gateway_calls", "0")
+		at.waitFor(`pathd_gateway_calls{request="whole"}`, "0")
 		at.waitFor("pathd_gateway_owed_bytes", "0")
 	}
 }

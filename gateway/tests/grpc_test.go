@@ -209,6 +209,7 @@ func TestARequestThatIsTooLarge(t *testing.T) {
 	}
 }
 
+// TestMoreCallsThanThereIsRoomFor has an address call three times as often as it may: a quarter of all.
 func TestMoreCallsThanThereIsRoomFor(t *testing.T) {
 	quit := make(chan struct{})
 	address := fake(t, func(content []byte) []byte {
@@ -217,7 +218,7 @@ func TestMoreCallsThanThereIsRoomFor(t *testing.T) {
 		}
 		return healthy(content)
 	})
-	conn, ctx := dial(t, gateway(t, address, "--calls", "10", "--lookups", "2", "--deadline", "60").address)
+	conn, ctx := dial(t, gateway(t, address, "--calls", "40", "--lookups", "2", "--deadline", "60").address)
 	var wait sync.WaitGroup
 	var mu sync.Mutex
 	var once sync.Once
@@ -237,18 +238,6 @@ func TestMoreCallsThanThereIsRoomFor(t *testing.T) {
 	wait.Wait()
 	if count[codes.OK] != 10 || count[codes.ResourceExhausted] != 20 {
 		t.Error(count)
-	}
-}
-
-func TestConnectionsAreBounded(t *testing.T) {
-	at := gateway(t, fake(t, healthy), "--connections", "2")
-	for i := 0; i < 2; i++ {
-		dial(t, at.address)
-	}
-	ctx, cancel := context.WithTimeout(context.Background(), 2*time.Second)
-	defer cancel()
-	if _, err := grpc.DialContext(ctx, at.address, grpc.WithInsecure(), grpc.WithBlock()); err == nil {
-		t.Error("a third connection")
 	}
 }
 

@@ -25,12 +25,11 @@ type peer struct {
 // newPeer connects, and sends the preface and empty settings.
 func newPeer(t *testing.T, address string) *peer {
 	t.Helper()
-	conn, err := net.Dial("tcp", address)
-	if err != nil {
-		t.Fatal(err)
-	}
-	t.Cleanup(func() { conn.Close() })
-	conn.SetDeadline(time.Now().Add(limit))
+	return peerOf(t, dialFrom(t, "127.0.0.1", address))
+}
+
+// peerOf sends the preface and empty settings over a connection.
+func peerOf(t *testing.T, conn net.Conn) *peer {
 	io.WriteString(conn, http2.ClientPreface)
 	p := &peer{t, conn, http2.NewFramer(conn, conn)}
 	p.AllowIllegalWrites, p.AllowIllegalReads = true, true
@@ -298,7 +297,7 @@ func TestNumbers(t *testing.T) {
 		`pathd_gateway_calls_total{method="SegmentLookupService/Segments",protocol="grpc",status="0"}`: "3",
 		`pathd_gateway_connections`:                           "1",
 		`pathd_gateway_connections_total{kind="grpc"}`:        "1",
-		`pathd_gateway_calls`:                                 "0",
+		`pathd_gateway_calls{request="whole"}`:                "0",
 		`pathd_gateway_sessions{pool="lookups"}`:              "1",
 		`pathd_gateway_connections_closed_total{why="flood"}`: "0",
 	} {

@@ -11,6 +11,7 @@ import (
 	"pathd"
 	"pathd/gateway/internal/door"
 	"pathd/gateway/internal/numbers"
+	"pathd/gateway/internal/shares"
 )
 
 // Asker asks a pathd, as a client does.
@@ -27,9 +28,15 @@ type Verifier interface {
 	Verify(ctx context.Context, registration []byte) error
 }
 
-// lookupsAtOnce is how many lookups ask pathd at one time: what each finds is in memory some three times
-// while pages are added to it.
-const lookupsAtOnce = 32
+const (
+	// lookupsAtOnce is how many lookups ask pathd at one time: what each finds is in memory some three
+	// times while pages are added to it.
+	lookupsAtOnce = 32
+	// patience is how long a call may have an incomplete request before others of its peer need its place.
+	patience = time.Second
+	// ofSession is how many commands may be under way in a session with pathd.
+	ofSession = 64
+)
 
 // Options of a Desk.
 type Options struct {
@@ -39,36 +46,40 @@ type Options struct {
 	Verifier Verifier
 	// MostSegments is how many segments a lookup's response has at most.
 	MostSegments int
+	// Registrations is how many sessions with pathd there are for registrations.
+	Registrations int
 	// Deadline is the longest that a call may take.
 	Deadline time.Duration
-	// Calls is how many calls may be under way.
+	// Calls is how many calls may be under way. A peer may have a quarter of them.
 	Calls int
-	// OwedByOne is how many bytes of replies one connection may leave untaken; OwedByAll all of them.
-	OwedByOne, OwedByAll int64
-	// Owed answers how many bytes all connections leave untaken.
-	Owed func() int64
 }
 
 // Desk is where calls are carried out.
 type Desk struct {
 	options  Options
 	pages    pages
-	lookups  chan struct{} // has an element for each lookup that asks pathd
-	underWay atomic.Int64
+	calls    *shares.Pool
+	lookups  *shares.Turns // of lookups that ask pathd
+	commands *shares.Turns // of registrations that pathd has
+	whole    atomic.Int64  // calls whose requests are whole
 	turned   atomic.Uint64
 }
 
 // NewDesk answers a desk without calls.
 func NewDesk(options Options) *Desk {
+	all, commands := int64(options.Calls), int64(options.Registrations*ofSession)
 	return &Desk{
 		options: options, pages: pages{pathd: options.Pathd, most: options.MostSegments},
-		lookups: make(chan struct{}, lookupsAtOnce),
+		calls:    shares.New(shares.Bounds{All: all, OfPeer: shares.Quarter(all), Patience: patience}),
+		lookups:  shares.NewTurns(lookupsAtOnce, int(shares.Quarter(lookupsAtOnce))),
+		commands: shares.NewTurns(int(commands), int(shares.Quarter(commands))),
 	}
 }
 
-// Numbers answers how many calls are under way, and how many were turned away for want of room.
-func (d *Desk) Numbers() (underWay int64, turned uint64) {
-	return d.underWay.Load(), d.turned.Load()
+// Numbers answers how many calls are under way, and how many of these have a whole request; and how many
+// were turned away for want of room.
+func (d *Desk) Numbers() (underWay, whole int64, turned uint64) {
+	return d.calls.Taken(), d.whole.Load(), d.turned.Load()
 }
 
 // Deadline answers the longest that a call may take.
@@ -80,12 +91,11 @@ func (d *Desk) WritePages(p *numbers.Page) { d.pages.writeNumbers(p) }
 // Segments is SegmentLookupService/Segments: the body of the reply is the response, with pages of a
 // list after it where the lookup may be cut.
 func (d *Desk) Segments(ctx context.Context, request []byte) ([]byte, error) {
-	select {
-	case d.lookups <- struct{}{}:
-		defer func() { <-d.lookups }()
-	case <-ctx.Done():
-		return nil, ctx.Err()
+	leave, err := d.lookups.Enter(ctx, door.FromContext(ctx).Peers())
+	if err != nil {
+		return nil, err
 	}
+	defer leave()
 	found, err := d.options.Pathd.Ask(ctx, pathd.KindLookup, request)
 	if err != nil {
 		return nil, err
@@ -100,51 +110,14 @@ func (d *Desk) Registration(ctx context.Context, request []byte) ([]byte, error)
 			return nil, err
 		}
 	}
-	_, err := d.options.Pathd.Ask(ctx, pathd.KindRegister, request)
+	leave, err := d.commands.Enter(ctx, door.FromContext(ctx).Peers())
+	if err != nil {
+		return nil, err
+	}
+	defer leave()
+	_, err = d.options.Pathd.Ask(ctx, pathd.KindRegister, request)
 	return nil, err
 }
-
-// enter makes a place for a call, which leave gives back.
-func (d *Desk) enter(conn *door.Conn) *Fault {
-	owed := int64(0)
-	if conn != nil {
-		owed = conn.Owed()
-	}
-	fault := d.untaken(owed, d.options.Owed())
-	if d.underWay.Add(1) > int64(d.options.Calls) {
-		fault = NewFault(codes.ResourceExhausted, "%d calls are under way", d.options.Calls)
-	}
-	if fault != nil {
-		d.leave()
-		d.turned.Add(1)
-	}
-	return fault
-}
-
-// untaken answers a fault where a connection, or all of them, have left too many bytes of replies.
-func (d *Desk) untaken(byOne, byAll int64) *Fault {
-	switch {
-	case byOne > d.options.OwedByOne:
-		return NewFault(codes.ResourceExhausted, "the connection has not taken its earlier replies")
-	case byAll > d.options.OwedByAll:
-		return NewFault(codes.ResourceExhausted, "the connections have not taken their earlier replies")
-	}
-	return nil
-}
-
-// owe notes that a response is about to be written, unless too many were left while it was made.
-func (d *Desk) owe(conn *door.Conn, response []byte) *Fault {
-	size := int64(len(response))
-	byOne, byAll := conn.Owe(len(response))
-	fault := d.untaken(byOne-size, byAll-size)
-	if fault != nil {
-		conn.Waive(len(response))
-		d.turned.Add(1)
-	}
-	return fault
-}
-
-func (d *Desk) leave() { d.underWay.Add(-1) }
 
 // Call is a call as whoever serves it has it.
 type Call struct {
@@ -152,44 +125,104 @@ type Call struct {
 	Conn *door.Conn // nil where it is not known
 	// Read answers the request's body.
 	Read func(ctx context.Context) ([]byte, error)
+	// Stop has Read end. Another goroutine calls it.
+	Stop func()
 }
 
 // Serve carries a call of a method out, and answers its response or how it has ended.
 func (d *Desk) Serve(ctx context.Context, m *Method, call Call) ([]byte, *Fault) {
 	begun := time.Now()
-	response, fault := d.serve(ctx, m, call)
-	if fault == nil && call.Conn != nil {
-		fault = d.owe(call.Conn, response)
+	response, fault := d.serve(ctx, m, call, begun)
+	if fault == nil && call.Conn != nil && !call.Conn.Owe(len(response)) {
+		fault = errNotTaken
 	}
 	status := codes.OK
 	if fault != nil {
 		response, status = nil, fault.Status
+		if fault.IsForRoom {
+			d.turned.Add(1)
+		}
 	}
 	m.Numbers().Count(call.By, status, time.Since(begun))
 	return response, fault
 }
 
-func (d *Desk) serve(ctx context.Context, m *Method, call Call) ([]byte, *Fault) {
-	if fault := d.enter(call.Conn); fault != nil {
-		return nil, fault
+var (
+	errCalls    = noRoom("there is no room for the call among those under way, or its peer has its share of them")
+	errSlow     = noRoom("other calls need the place of one whose request is not whole")
+	errNotTaken = noRoom("the connection, its peer or all peers have not taken their earlier replies")
+)
+
+func (d *Desk) serve(ctx context.Context, m *Method, call Call, begun time.Time) ([]byte, *Fault) {
+	if call.Conn != nil && !call.Conn.Owe(0) {
+		return nil, errNotTaken
 	}
-	defer d.leave()
-	limit := time.Now().Add(d.options.Deadline)
+	its := &visit{begun: begun.UnixNano(), stop: call.Stop}
+	place := d.calls.Claim(its, call.Conn.Peers()...)
+	if !place.Take(1) {
+		return nil, errCalls
+	}
+	defer place.GiveAll()
+	ctx = door.NewContext(ctx, call.Conn)
+	limit := begun.Add(d.options.Deadline)
 	if soonest, isBounded := ctx.Deadline(); !isBounded || limit.Before(soonest) {
 		var cancel context.CancelFunc
 		ctx, cancel = context.WithDeadline(ctx, limit)
 		defer cancel()
 	}
 	request, err := call.Read(ctx)
+	its.isWhole.Store(true)
+	if its.isLost.Load() {
+		return nil, errSlow
+	}
+	if ended := ctx.Err(); err != nil && ended != nil {
+		err = ended
+	}
 	if err != nil {
 		return nil, FaultOf(err)
 	}
 	if len(request) > pathd.MostRequest {
 		return nil, NewFault(codes.ResourceExhausted, "a request has more than %d bytes", pathd.MostRequest)
 	}
+	response, fault := d.carryOut(ctx, m, call.Conn, request)
+	if fault != nil && its.isLost.Load() { // in the moment in which it became whole
+		fault = errSlow
+	}
+	return response, fault
+}
+
+// carryOut carries a call out whose request is whole.
+func (d *Desk) carryOut(ctx context.Context, m *Method, conn *door.Conn, request []byte) ([]byte, *Fault) {
+	d.whole.Add(1)
+	defer d.whole.Add(-1)
+	if conn != nil {
+		conn.Begin()
+		defer conn.End()
+	}
 	response, err := m.Serve(ctx, request)
 	if err != nil {
 		return nil, FaultOf(err)
 	}
 	return response, nil
+}
+
+// visit is a call that has a place. It may lose it as long as its request is not whole.
+type visit struct {
+	begun           int64 // in Unix nanoseconds
+	isWhole, isLost atomic.Bool
+	stop            func()
+}
+
+// IdleSince answers when the call began, until its request is whole.
+func (v *visit) IdleSince() int64 {
+	if v.isWhole.Load() {
+		return 0
+	}
+	return v.begun
+}
+
+// Lose ends the call.
+func (v *visit) Lose() {
+	v.isLost.Store(true)
+	v.stop()
 }

@@ -16,10 +16,12 @@ import (
 const CodeKey = "pathd-code"
 
 // Fault is how a call ends that has no response. Code is 0 where nothing was refused by a code.
+// IsForRoom is true where the gateway has turned the call away for want of room.
 type Fault struct {
-	Status codes.Code
-	Code   pathd.Code
-	Text   string
+	Status    codes.Code
+	Code      pathd.Code
+	Text      string
+	IsForRoom bool
 }
 
 // Error answers the text.
@@ -28,6 +30,11 @@ func (f *Fault) Error() string { return f.Text }
 // NewFault answers a fault without a code.
 func NewFault(status codes.Code, format string, words ...any) *Fault {
 	return &Fault{Status: status, Text: fmt.Sprintf(format, words...)}
+}
+
+// noRoom answers the fault of a call that is turned away for want of room.
+func noRoom(text string) *Fault {
+	return &Fault{Status: codes.ResourceExhausted, Text: text, IsForRoom: true}
 }
 
 // Refuse answers the fault of a code, with what there is to say in addition.

@@ -59,9 +59,11 @@ func (h *handler) ServeHTTP(w http.ResponseWriter, r *http.Request) {
 		ctx, cancel = context.WithTimeout(ctx, limit)
 		defer cancel()
 	}
+	conn := door.FromContext(r.Context())
 	response, fault := h.desk.Serve(ctx, h.method, calls.Call{
-		By: numbers.Connect, Conn: door.FromContext(r.Context()),
+		By: numbers.Connect, Conn: conn,
 		Read: func(context.Context) ([]byte, error) { return h.read(w, r, body) },
+		Stop: func() { conn.ReadUntil(w, door.Past) },
 	})
 	if fault == nil {
 		response, fault = body.write(h.method, response)

@@ -4,17 +4,26 @@ import (
 	"bytes"
 	"context"
 	"net"
-	"net/netip"
+	"net/http"
 	"sync"
 	"sync/atomic"
 	"time"
+
+	"pathd/gateway/internal/shares"
 )
 
 // Conn is a connection that came through a door.
 type Conn struct {
 	net.Conn
 	door *Door
-	peer netip.Addr
+
+	peers []shares.Peer // its address, and the client's certificate where there is one
+	place *shares.Claim // among the connections
+	owed  *shares.Claim // bytes of replies that the peer has not taken yet
+	took  atomic.Int64  // when it has last taken some, or begun to owe, in Unix nanoseconds
+
+	calls atomic.Int64 // whose requests are whole
+	ended atomic.Int64 // when the last call ended, or the connection began, in Unix nanoseconds
 
 	isKnown  atomic.Bool // what it speaks
 	isClosed atomic.Bool
@@ -27,9 +36,69 @@ type Conn struct {
 
 	writing sync.Mutex // held while bytes of HTTP/2 are written
 	bound   bound      // where the last written frame ends
+}
 
-	owed atomic.Int64 // bytes of replies that the peer has not taken yet
-	took atomic.Int64 // when it has last taken some, or begun to owe, in Unix nanoseconds
+// newConn answers a connection that has no place yet.
+func (d *Door) newConn(conn net.Conn) *Conn {
+	c := &Conn{Conn: conn, door: d, peers: []shares.Peer{shares.Address(addressOf(conn))}}
+	c.place = d.places.Claim(c, c.peers...)
+	c.owed = d.owed.Claim(&debt{c}, c.peers...)
+	c.ended.Store(time.Now().UnixNano())
+	return c
+}
+
+// join has the connection belong to a further peer.
+func (c *Conn) join(peer shares.Peer) error {
+	if !c.place.Join(peer) || !c.owed.Join(peer) {
+		return errNoRoom
+	}
+	c.peers = append(c.peers, peer)
+	return nil
+}
+
+// Peers answers whom the connection belongs to: its address, and the client's certificate where there is
+// one. A nil connection belongs to nobody.
+func (c *Conn) Peers() []shares.Peer {
+	if c == nil {
+		return nil
+	}
+	return c.peers
+}
+
+// Begin notes that a call has its whole request, and End that such a call has ended. The connection is
+// idle where it has none.
+func (c *Conn) Begin() { c.calls.Add(1) }
+
+// End is called once for each Begin.
+func (c *Conn) End() {
+	c.ended.Store(time.Now().UnixNano())
+	c.calls.Add(-1)
+}
+
+// IdleSince answers since when the connection has no call whose request is whole.
+func (c *Conn) IdleSince() int64 {
+	if c.calls.Load() > 0 {
+		return 0
+	}
+	return c.ended.Load()
+}
+
+// Lose closes the connection, as another one needs its place.
+func (c *Conn) Lose() {
+	c.door.counts.idle.Add(1)
+	go c.Close() // TLS may wait for a peer that reads nothing
+}
+
+// debt is what a connection owes.
+type debt struct{ conn *Conn }
+
+// IdleSince answers since when the peer has taken nothing of what it is owed.
+func (d *debt) IdleSince() int64 { return d.conn.took.Load() }
+
+// Lose closes the connection.
+func (d *debt) Lose() {
+	d.conn.door.counts.stuck.Add(1)
+	go d.conn.Close()
 }
 
 func (c *Conn) setInner(inner net.Conn) {
@@ -67,7 +136,7 @@ func (c *Conn) Write(p []byte) (int, error) {
 	}
 	n, err := c.write(left)
 	c.took.Store(time.Now().UnixNano())
-	c.pay(int64(n))
+	c.owed.Give(int64(n))
 	if c.guard != nil {
 		c.guard.wrote(n)
 	}
@@ -86,46 +155,38 @@ func (c *Conn) write(p []byte) (int, error) {
 	return n, err
 }
 
-// Owe notes that so many bytes of a reply are about to be written, and answers how many this connection
-// and all of them owe with these.
-func (c *Conn) Owe(bytes int) (byOne, byAll int64) {
-	if byOne = c.owed.Add(int64(bytes)); byOne == int64(bytes) {
+// Owe notes that so many bytes of a reply are about to be written. It answers false, and notes nothing,
+// where the connection, its peer or all of them owe too much already.
+func (c *Conn) Owe(bytes int) bool {
+	if c.owed.Amount() == 0 {
 		c.took.Store(time.Now().UnixNano())
 	}
-	byAll = c.door.owed.Add(int64(bytes))
+	isFree := c.owed.Take(int64(bytes))
 	if c.isClosed.Load() { // while the reply was made: nobody takes it
-		c.pay(c.owed.Load())
+		c.owed.GiveAll()
 	}
-	return byOne, byAll
-}
-
-// Waive notes that so many bytes that were owed are not written.
-func (c *Conn) Waive(bytes int) { c.pay(int64(bytes)) }
-
-// pay takes off what was written. More than the replies is written, as frames have heads.
-func (c *Conn) pay(bytes int64) {
-	for {
-		owed := c.owed.Load()
-		paid := bytes
-		if paid > owed {
-			paid = owed
-		}
-		if paid == 0 {
-			return
-		}
-		if c.owed.CompareAndSwap(owed, owed-paid) {
-			c.door.owed.Add(-paid)
-			return
-		}
-	}
+	return isFree
 }
 
 // Owed answers how many bytes of replies the peer has not taken yet.
-func (c *Conn) Owed() int64 { return c.owed.Load() }
+func (c *Conn) Owed() int64 { return c.owed.Amount() }
 
-// isStuck answers whether the peer owes nothing but has taken no byte since a moment.
+// isStuck answers whether the peer has not taken all that it is owed, and no byte since a moment.
 func (c *Conn) isStuck(since time.Time) bool {
-	return c.owed.Load() > 0 && c.took.Load() < since.UnixNano()
+	return c.took.Load() < since.UnixNano() && c.owed.Amount() > 0
+}
+
+// Past is a moment that has been: reads until then end at once.
+var Past = time.Unix(1, 0)
+
+// ReadUntil has reads of a request's body end at a moment: by HTTP/2 those of its stream, and by HTTP/1
+// those of the connection, which has no other request. Any goroutine may call it.
+func (c *Conn) ReadUntil(w http.ResponseWriter, at time.Time) {
+	if stream, isHTTP2 := w.(interface{ SetReadDeadline(time.Time) error }); isHTTP2 {
+		stream.SetReadDeadline(at)
+	} else if c != nil {
+		c.SetReadDeadline(at)
+	}
 }
 
 // Close closes the connection, and makes room for another one.
@@ -134,9 +195,10 @@ func (c *Conn) Close() (err error) {
 		c.mu.Lock()
 		inner := c.Conn
 		c.mu.Unlock()
-		err = inner.Close()
 		c.isClosed.Store(true)
-		c.pay(c.owed.Load())
+		err = inner.Close()
+		c.owed.GiveAll()
+		c.place.GiveAll()
 		c.door.forget(c)
 	})
 	return err

@@ -13,6 +13,8 @@ import (
 	"sync"
 	"sync/atomic"
 	"time"
+
+	"pathd/gateway/internal/shares"
 )
 
 const (
@@ -20,12 +22,24 @@ const (
 	handshakeLimit = 10 * time.Second
 	firstLimit     = 10 * time.Second // to send the first bytes
 	stuckPause     = time.Second
+
+	// How long one has to be idle before it makes room for others of its peer: a connection without a
+	// call, a handshake under way, and one that takes nothing of what it is owed.
+	idlePatience      = 5 * time.Second
+	handshakePatience = time.Second
+	owedPatience      = time.Second
 )
+
+// errNoRoom is the error of a connection that is closed as its peer has its share.
+var errNoRoom = errors.New("there is no room for the connection")
 
 // Options of a Door.
 type Options struct {
-	// Connections is how many may be open; PeerConnections how many of one address, 0 for no bound.
+	// Connections is how many may be open; PeerConnections how many of one peer, 0 for no bound.
 	Connections, PeerConnections int
+	// OwedByOne is how many bytes of replies a connection may owe before a further one, and OwedByAll all
+	// of them. A peer may owe a quarter of that.
+	OwedByOne, OwedByAll int64
 	// Streams is how many streams a connection of HTTP/2 may have open.
 	Streams uint32
 	// Stuck is how long a connection may owe replies to its peer without taking a byte of them.
@@ -44,40 +58,48 @@ type Door struct {
 	running  sync.WaitGroup
 	quit     chan struct{}
 
-	mu    sync.Mutex
-	open  map[*Conn]struct{}
-	peers map[netip.Addr]int
+	places     *shares.Pool // of connections
+	handshakes *shares.Pool // under way
+	owed       *shares.Pool // bytes of replies that no peer has taken yet
+
+	mu   sync.Mutex
+	open map[*Conn]struct{}
 
 	counts counts
-	owed   atomic.Int64 // bytes of replies that no peer has taken yet
 }
 
 type counts struct {
-	accepted, refused, faulty, flooded, stuck atomic.Uint64
-	kinds                                     [3]atomic.Uint64
+	refused, faulty, flooded, stuck, idle, slow atomic.Uint64
+	kinds                                       [3]atomic.Uint64
 }
 
-// Numbers of a door: connections that are open now and bytes that they owe, and what has happened
-// since the start. Kinds is how many connections spoke HTTP/1, HTTP/2 and gRPC.
+// Numbers of a door: connections that are open now and bytes that they owe, and how many connections
+// were closed since the start, by why. Idle ones and slow handshakes made room for others. Kinds is how
+// many connections spoke HTTP/1, HTTP/2 and gRPC.
 type Numbers struct {
-	Open                                      int
-	Owed                                      int64
-	Accepted, Refused, Faulty, Flooded, Stuck uint64
-	Kinds                                     [3]uint64
+	Open                                        int
+	Owed                                        int64
+	Refused, Faulty, Flooded, Stuck, Idle, Slow uint64
+	Kinds                                       [3]uint64
 }
 
 // New answers a door before a listener. serve gets each connection of HTTP/2 that is not gRPC's, and
 // returns once it has ended.
 func New(listener net.Listener, options Options, serve func(*Conn)) *Door {
+	connections := int64(options.Connections)
+	handshakes := shares.Quarter(connections)
 	return &Door{
-		options:  options,
-		listener: listener,
-		serve:    serve,
-		grpc:     newHandover(listener.Addr()),
-		http1:    newHandover(listener.Addr()),
-		quit:     make(chan struct{}),
-		open:     map[*Conn]struct{}{},
-		peers:    map[netip.Addr]int{},
+		options:    options,
+		listener:   listener,
+		serve:      serve,
+		grpc:       newHandover(listener.Addr()),
+		http1:      newHandover(listener.Addr()),
+		quit:       make(chan struct{}),
+		places:     shares.New(shares.Bounds{All: connections, OfPeer: int64(options.PeerConnections), Patience: idlePatience}),
+		handshakes: shares.New(shares.Bounds{All: handshakes, OfPeer: shares.Quarter(handshakes), Patience: handshakePatience}),
+		owed: shares.New(shares.Bounds{All: options.OwedByAll, OfPeer: shares.Quarter(options.OwedByAll),
+			OfClaim: options.OwedByOne, Patience: owedPatience, OfLarger: owedPatience}),
+		open: map[*Conn]struct{}{},
 	}
 }
 
@@ -105,22 +127,17 @@ func (d *Door) Run() error {
 
 // admit has a connection served where there is room for it, and closes it where there is none.
 func (d *Door) admit(conn net.Conn) {
-	c := &Conn{Conn: conn, door: d, peer: addressOf(conn)}
+	c := d.newConn(conn)
 	d.mu.Lock()
-	isFull := len(d.open) >= d.options.Connections ||
-		d.options.PeerConnections > 0 && d.peers[c.peer] >= d.options.PeerConnections
-	if !isFull {
-		d.open[c] = struct{}{}
-		d.peers[c.peer]++
-		d.running.Add(1)
-	}
+	d.open[c] = struct{}{}
+	d.running.Add(1)
 	d.mu.Unlock()
-	if isFull {
+	if !c.place.Take(1) {
 		d.counts.refused.Add(1)
-		conn.Close()
+		c.Close()
+		d.running.Done()
 		return
 	}
-	d.counts.accepted.Add(1)
 	go func() {
 		defer d.running.Done()
 		d.handle(c)
@@ -137,14 +154,17 @@ func addressOf(conn net.Conn) netip.Addr {
 
 // handle finds out what a connection speaks, and gives it to whoever serves that.
 func (d *Door) handle(c *Conn) {
-	if err := d.secure(c); err != nil {
-		d.counts.faulty.Add(1)
-		c.Close()
-		return
+	err := d.secure(c)
+	kind := HTTP1
+	if err == nil {
+		kind, err = c.sniff()
 	}
-	kind, err := c.sniff()
 	if err != nil {
-		d.counts.faulty.Add(1)
+		if err == errNoRoom {
+			d.counts.refused.Add(1)
+		} else if !c.isClosed.Load() {
+			d.counts.faulty.Add(1)
+		}
 		c.Close()
 		return
 	}
@@ -160,11 +180,17 @@ func (d *Door) handle(c *Conn) {
 	}
 }
 
-// secure shakes hands by TLS, where the door has it.
+// secure shakes hands by TLS, where the door has it. A client's certificate is a peer of its own, beside
+// the address.
 func (d *Door) secure(c *Conn) error {
 	if d.options.TLS == nil {
 		return nil
 	}
+	place := d.handshakes.Claim(&greeting{c, time.Now().UnixNano()}, c.peers...)
+	if !place.Take(1) {
+		return errNoRoom
+	}
+	defer place.GiveAll()
 	ctx, cancel := context.WithTimeout(context.Background(), handshakeLimit)
 	defer cancel()
 	secured := tls.Server(c.Conn, d.options.TLS())
@@ -172,7 +198,25 @@ func (d *Door) secure(c *Conn) error {
 		return fmt.Errorf("TLS: %w", err)
 	}
 	c.setInner(secured)
+	if its := secured.ConnectionState().PeerCertificates; len(its) > 0 {
+		return c.join(shares.Certificate(its[0]))
+	}
 	return nil
+}
+
+// greeting is a handshake under way.
+type greeting struct {
+	conn  *Conn
+	begun int64
+}
+
+// IdleSince answers when the handshake began: a client that takes long makes room first.
+func (g *greeting) IdleSince() int64 { return g.begun }
+
+// Lose ends the handshake.
+func (g *greeting) Lose() {
+	g.conn.door.counts.slow.Add(1)
+	go g.conn.Close()
 }
 
 // forget takes a connection off the list of those that are open.
@@ -180,9 +224,6 @@ func (d *Door) forget(c *Conn) {
 	d.mu.Lock()
 	defer d.mu.Unlock()
 	delete(d.open, c)
-	if d.peers[c.peer]--; d.peers[c.peer] <= 0 {
-		delete(d.peers, c.peer)
-	}
 }
 
 // watch closes connections whose peers take nothing of what they are owed.
@@ -194,8 +235,7 @@ func (d *Door) watch() {
 		case now := <-ticks.C:
 			for _, c := range d.all() {
 				if c.isStuck(now.Add(-d.options.Stuck)) {
-					d.counts.stuck.Add(1)
-					c.Close()
+					(&debt{c}).Lose()
 				}
 			}
 		case <-d.quit:
@@ -213,25 +253,21 @@ func (d *Door) all() (found []*Conn) {
 	return found
 }
 
-// Owed answers how many bytes of replies no peer has taken yet.
-func (d *Door) Owed() int64 { return d.owed.Load() }
-
 // Numbers answers what the door comes to.
 func (d *Door) Numbers() Numbers {
 	n := Numbers{
-		Owed:     d.owed.Load(),
-		Accepted: d.counts.accepted.Load(),
-		Refused:  d.counts.refused.Load(),
-		Faulty:   d.counts.faulty.Load(),
-		Flooded:  d.counts.flooded.Load(),
-		Stuck:    d.counts.stuck.Load(),
+		Open:    int(d.places.Taken()),
+		Owed:    d.owed.Taken(),
+		Refused: d.counts.refused.Load(),
+		Faulty:  d.counts.faulty.Load(),
+		Flooded: d.counts.flooded.Load(),
+		Stuck:   d.counts.stuck.Load(),
+		Idle:    d.counts.idle.Load(),
+		Slow:    d.counts.slow.Load(),
 	}
 	for i := range n.Kinds {
 		n.Kinds[i] = d.counts.kinds[i].Load()
 	}
-	d.mu.Lock()
-	n.Open = len(d.open)
-	d.mu.Unlock()
 	return n
 }
 

@@ -6,7 +6,6 @@ import (
 	"io"
 	"math/rand"
 	"net"
-	"net/netip"
 	"testing"
 	"testing/iotest"
 	"time"
@@ -54,11 +53,18 @@ func (c *scripted) SetDeadline(time.Time) error      { return nil }
 func (c *scripted) SetReadDeadline(time.Time) error  { return nil }
 func (c *scripted) SetWriteDeadline(time.Time) error { return nil }
 func (c *scripted) Close() error                     { return nil }
+func (c *scripted) RemoteAddr() net.Addr             { return &net.TCPAddr{IP: net.IPv4(127, 0, 0, 1)} }
+
+// nowhere is a listener that nobody can reach.
+type nowhere struct{ net.Listener }
+
+func (nowhere) Addr() net.Addr { return new(net.TCPAddr) }
 
 // connOf answers a connection through a door.
 func connOf(reader io.Reader) (*Conn, *scripted) {
 	inner := &scripted{Reader: reader}
-	return &Conn{Conn: inner, door: &Door{options: Options{Streams: 100}}}, inner
+	options := Options{Streams: 100, Connections: 1, OwedByOne: 1 << 20, OwedByAll: 1 << 20}
+	return New(nowhere{}, options, nil).newConn(inner), inner
 }
 
 func TestWhatAConnectionSpeaks(t *testing.T) {
@@ -151,8 +157,8 @@ func TestWhatIsOwed(t *testing.T) {
 	conn, _ := connOf(bytes.NewReader(nil))
 	conn.Owe(100)
 	conn.Write(make([]byte, 40))
-	if conn.Owed() != 60 || conn.door.Owed() != 60 {
-		t.Error(conn.Owed(), conn.door.Owed())
+	if conn.Owed() != 60 || conn.door.owed.Taken() != 60 {
+		t.Error(conn.Owed(), conn.door.owed.Taken())
 	}
 	if conn.isStuck(time.Now().Add(-time.Minute)) || !conn.isStuck(time.Now().Add(time.Minute)) {
 		t.Error("stuck")
@@ -165,12 +171,11 @@ func TestWhatIsOwed(t *testing.T) {
 
 func TestNothingIsOwedOnceClosed(t *testing.T) {
 	conn, _ := connOf(bytes.NewReader(nil))
-	conn.door.open, conn.door.peers = map[*Conn]struct{}{}, map[netip.Addr]int{}
 	conn.Owe(100)
 	conn.Close()
 	conn.Owe(100)
-	if conn.Owed() != 0 || conn.door.Owed() != 0 {
-		t.Error(conn.Owed(), conn.door.Owed())
+	if conn.Owed() != 0 || conn.door.owed.Taken() != 0 {
+		t.Error(conn.Owed(), conn.door.owed.Taken())
 	}
 }
 

@@ -4,6 +4,7 @@ package grpcapi
 import (
 	"context"
 	"io"
+	"net/http"
 	"strings"
 	"time"
 
@@ -22,6 +23,7 @@ import (
 	"pathd/gateway/internal/door"
 	"pathd/gateway/internal/numbers"
 	"pathd/gateway/internal/refusal"
+	"pathd/gateway/internal/shares"
 )
 
 const (
@@ -39,8 +41,10 @@ const (
 	// grow in each call. Stop must not be called with them, as a stream that comes meanwhile panics.
 	workers = 256
 
-	// mostOthers is how many calls of health and reflection may be under way.
-	mostOthers = 256
+	// mostOthers is how many calls of health and reflection may be under way, and othersPatience how long
+	// one is before others of its peer need its place.
+	mostOthers     = 256
+	othersPatience = 5 * time.Second
 )
 
 // Options of a server.
@@ -67,7 +71,8 @@ func NewServer(desk *calls.Desk, methods []*calls.Method, checks *health.Server,
 		grpc.KeepaliveEnforcementPolicy(keepalive.EnforcementPolicy{
 			MinTime: pingsApart, PermitWithoutStream: true}),
 		grpc.InTapHandle(limiter(desk.Deadline())),
-		grpc.StreamInterceptor(bounded(make(chan struct{}, mostOthers))),
+		grpc.StreamInterceptor(bounded(shares.New(shares.Bounds{
+			All: mostOthers, OfPeer: shares.Quarter(mostOthers), Patience: othersPatience}))),
 	)
 	for service, its := range byService(methods) {
 		server.RegisterService(description(desk, service, its), nil)
@@ -77,38 +82,75 @@ func NewServer(desk *calls.Desk, methods []*calls.Method, checks *health.Server,
 	return server
 }
 
+// Handler answers what has a server serve the calls of connections that it has not accepted itself.
+func Handler(server *grpc.Server, limit time.Duration) http.Handler {
+	return http.HandlerFunc(func(w http.ResponseWriter, r *http.Request) {
+		conn := door.FromContext(r.Context())
+		if hasEnd(r.URL.Path) {
+			conn.ReadUntil(w, time.Now().Add(limit))
+		}
+		var stop context.CancelFunc = func() { conn.ReadUntil(w, door.Past) }
+		server.ServeHTTP(w, r.WithContext(context.WithValue(r.Context(), stopKey{}, stop)))
+	})
+}
+
 // limiter bounds calls by a deadline from their first byte on: a client that sends a request slowly, or
-// takes a response slowly, ends with it. Watches and reflection have no end.
+// takes a response slowly, ends with it.
 func limiter(limit time.Duration) tap.ServerInHandle {
 	return func(ctx context.Context, info *tap.Info) (context.Context, error) {
-		if !isOfDesk(info.FullMethodName) && info.FullMethodName != checkPath {
-			return ctx, nil
-		}
 		// The context of the stream, which is over with it, ends this one.
-		ctx, cancel := context.WithTimeout(ctx, limit)
-		_ = cancel
-		return ctx, nil
+		ctx, stop := context.WithCancel(ctx)
+		if hasEnd(info.FullMethodName) {
+			ctx, stop = context.WithTimeout(ctx, limit)
+		}
+		return context.WithValue(ctx, stopKey{}, stop), nil
 	}
+}
+
+// hasEnd answers whether the calls of a method end by themselves: watches and reflection do not.
+func hasEnd(path string) bool { return isOfDesk(path) || path == checkPath }
+
+type stopKey struct{}
+
+// stopOf answers what ends the call of a context.
+func stopOf(ctx context.Context) context.CancelFunc {
+	if stop, isThere := ctx.Value(stopKey{}).(context.CancelFunc); isThere {
+		return stop
+	}
+	return func() {}
 }
 
 // isOfDesk answers whether a method is one that a desk serves, and bounds.
 func isOfDesk(path string) bool { return strings.HasPrefix(path, "/proto.control_plane.v1.") }
 
-// bounded has a place for each call that no desk bounds, from its first byte on.
-func bounded(places chan struct{}) grpc.StreamServerInterceptor {
+// bounded has a place for each call that no desk bounds, from its first byte on. The oldest one ends
+// where its place is needed.
+func bounded(places *shares.Pool) grpc.StreamServerInterceptor {
 	return func(server any, stream grpc.ServerStream, info *grpc.StreamServerInfo, handler grpc.StreamHandler) error {
 		if isOfDesk(info.FullMethod) {
 			return handler(server, stream)
 		}
-		select {
-		case places <- struct{}{}:
-			defer func() { <-places }()
-			return handler(server, stream)
-		default:
-			return status.Errorf(codes.ResourceExhausted, "%d calls of health and reflection are under way", cap(places))
+		ctx := stream.Context()
+		place := places.Claim(&watching{time.Now().UnixNano(), stopOf(ctx)}, connOf(ctx).Peers()...)
+		if !place.Take(1) {
+			return status.Error(codes.ResourceExhausted, "too many calls of health and reflection are under way")
 		}
+		defer place.GiveAll()
+		return handler(server, stream)
 	}
 }
+
+// watching is a call that no desk bounds.
+type watching struct {
+	begun int64
+	stop  context.CancelFunc
+}
+
+// IdleSince answers when the call began.
+func (w *watching) IdleSince() int64 { return w.begun }
+
+// Lose ends the call.
+func (w *watching) Lose() { w.stop() }
 
 func byService(methods []*calls.Method) map[string][]*calls.Method {
 	found := map[string][]*calls.Method{}
@@ -133,6 +175,7 @@ func handler(desk *calls.Desk, m *calls.Method) grpc.StreamHandler {
 		response, fault := desk.Serve(stream.Context(), m, calls.Call{
 			By:   numbers.GRPC,
 			Conn: connOf(stream.Context()),
+			Stop: stopOf(stream.Context()),
 			Read: func(context.Context) (request []byte, err error) {
 				err = stream.RecvMsg((*Raw)(&request))
 				return request, noEOF(err)

@@ -62,7 +62,11 @@ func (a adder) number(to *int, name string, otherwise, least, most int, text str
 		}
 		return nil
 	}}, name, text)
-	a.help.add(name, "N", fmt.Sprintf("%s, %d to %d [%d]", text, least, most, otherwise))
+	text = fmt.Sprintf("%s, %d to %d", text, least, most)
+	if otherwise >= least {
+		text += fmt.Sprintf(" [%d]", otherwise)
+	}
+	a.help.add(name, "N", text)
 }
 
 func (a adder) seconds(to *time.Duration, name string, otherwise time.Duration, text string) {

@@ -11,6 +11,7 @@ import (
 	"time"
 
 	"pathd"
+	"pathd/gateway/internal/shares"
 )
 
 // The most of numbers on the command line.
@@ -21,6 +22,8 @@ const (
 	mostConnections = 65_536
 	mostCalls       = 65_536
 	mostSegments    = 4096
+
+	isLeftOut = -1 // a number that another one decides
 )
 
 // Settings are what the command line says.
@@ -62,7 +65,7 @@ func Read(words []string, out io.Writer) (*Settings, error) {
 	add.number(&s.Streams, "streams", 256, 1, mostStreams, "calls under way in a connection")
 	add.number(&s.Calls, "calls", 1024, 1, mostCalls, "calls under way in all")
 	add.number(&s.Connections, "connections", 1024, 1, mostConnections, "open connections")
-	add.number(&s.PeerConnections, "peer-connections", 0, 0, mostConnections, "open connections of one address; 0 is no bound")
+	add.number(&s.PeerConnections, "peer-connections", isLeftOut, 0, mostConnections, "open connections of one peer, a quarter of --connections if left out; 0 is no bound")
 	add.text(&s.Certificate, "cert", "FILE", "a certificate and its chain in PEM, for TLS; without it there is no TLS")
 	add.text(&s.Key, "key", "FILE", "the key of the certificate, in PEM")
 	add.text(&s.ClientCA, "client-ca", "FILE", "authorities in PEM: clients need a certificate of one")
@@ -78,6 +81,9 @@ func Read(words []string, out io.Writer) (*Settings, error) {
 	}
 	if err == nil {
 		err = s.check()
+	}
+	if s.PeerConnections == isLeftOut {
+		s.PeerConnections = int(shares.Quarter(int64(s.Connections)))
 	}
 	switch {
 	case errors.Is(err, flag.ErrHelp):

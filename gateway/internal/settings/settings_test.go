@@ -10,8 +10,19 @@ import (
 
 func TestWords(t *testing.T) {
 	s, err := Read([]string{"--deadline", "0.5", "-listen", "[::1]:0", "--lookups=3"}, new(strings.Builder))
-	if err != nil || s.Deadline != 500*time.Millisecond || s.Listen != "[::1]:0" || s.Lookups != 3 || s.Idle != 300*time.Second {
+	if err != nil || s.PeerConnections != 256 || s.Deadline != 500*time.Millisecond || s.Listen != "[::1]:0" || s.Lookups != 3 || s.Idle != 300*time.Second {
 		t.Error(s, err)
+	}
+}
+
+// TestTheShareOfAPeer has a quarter of all connections be the default, rounded up.
+func TestTheShareOfAPeer(t *testing.T) {
+	for words, wanted := range map[string]int{
+		"--connections 10": 3, "--connections 1": 1, "--connections 10 --peer-connections 0": 0, "--peer-connections 7": 7,
+	} {
+		if s, err := Read(strings.Fields(words), new(strings.Builder)); err != nil || s.PeerConnections != wanted {
+			t.Error(words, s.PeerConnections, err)
+		}
 	}
 }
 
