@@ -249,13 +249,17 @@ func TestFloodsEndTheirConnection(t *testing.T) {
 			if !p.isAnswered(1) {
 				t.Fatal(name)
 			}
-			go func() {
+			isOver := make(chan struct{})
+			go func(send func(*peer, int) error) {
+				defer close(isOver)
 				for i := 0; i < 20_000 && send(p, i) == nil; i++ {
 				}
-			}()
+			}(send)
 			if closed, _ := p.ends(); !closed {
 				t.Errorf("%s by %s", name, kind)
 			}
+			p.Close()
+			<-isOver
 		}
 	}
 	conn, ctx := dial(t, at)
