@@ -231,6 +231,39 @@ func TestMalformedFrames(t *testing.T) {
 	}
 }
 
+// TestARequestThatEndsWithItsHeaders has calls of gRPC without a message answered at once, on a connection
+// of gRPC and on one whose first call was Connect's.
+func TestARequestThatEndsWithItsHeaders(t *testing.T) {
+	at := gateway(t, fake(t, healthy)).address
+	for _, first := range []string{"application/grpc", "application/proto"} {
+		p := newPeer(t, at)
+		p.ReadMetaHeaders, p.AllowIllegalReads = hpack.NewDecoder(4096, nil), false
+		p.call(1, first)
+		p.isAnswered(1)
+		begun := time.Now()
+		for stream := uint32(3); stream < 9; stream += 2 {
+			p.WriteHeaders(http2.HeadersFrameParam{StreamID: stream, BlockFragment: block("application/grpc"), EndHeaders: true, EndStream: true})
+			status := ""
+			p.until(func(f http2.Frame) bool {
+				if it, isHeaders := f.(*http2.MetaHeadersFrame); isHeaders && it.StreamID == stream {
+					for _, field := range it.Fields {
+						if field.Name == "grpc-status" {
+							status = field.Value
+						}
+					}
+				}
+				return status != ""
+			})
+			if status != "13" {
+				t.Errorf("%s: the status is %q", first, status)
+			}
+		}
+		if took := time.Since(begun); took > 5*time.Second {
+			t.Errorf("%s: %v", first, took)
+		}
+	}
+}
+
 func TestFloodsEndTheirConnection(t *testing.T) {
 	at := gateway(t, fake(t, healthy)).address
 	for name, send := range map[string]func(*peer, int) error{

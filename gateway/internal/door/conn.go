@@ -3,6 +3,7 @@ package door
 import (
 	"bytes"
 	"context"
+	"io"
 	"net"
 	"net/http"
 	"sync"
@@ -30,9 +31,10 @@ type Conn struct {
 	closing  sync.Once
 	mu       sync.Mutex // guards Conn while TLS takes its place
 
-	seen  bytes.Buffer // read to find out what it speaks, and to be read again
-	guard *guard       // of HTTP/2
-	skip  skip         // the settings that a server of HTTP/2 writes, which the door has sent
+	seen   bytes.Buffer // read to find out what it speaks, and to be read again
+	guard  *guard       // of HTTP/2
+	passed bytes.Buffer // what the guard has let pass, and nobody has read
+	skip   skip         // the settings that a server of HTTP/2 writes, which the door has sent
 
 	writing sync.Mutex // held while bytes of HTTP/2 are written
 	bound   bound      // where the last written frame ends
@@ -109,20 +111,32 @@ func (c *Conn) setInner(inner net.Conn) {
 
 // Read reads what was read before and then from the connection. It is an error where a peer of
 // HTTP/2 sends what the guard does not let pass.
-func (c *Conn) Read(p []byte) (n int, err error) {
-	if c.seen.Len() > 0 {
-		n, err = c.seen.Read(p)
-	} else {
-		n, err = c.Conn.Read(p)
+func (c *Conn) Read(p []byte) (int, error) {
+	if c.guard == nil {
+		return c.readOn(p)
 	}
-	if c.guard != nil && n > 0 {
-		if fault := c.guard.look(p[:n], time.Now); fault != nil {
+	for c.passed.Len() == 0 {
+		n, err := c.readOn(p)
+		if fault := c.guard.look(p[:n], time.Now, &c.passed); fault != nil {
 			c.door.counts.flooded.Add(1)
 			c.goAway(fault)
 			return 0, fault
 		}
+		if err == io.EOF {
+			c.guard.handOnHead(&c.passed)
+		}
+		if err != nil && c.passed.Len() == 0 {
+			return 0, err
+		}
 	}
-	return n, err
+	return c.passed.Read(p)
+}
+
+func (c *Conn) readOn(p []byte) (int, error) {
+	if c.seen.Len() > 0 {
+		return c.seen.Read(p)
+	}
+	return c.Conn.Read(p)
 }
 
 // Write writes, and counts what the peer has taken.

@@ -229,15 +229,55 @@ func TestSmallFramesOfABusyPeer(t *testing.T) {
 	}
 	g := newGuard(100)
 	g.preface = 0
-	if err := g.look(out.Bytes(), time.Now); err != nil {
+	if err := g.look(out.Bytes(), time.Now, new(bytes.Buffer)); err != nil {
 		t.Error(err)
 	}
 	out.Reset()
 	frames.WriteWindowUpdate(0, 1<<14)
 	for i := 0; i < 5000; i++ {
 		g.wrote(1 << 14)
-		if err := g.look(out.Bytes(), time.Now); err != nil {
+		if err := g.look(out.Bytes(), time.Now, new(bytes.Buffer)); err != nil {
 			t.Fatal(i, err)
+		}
+	}
+}
+
+// handOnAsSent has no frame handed on in another form.
+func (c *Conn) handOnAsSent() {
+	if c.guard != nil {
+		c.guard.isSplitting = false
+	}
+}
+
+// TestHeadersThatEndTheirStream has them handed on to grpc-go as HEADERS and an empty DATA, whatever the
+// pieces in which they come.
+func TestHeadersThatEndTheirStream(t *testing.T) {
+	write := func(isSplit, endsByHeaders bool) []byte {
+		out := bytes.NewBuffer(request("application/grpc", false))
+		frames := http2.NewFramer(out, nil)
+		block := []byte{0x82, 0x86}
+		first := http2.HeadersFrameParam{StreamID: 3, BlockFragment: block[:1], EndStream: endsByHeaders, EndHeaders: !isSplit}
+		frames.WriteHeaders(first)
+		if isSplit {
+			frames.WriteContinuation(3, true, block[1:])
+		}
+		if !endsByHeaders {
+			frames.WriteData(3, true, nil)
+		}
+		frames.WritePing(false, [8]byte{2})
+		return out.Bytes()
+	}
+	for _, isSplit := range []bool{false, true} {
+		for name, of := range map[string]func(io.Reader) io.Reader{
+			"whole": func(r io.Reader) io.Reader { return r }, "bytes": iotest.OneByteReader, "halves": iotest.HalfReader,
+		} {
+			conn, _ := connOf(of(bytes.NewReader(write(isSplit, true))))
+			if kind, err := conn.sniff(); err != nil || kind != GRPC {
+				t.Fatal(kind, err)
+			}
+			if got, err := io.ReadAll(iotest.HalfReader(conn)); err != nil || !bytes.Equal(got, write(isSplit, false)) {
+				t.Errorf("%s, split %v: % x, %v", name, isSplit, got, err)
+			}
 		}
 	}
 }
@@ -264,6 +304,7 @@ func TestNoise(t *testing.T) {
 		}
 		conn, _ := connOf(bytes.NewReader(sent))
 		if _, err := conn.sniff(); err == nil {
+			conn.handOnAsSent()
 			if got, err := io.ReadAll(conn); err == nil && !bytes.Equal(got, sent) {
 				t.Fatal(i, "other bytes")
 			}
@@ -282,6 +323,7 @@ func FuzzFirstBytes(f *testing.F) {
 		if err != nil {
 			return
 		}
+		conn.handOnAsSent()
 		got, err := io.ReadAll(conn)
 		if !bytes.HasPrefix(sent, got) || err == nil && len(got) != len(sent) {
 			t.Fatalf("%d: %d bytes of %d: %v", kind, len(got), len(sent), err)

@@ -1,6 +1,7 @@
 package door
 
 import (
+	"bytes"
 	"encoding/binary"
 	"fmt"
 	"sync/atomic"
@@ -41,6 +42,12 @@ type guard struct {
 
 	newest uint32 // the stream that was opened last
 
+	// isSplitting has HEADERS that end their stream handed on as HEADERS that don't, and an empty DATA
+	// that does: grpc-go of Debian 12 waits for the message of the former. ended is the stream of such a
+	// one whose headers are not whole yet.
+	isSplitting bool
+	ended       uint32
+
 	headerFrames, headerBytes int
 	control, small            bucket
 	written                   atomic.Int64 // bytes that small has no frames for yet
@@ -55,35 +62,47 @@ func newGuard(streams uint32) *guard {
 // wrote notes bytes that were written to the peer.
 func (g *guard) wrote(bytes int) { g.written.Add(int64(bytes)) }
 
-// look answers an error where bytes are not let pass.
-func (g *guard) look(p []byte, now func() time.Time) error {
+// look hands bytes on, whole heads of frames at a time. It answers an error where they are not let pass.
+func (g *guard) look(p []byte, now func() time.Time, passed *bytes.Buffer) error {
 	for len(p) > 0 {
 		switch {
 		case g.preface > 0:
-			p = g.pass(p, &g.preface)
+			p = pass(p, &g.preface, passed)
 		case g.left > 0:
-			p = g.pass(p, &g.left)
+			p = pass(p, &g.left, passed)
 		default:
 			n := copy(g.head[g.have:], p)
 			g.have += n
 			p = p[n:]
-			if g.have == frameHead {
-				g.have = 0
-				if err := g.frame(now); err != nil {
-					return err
-				}
+			if g.have < frameHead {
+				return nil
 			}
+			if err := g.frame(now); err != nil {
+				return err
+			}
+			g.handOnHead(passed)
+		}
+		if g.ended != 0 && g.left == 0 && g.headerFrames == 0 {
+			http2.NewFramer(passed, nil).WriteData(g.ended, true, nil)
+			g.ended = 0
 		}
 	}
 	return nil
 }
 
-func (g *guard) pass(p []byte, left *int) []byte {
+// handOnHead hands on what there is of a head.
+func (g *guard) handOnHead(passed *bytes.Buffer) {
+	passed.Write(g.head[:g.have])
+	g.have = 0
+}
+
+func pass(p []byte, left *int, passed *bytes.Buffer) []byte {
 	n := len(p)
 	if n > *left {
 		n = *left
 	}
 	*left -= n
+	passed.Write(p[:n])
 	return p[n:]
 }
 
@@ -95,12 +114,17 @@ func (g *guard) frame(now func() time.Time) error {
 	if length > mostOfFrame {
 		return http2.ConnectionError(http2.ErrCodeFrameSize)
 	}
-	if !g.mayBeOn(kind, binary.BigEndian.Uint32(g.head[5:])&(1<<31-1)) {
+	stream := binary.BigEndian.Uint32(g.head[5:]) & (1<<31 - 1)
+	if !g.mayBeOn(kind, stream) {
 		return http2.ConnectionError(http2.ErrCodeProtocol)
 	}
 	of := &g.control
 	switch kind {
 	case http2.FrameHeaders, http2.FrameContinuation:
+		if g.isSplitting && kind == http2.FrameHeaders && flags.Has(http2.FlagHeadersEndStream) {
+			g.head[4] &^= byte(http2.FlagHeadersEndStream)
+			g.ended = stream
+		}
 		return g.headers(length, flags)
 	case http2.FrameData:
 		if length >= smallData || flags.Has(http2.FlagDataEndStream) {

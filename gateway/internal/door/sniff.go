@@ -52,11 +52,12 @@ func (c *Conn) sniff() (Kind, error) {
 	kind, err := c.firstRequest()
 	var slow net.Error
 	if errors.As(err, &slow) && slow.Timeout() && c.seen.Len() >= len(http2.ClientPreface) {
-		return GRPC, nil
+		kind, err = GRPC, nil
 	}
 	if err != nil {
 		c.goAway(err)
 	}
+	c.guard.isSplitting = kind == GRPC
 	return kind, err
 }
 

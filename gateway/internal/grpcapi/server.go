@@ -194,7 +194,7 @@ func handler(desk *calls.Desk, m *calls.Method) grpc.StreamHandler {
 // noEOF answers the error of a call without a request in the place of the end of its stream.
 func noEOF(err error) error {
 	if err == io.EOF {
-		return status.Error(codes.InvalidArgument, "the call has no request")
+		return status.Error(codes.Internal, "the call has no request")
 	}
 	return err
 }
