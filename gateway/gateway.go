@@ -32,8 +32,10 @@ const (
 	h2Buffer    = 65_535  // bytes of a request that a stream has in memory
 	h2Conn      = 1 << 18 // and all streams of a connection
 	h2Frame     = 1 << 14 // bytes of a frame
-	h2Headers   = 320     // what http2 adds to the most bytes of headers that it announces
-	mostHeader  = door.MostHeader - h2Headers
+
+	// What net/http and http2 add to the most bytes of headers.
+	ofHTTP1 = 4096
+	ofHTTP2 = 320
 )
 
 // gateway is all that serves.
@@ -47,8 +49,9 @@ type gateway struct {
 	checks       *health.Server
 	watcher      *watcher
 	grpc         *grpc.Server
-	web          *http.Server
-	h2           *http2.Server
+	web          *http.Server  // of HTTP/1
+	ofH2         *http.Server  // has the limits of HTTP/2
+	h2           *http2.Server // of HTTP/2 that is not gRPC's
 	door         *door.Door
 	begun        time.Time
 	reloads      reloads
@@ -99,29 +102,10 @@ func (g *gateway) services() []string {
 	return names
 }
 
-// makeWeb makes the server of HTTP/1 and of HTTP/2 that is not gRPC's. A connection of HTTP/2 whose
-// first request is Connect's may have calls of gRPC later.
+// makeWeb makes the servers of HTTP/1, and of HTTP/2 that is not gRPC's.
 func (g *gateway) makeWeb() error {
-	connect, byGRPC := connectapi.NewHandler(g.desk, g.methods), grpcapi.Handler(g.grpc, g.settings.Deadline)
-	g.web = &http.Server{
-		Handler: http.HandlerFunc(func(w http.ResponseWriter, r *http.Request) {
-			if r.ProtoMajor == 2 && strings.HasPrefix(r.Header.Get("Content-Type"), "application/grpc") {
-				byGRPC.ServeHTTP(w, r)
-			} else {
-				connect.ServeHTTP(w, r)
-			}
-		}),
-		ReadHeaderTimeout: headerLimit,
-		ReadTimeout:       headerLimit + g.settings.Deadline,
-		WriteTimeout:      headerLimit + 3*g.settings.Deadline,
-		IdleTimeout:       g.settings.Idle,
-		MaxHeaderBytes:    mostHeader,
-		ErrorLog:          log.New(panicLog{}, "", 0),
-		ConnContext: func(ctx context.Context, conn net.Conn) context.Context {
-			it, _ := conn.(*door.Conn)
-			return door.NewContext(ctx, it)
-		},
-	}
+	handler := g.webHandler()
+	g.web, g.ofH2 = g.webServer(handler, ofHTTP1), g.webServer(handler, ofHTTP2)
 	g.h2 = &http2.Server{
 		MaxConcurrentStreams:         uint32(g.settings.Streams),
 		MaxReadFrameSize:             h2Frame,
@@ -133,6 +117,36 @@ func (g *gateway) makeWeb() error {
 		return fmt.Errorf("HTTP/2: %w", err)
 	}
 	return nil
+}
+
+// webHandler answers what serves calls of Connect. A connection of HTTP/2 whose first request is Connect's
+// may have calls of gRPC later.
+func (g *gateway) webHandler() http.Handler {
+	connect, byGRPC := connectapi.NewHandler(g.desk, g.methods), grpcapi.Handler(g.grpc, g.settings.Deadline)
+	return http.HandlerFunc(func(w http.ResponseWriter, r *http.Request) {
+		if r.ProtoMajor == 2 && strings.HasPrefix(r.Header.Get("Content-Type"), "application/grpc") {
+			byGRPC.ServeHTTP(w, r)
+		} else {
+			connect.ServeHTTP(w, r)
+		}
+	})
+}
+
+// webServer answers a server that takes so many bytes of headers more than it is told to.
+func (g *gateway) webServer(handler http.Handler, more int) *http.Server {
+	return &http.Server{
+		Handler:           handler,
+		ReadHeaderTimeout: headerLimit,
+		ReadTimeout:       headerLimit + g.settings.Deadline,
+		WriteTimeout:      headerLimit + 3*g.settings.Deadline,
+		IdleTimeout:       g.settings.Idle,
+		MaxHeaderBytes:    door.MostHeader - more,
+		ErrorLog:          log.New(panicLog{}, "", 0),
+		ConnContext: func(ctx context.Context, conn net.Conn) context.Context {
+			it, _ := conn.(*door.Conn)
+			return door.NewContext(ctx, it)
+		},
+	}
 }
 
 // panicLog passes on the lines of panics, and drops those of faulty peers, who could fill the log.
@@ -148,7 +162,7 @@ func (panicLog) Write(line []byte) (int, error) {
 // serveHTTP2 serves a connection whose first request is not gRPC's, until it ends.
 func (g *gateway) serveHTTP2(conn *door.Conn) {
 	ctx := door.NewContext(context.Background(), conn)
-	g.h2.ServeConn(conn, &http2.ServeConnOpts{Context: ctx, BaseConfig: g.web, Handler: g.web.Handler})
+	g.h2.ServeConn(conn, &http2.ServeConnOpts{Context: ctx, BaseConfig: g.ofH2, Handler: g.ofH2.Handler})
 }
 
 // drain lets calls under way end, for as long as the deadline, and then ends all.

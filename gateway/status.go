@@ -9,6 +9,7 @@ import (
 	"time"
 
 	"pathd"
+	"pathd/gateway/internal/door"
 	"pathd/gateway/internal/numbers"
 )
 
@@ -30,7 +31,7 @@ func (g *gateway) serveNumbers(listener net.Listener) *http.Server {
 	})
 	server := &http.Server{
 		Handler: paths, ReadTimeout: statusLimit, WriteTimeout: statusLimit, IdleTimeout: statusLimit,
-		MaxHeaderBytes: mostHeader, ErrorLog: log.New(panicLog{}, "", 0),
+		MaxHeaderBytes: door.MostHeader - ofHTTP1, ErrorLog: log.New(panicLog{}, "", 0),
 	}
 	go server.Serve(listener)
 	return server

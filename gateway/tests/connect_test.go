@@ -1,6 +1,7 @@
 package tests
 
 import (
+	"bufio"
 	"bytes"
 	"crypto/tls"
 	"io"
@@ -118,6 +119,25 @@ func TestWhatConnectRefuses(t *testing.T) {
 		if err != nil || response.StatusCode != 405 {
 			t.Error(name, response, err)
 		}
+	}
+}
+
+// TestTheMostOfHeaders has a request of HTTP/1 with 16,384 bytes of headers answered, its first line and its
+// last empty one among them, and one with a byte more refused. HTTP/2 counts 32 bytes more for each field.
+func TestTheMostOfHeaders(t *testing.T) {
+	at := gateway(t, fake(t, healthy)).address
+	for size, wanted := range map[int]string{16_384: "HTTP/1.1 200 OK", 16_385: "HTTP/1.1 431 Request Header Fields Too Large", 20_000: "HTTP/1.1 431 Request Header Fields Too Large"} {
+		head := "POST " + lookupPath + " HTTP/1.1\r\nHost: x\r\nContent-Type: application/proto\r\nContent-Length: 2\r\nX: "
+		head += strings.Repeat("x", size-len(head)-4) + "\r\n\r\n"
+		conn := dialFrom(t, "127.0.0.1", at)
+		io.WriteString(conn, head+"\x08\x01")
+		if line, err := bufio.NewReader(conn).ReadString('\n'); err != nil || strings.TrimSpace(line) != wanted {
+			t.Errorf("%d bytes: %q, %v", size, line, err)
+		}
+	}
+	client := clients()["HTTP/2"]
+	if code, _, text := post(t, client, "http://"+at+lookupPath, []byte{8, 1}, "Content-Type", "application/proto", "X", strings.Repeat("x", 15_000)); code != 200 {
+		t.Error(code, text)
 	}
 }
 
