@@ -29,6 +29,13 @@ func newCertificates(s *settings.Settings) (*certificates, error) {
 	return c, c.read()
 }
 
+// suites are those of TLS 1.2: with forward secrecy and authenticated encryption. TLS 1.3 has no others.
+var suites = []uint16{
+	tls.TLS_ECDHE_ECDSA_WITH_AES_128_GCM_SHA256, tls.TLS_ECDHE_RSA_WITH_AES_128_GCM_SHA256,
+	tls.TLS_ECDHE_ECDSA_WITH_AES_256_GCM_SHA384, tls.TLS_ECDHE_RSA_WITH_AES_256_GCM_SHA384,
+	tls.TLS_ECDHE_ECDSA_WITH_CHACHA20_POLY1305_SHA256, tls.TLS_ECDHE_RSA_WITH_CHACHA20_POLY1305_SHA256,
+}
+
 // read reads the files, and keeps what was read before where one of them is faulty.
 func (c *certificates) read() error {
 	pair, err := tls.LoadX509KeyPair(c.settings.Certificate, c.settings.Key)
@@ -43,6 +50,7 @@ func (c *certificates) read() error {
 		Certificates: []tls.Certificate{pair},
 		NextProtos:   []string{"h2", "http/1.1"},
 		MinVersion:   tls.VersionTLS12,
+		CipherSuites: suites,
 	}
 	if c.settings.ClientCA != "" {
 		if config.ClientCAs, err = authorities(c.settings.ClientCA); err != nil {

@@ -232,3 +232,34 @@ func TestTLS(t *testing.T) {
 		}
 	}
 }
+
+// TestSuitesOfTLS12 has clients of TLS 1.2 refused that know suites alone which have CBC or no forward
+// secrecy, and those of TLS below 1.2.
+func TestSuitesOfTLS12(t *testing.T) {
+	folder := t.TempDir()
+	ca := tlsFiles(t, folder)
+	at := gateway(t, fake(t, healthy), "--cert", filepath.Join(folder, "server.crt"), "--key", filepath.Join(folder, "server.key")).address
+	pool := x509.NewCertPool()
+	pool.AddCert(ca.Certificate)
+	for _, c := range []struct {
+		version, suite uint16
+		isGood         bool
+	}{
+		{tls.VersionTLS12, tls.TLS_ECDHE_ECDSA_WITH_AES_128_GCM_SHA256, true},
+		{tls.VersionTLS12, tls.TLS_ECDHE_ECDSA_WITH_CHACHA20_POLY1305_SHA256, true},
+		{tls.VersionTLS12, tls.TLS_ECDHE_ECDSA_WITH_AES_128_CBC_SHA, false},
+		{tls.VersionTLS12, tls.TLS_ECDHE_ECDSA_WITH_AES_256_CBC_SHA, false},
+		{tls.VersionTLS12, tls.TLS_ECDHE_ECDSA_WITH_AES_128_CBC_SHA256, false},
+		{tls.VersionTLS11, tls.TLS_ECDHE_ECDSA_WITH_AES_128_CBC_SHA, false},
+		{tls.VersionTLS13, 0, true},
+	} {
+		config := &tls.Config{RootCAs: pool, MinVersion: tls.VersionTLS10, MaxVersion: c.version, CipherSuites: []uint16{c.suite}}
+		conn, err := tls.Dial("tcp", at, config)
+		if (err == nil) != c.isGood {
+			t.Errorf("version %#x, suite %#x: %v", c.version, c.suite, err)
+		}
+		if err == nil {
+			conn.Close()
+		}
+	}
+}
