@@ -86,7 +86,7 @@ func newGateway(s *settings.Settings, listener net.Listener) (g *gateway, err er
 	}
 	g.desk = calls.NewDesk(options)
 	g.methods = methodsOf(g.desk, g.keeper)
-	g.watcher = &watcher{asker: g.pathd, checks: g.checks, services: g.services()}
+	g.watcher = &watcher{asker: g.pathd, address: s.Pathd, checks: g.checks, services: g.services()}
 	g.grpc = grpcapi.NewServer(g.desk, g.methods, g.checks, grpcapi.Options{Streams: uint32(s.Streams), Idle: s.Idle})
 	return g, g.makeWeb()
 }

@@ -3,6 +3,7 @@ package main
 import (
 	"context"
 	"errors"
+	"log"
 	"sync/atomic"
 	"time"
 
@@ -18,12 +19,15 @@ const (
 	checkLimit = 2 * time.Second
 )
 
-// watcher asks pathd each second whether it answers, and has health checks say so.
+// watcher asks pathd each second whether it answers, and has health checks say so. The log has a line when
+// it no longer answers, and one when it does again.
 type watcher struct {
 	asker    calls.Asker
+	address  string // of pathd
 	checks   *health.Server
 	services []string
 	isUp     atomic.Bool
+	isAway   bool // as the log says
 }
 
 // run asks until the context ends.
@@ -48,6 +52,13 @@ func (w *watcher) ask(ctx context.Context) {
 	}
 	isUp := errors.Is(err, pathd.NullDestination)
 	w.isUp.Store(isUp)
+	switch {
+	case !isUp && !w.isAway:
+		log.Printf("pathd at %s does not answer: %s", w.address, reasonOf(err))
+	case isUp && w.isAway:
+		log.Printf("pathd at %s answers again", w.address)
+	}
+	w.isAway = !isUp
 	status := healthpb.HealthCheckResponse_NOT_SERVING
 	if isUp {
 		status = healthpb.HealthCheckResponse_SERVING
@@ -55,4 +66,12 @@ func (w *watcher) ask(ctx context.Context) {
 	for _, name := range w.services {
 		w.checks.SetServingStatus(name, status)
 	}
+}
+
+// reasonOf answers why what a lookup has come to is no answer of pathd.
+func reasonOf(err error) string {
+	if err == nil {
+		return "it takes a lookup without sides"
+	}
+	return calls.FaultOf(err).Text
 }

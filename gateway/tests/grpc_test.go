@@ -152,6 +152,30 @@ func TestHealth(t *testing.T) {
 	}
 }
 
+// TestTheLogSaysWhenPathdGoesAway has a line when it goes away, and one when it comes back, however many
+// calls fail meanwhile.
+func TestTheLogSaysWhenPathdGoesAway(t *testing.T) {
+	server := pathd(t, heldAddress(t))
+	at := gateway(t, server.address)
+	conn, ctx := dial(t, at.address)
+	away, back := "pathd at "+server.address+" does not answer: ", "pathd at "+server.address+" answers again"
+	for round := 1; round <= 2; round++ {
+		server.end(syscall.SIGKILL)
+		waitUntil(t, "no line when it goes away", func() bool { return at.log.count(away) == round })
+		for call := 0; call < 20; call++ {
+			if _, err := lookup(ctx, conn); status.Code(err) != codes.Unavailable {
+				t.Error(err)
+			}
+		}
+		time.Sleep(2 * time.Second) // and two checks later
+		server = pathd(t, server.address)
+		waitUntil(t, "no line when it comes back", func() bool { return at.log.count(back) == round })
+		if _, err := lookup(ctx, conn); err != nil || at.log.count(away) != round {
+			t.Error(err, at.log)
+		}
+	}
+}
+
 func TestReflection(t *testing.T) {
 	conn, ctx := dial(t, gateway(t, fake(t, healthy)).address)
 	stream, err := reflection.NewServerReflectionClient(conn).ServerReflectionInfo(ctx)

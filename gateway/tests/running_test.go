@@ -14,6 +14,7 @@ import (
 	"path/filepath"
 	"regexp"
 	"strings"
+	"sync"
 	"syscall"
 	"testing"
 	"time"
@@ -31,15 +32,44 @@ type process struct {
 	command *exec.Cmd
 	address string
 	numbers string // of a gateway, where --status has it listen
-	log     *strings.Builder
+	log     *notes
 	ended   chan error
 	over    chan struct{} // closed once it has ended
+}
+
+// notes are the lines that a program has printed.
+type notes struct {
+	lock  sync.Mutex
+	lines []string
+}
+
+func (n *notes) add(line string) {
+	n.lock.Lock()
+	defer n.lock.Unlock()
+	n.lines = append(n.lines, line)
+}
+
+// String answers all lines.
+func (n *notes) String() string {
+	n.lock.Lock()
+	defer n.lock.Unlock()
+	return strings.Join(n.lines, "\n")
+}
+
+// count answers how many lines have a text.
+func (n *notes) count(text string) (count int) {
+	for _, line := range strings.Split(n.String(), "\n") {
+		if strings.Contains(line, text) {
+			count++
+		}
+	}
+	return count
 }
 
 // start starts a program whose lines a function looks for the address in.
 func start(t *testing.T, address func(line string) string, words ...string) *process {
 	t.Helper()
-	p := &process{t: t, command: exec.Command(words[0], words[1:]...), log: new(strings.Builder), ended: make(chan error, 1), over: make(chan struct{})}
+	p := &process{t: t, command: exec.Command(words[0], words[1:]...), log: new(notes), ended: make(chan error, 1), over: make(chan struct{})}
 	out, in, err := os.Pipe()
 	pki.Must(t, err)
 	p.command.Stdout, p.command.Stderr = in, in
@@ -50,7 +80,7 @@ func start(t *testing.T, address func(line string) string, words ...string) *pro
 	go func() {
 		lines := bufio.NewScanner(out)
 		for lines.Scan() {
-			p.log.WriteString(lines.Text() + "\n")
+			p.log.add(lines.Text())
 			if rest := strings.TrimPrefix(lines.Text(), "numbers at "); rest != lines.Text() {
 				p.numbers = rest // before the line that has the address
 			}
