@@ -141,13 +141,20 @@ func TestAFolderThatIsFaultyEndsTheStart(t *testing.T) {
 	if program == "" {
 		t.Skip("GATEWAY is the path of pathd-gateway")
 	}
-	for _, words := range [][]string{
-		{"--trust", t.TempDir()}, {"--trust", "/none"}, {"--cert", "/none", "--key", "/none"},
+	faulty := t.TempDir()
+	pki.Must(t, os.WriteFile(filepath.Join(faulty, "base.trc"), []byte("no TRC"), 0o600))
+	for _, c := range []struct {
+		words  []string
+		reason string
+	}{
+		{[]string{"--trust", t.TempDir()}, "has no TRC"},
+		{[]string{"--trust", faulty}, "base.trc: it is no CMS message: the bytes are cut, or no DER of this form\n"},
+		{[]string{"--trust", "/none"}, "/none has no TRC"},
+		{[]string{"--cert", "/none", "--key", "/none"}, "/none"},
 	} {
-		words = append([]string{program, "--listen", "127.0.0.1:0"}, words...)
-		out, status := run(words...)
-		if status != 1 || !strings.HasPrefix(out, "pathd-gateway: ") {
-			t.Error(words, status, out)
+		out, status := run(append([]string{program, "--listen", "127.0.0.1:0"}, c.words...)...)
+		if status != 1 || !strings.HasPrefix(out, "pathd-gateway: ") || !strings.Contains(out, c.reason) {
+			t.Error(c.words, status, out)
 		}
 	}
 	if out, status := run(program, "--none"); status != 2 || out == "" {

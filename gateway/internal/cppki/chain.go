@@ -29,10 +29,10 @@ type anchor struct {
 func ParseChain(as, ca []byte) (*Chain, error) {
 	c := &Chain{}
 	var err error
-	if c.AS, err = x509.ParseCertificate(as); err != nil {
+	if c.AS, err = parseCertificate(as); err != nil {
 		return nil, fmt.Errorf("AS certificate: %w", err)
 	}
-	if c.CA, err = x509.ParseCertificate(ca); err != nil {
+	if c.CA, err = parseCertificate(ca); err != nil {
 		return nil, fmt.Errorf("CA certificate: %w", err)
 	}
 	return c, c.check()

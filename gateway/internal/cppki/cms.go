@@ -11,6 +11,7 @@ import (
 	"errors"
 	"fmt"
 	"math/big"
+	"strings"
 )
 
 // As RFC 5652 has them, as far as a TRC needs.
@@ -83,20 +84,33 @@ const (
 	setTag        = 0x31 // of a SET, as which they are signed
 )
 
-// unmarshal reads DER to its last byte.
+// unmarshal reads DER to its last byte. Its errors are in plain words, as those of encoding/asn1 name
+// Go's types.
 func unmarshal(content []byte, into any) error {
 	rest, err := asn1.Unmarshal(content, into)
-	if err == nil && len(rest) > 0 {
-		return errors.New("bytes after the end")
+	switch {
+	case err != nil:
+		return errors.New("the bytes are cut, or no DER of this form")
+	case len(rest) > 0:
+		return errors.New("there are bytes after the end")
 	}
-	return err
+	return nil
+}
+
+// parseCertificate reads a certificate from DER, with such errors.
+func parseCertificate(der []byte) (*x509.Certificate, error) {
+	one, err := x509.ParseCertificate(der)
+	if err != nil && strings.Contains(err.Error(), "asn1") {
+		return nil, errors.New("the bytes are cut, or no DER of a certificate")
+	}
+	return one, err
 }
 
 // readSignedData answers the content of a CMS message, and who has signed it.
 func readSignedData(raw []byte) ([]byte, []signerInfo, error) {
 	var outer contentInfo
 	if err := unmarshal(raw, &outer); err != nil {
-		return nil, nil, fmt.Errorf("CMS: %w", err)
+		return nil, nil, fmt.Errorf("it is no CMS message: %w", err)
 	}
 	data := &outer.Content
 	if !outer.Type.Equal(oidSignedData) || !data.Encapsulated.Type.Equal(oidData) {

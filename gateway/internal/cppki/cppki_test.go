@@ -5,6 +5,7 @@ import (
 	"crypto/elliptic"
 	"crypto/x509"
 	"errors"
+	"strings"
 	"testing"
 	"time"
 
@@ -211,6 +212,44 @@ func TestBaseTRCs(t *testing.T) {
 	} {
 		if err == nil {
 			t.Errorf("%s is not refused", name)
+		}
+	}
+}
+
+// TestReasonsArePlain has the errors of faulty TRCs and chains be in words of their formats, without the
+// names of Go's types.
+func TestReasonsArePlain(t *testing.T) {
+	isd := pki.NewISD(t, elliptic.P256(), 1)
+	as := isd.AS(t, elliptic.P256(), "1-ff00:0:110")
+	var reasons []error
+	for at := 0; at < len(isd.TRC); at++ {
+		bad := append([]byte(nil), isd.TRC...)
+		bad[at] ^= 0x5a
+		_, err := ParseTRC(bad)
+		_, cut := ParseTRC(isd.TRC[:at])
+		reasons = append(reasons, err, cut)
+	}
+	for at := 0; at < len(as.Raw); at++ {
+		bad := append([]byte(nil), as.Raw...)
+		bad[at] ^= 0x5a
+		_, err := ParseChain(bad, isd.CA1.Raw)
+		_, cut := ParseChain(as.Raw, isd.CA1.Raw[:at%len(isd.CA1.Raw)])
+		reasons = append(reasons, err, cut)
+	}
+	for _, err := range reasons {
+		if err != nil && (strings.Contains(err.Error(), "asn1") || strings.Contains(err.Error(), "{")) {
+			t.Fatal(err)
+		}
+	}
+	for _, c := range []struct {
+		raw    []byte
+		wanted string
+	}{
+		{[]byte("x"), "it is no CMS message: the bytes are cut, or no DER of this form"},
+		{append(isd.TRC[:len(isd.TRC):len(isd.TRC)], 0), "it is no CMS message: there are bytes after the end"},
+	} {
+		if _, err := ParseTRC(c.raw); err == nil || err.Error() != c.wanted {
+			t.Error(err)
 		}
 	}
 }

@@ -77,7 +77,7 @@ func ParseTRC(raw []byte) (*TRC, error) {
 	}
 	var it payload
 	if err := unmarshal(content, &it); err != nil {
-		return nil, fmt.Errorf("payload: %w", err)
+		return nil, fmt.Errorf("its content is no TRC: %w", err)
 	}
 	if it.Version != trcVersion {
 		return nil, fmt.Errorf("version %d is not known", it.Version)
@@ -107,7 +107,7 @@ func (t *TRC) readCertificates(all []asn1.RawValue) error {
 		return errors.New("too many certificates")
 	}
 	for at, one := range all {
-		certificate, err := x509.ParseCertificate(one.FullBytes)
+		certificate, err := parseCertificate(one.FullBytes)
 		if err != nil {
 			return fmt.Errorf("certificate %d: %w", at, err)
 		}
