@@ -4,6 +4,7 @@ import (
 	"bytes"
 	"crypto/elliptic"
 	"crypto/x509"
+	"crypto/x509/pkix"
 	"errors"
 	"strings"
 	"testing"
@@ -212,6 +213,43 @@ func TestBaseTRCs(t *testing.T) {
 	} {
 		if err == nil {
 			t.Errorf("%s is not refused", name)
+		}
+	}
+}
+
+// TestCertificatesOfATRCAreOfItsISD has a TRC refused where a voter or a root is of another ISD, names
+// several ASes, or one that is none; and taken where a voter names none.
+func TestCertificatesOfATRCAreOfItsISD(t *testing.T) {
+	p256 := elliptic.P256()
+	with := func(names ...string) func(*x509.Certificate) {
+		return func(it *x509.Certificate) {
+			it.Subject.ExtraNames = it.Subject.ExtraNames[:1]
+			for _, name := range names {
+				it.Subject.ExtraNames = append(it.Subject.ExtraNames, pkix.AttributeTypeAndValue{Type: pki.ISDAS, Value: name})
+			}
+		}
+	}
+	for number, c := range []struct {
+		sensitive, regular, root func(*x509.Certificate)
+		isGood                   bool
+	}{
+		{with("1-ff00:0:110"), with("1-ff00:0:111"), with("1-ff00:0:110"), true},
+		{with(), with(), with("1-ff00:0:110"), true},
+		{with("2-ff00:0:110"), with("1-ff00:0:110"), with("1-ff00:0:110"), false},
+		{with("1-ff00:0:110"), with("2-ff00:0:110"), with("1-ff00:0:110"), false},
+		{with("1-ff00:0:110"), with("1-ff00:0:110"), with("2-ff00:0:110"), false},
+		{with("1-ff00:0:110", "1-ff00:0:111"), with(), with("1-ff00:0:110"), false},
+		{with("110"), with(), with("1-ff00:0:110"), false},
+	} {
+		sensitive := pki.New(t, p256, "sensitive", "", nil, pki.For(pki.Sensitive), c.sensitive)
+		regular := pki.New(t, p256, "regular", "", nil, pki.For(pki.Regular), c.regular)
+		root := pki.New(t, p256, "root", "", nil, pki.Authority(1), pki.For(pki.Root), c.root)
+		trc, err := ParseTRC(pki.Sign(t, pki.NewPayload(1, 1, 1, sensitive, regular, root), sensitive, regular))
+		if err == nil {
+			err = trc.VerifyBase()
+		}
+		if (err == nil) != c.isGood {
+			t.Errorf("case %d: %v", number, err)
 		}
 	}
 }

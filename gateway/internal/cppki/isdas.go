@@ -57,6 +57,11 @@ func parseAS(text string) (uint64, error) {
 	return as, nil
 }
 
+var (
+	errNoISDAS      = errors.New("the subject has no ISD-AS")
+	errSeveralISDAS = errors.New("the subject has several ISD-ASes")
+)
+
 // subject answers the ISD-AS of a certificate's subject, which has to be there once.
 func subject(of *x509.Certificate) (ISDAS, error) {
 	found, count := "", 0
@@ -67,8 +72,11 @@ func subject(of *x509.Certificate) (ISDAS, error) {
 			count++
 		}
 	}
-	if count != 1 {
-		return 0, errors.New("the subject has no ISD-AS, or several")
+	switch count {
+	case 0:
+		return 0, errNoISDAS
+	case 1:
+		return ParseISDAS(found)
 	}
-	return ParseISDAS(found)
+	return 0, errSeveralISDAS
 }

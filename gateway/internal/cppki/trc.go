@@ -146,8 +146,15 @@ func classOf(certificate *x509.Certificate) (found class, err error) {
 	return found, nil
 }
 
-// checkCertificate looks at a certificate beside those before it.
+// checkCertificate looks at a certificate beside those before it. One for votes may leave out its ISD-AS.
 func (t *TRC) checkCertificate(certificate *x509.Certificate) error {
+	its, err := subject(certificate)
+	if err == nil && its.ISD() != t.ISD {
+		err = fmt.Errorf("it is of another ISD: %v", its)
+	}
+	if err != nil && err != errNoISDAS {
+		return err
+	}
 	if !windowOf(certificate).covers(t.Window) {
 		return errors.New("it is not valid as long as the TRC")
 	}
