@@ -54,18 +54,47 @@ func (s step) next(dropped uint32, last Moment) step {
 	return step{s.moment + width, width}
 }
 
+// eachStep purges by the moment of each step up to a time. The purge answers how many segments it has
+// dropped, and whether the next one is wanted.
+func eachStep(at time.Time, purge func(moment Moment) (dropped uint32, goesOn bool)) {
+	last := MomentOf(at)
+	for now := firstStep(last); ; {
+		dropped, goesOn := purge(now.moment)
+		if !goesOn || now.moment == last {
+			return
+		}
+		now = now.next(dropped, last)
+	}
+}
+
 // PurgeInSteps drops what Purge drops, by several commands whose moments rise, so that each drops few
 // segments and others wait less. The Ack of each goes to a function that answers whether it wants more. An
 // error is the last that it gets. Segments of one expiry are dropped by one command.
 func (c *Client) PurgeInSteps(ctx context.Context, at time.Time) func(yield func(Ack, error) bool) {
 	return func(yield func(Ack, error) bool) {
-		last := MomentOf(at)
-		for now := firstStep(last); ; {
-			ack, err := c.command(ctx, KindPurge, purgeBody(now.moment))
-			if !yield(ack, err) || err != nil || now.moment == last {
-				return
-			}
-			now = now.next(ack.Purged, last)
+		eachStep(at, func(moment Moment) (uint32, bool) {
+			ack, err := c.command(ctx, KindPurge, purgeBody(moment))
+			return ack.Purged, yield(ack, err) && err == nil
+		})
+	}
+}
+
+// PurgeInSteps drops from each server what Purge drops, as Client.PurgeInSteps does. A step is as wide as
+// the one before lets it be at the server that dropped the most of those that have acknowledged it.
+func (s *Servers) PurgeInSteps(ctx context.Context, at time.Time) func(yield func([]Result, error) bool) {
+	return func(yield func([]Result, error) bool) {
+		eachStep(at, func(moment Moment) (uint32, bool) {
+			results, err := s.command(ctx, purge, purgeBody(moment))
+			return mostPurged(results), yield(results, err) && err == nil
+		})
+	}
+}
+
+func mostPurged(results []Result) (most uint32) {
+	for _, it := range results {
+		if it.Err == nil && it.Ack.Purged > most {
+			most = it.Ack.Purged
 		}
 	}
+	return most
 }

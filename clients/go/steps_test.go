@@ -81,6 +81,36 @@ func TestPurgeInSteps(t *testing.T) {
 	}
 }
 
+// The next step of several servers is by the one that has dropped the most.
+func TestPurgeInStepsOfServers(t *testing.T) {
+	c, number := stepCases[1], 0
+	none := running(t, func([]byte) []byte { return purgedContent(0, 0) })
+	most := running(t, func([]byte) []byte { // of one session, so never at one time
+		number++
+		return purgedContent(0, append(c.drops, 0)[number-1])
+	})
+	servers, ctx := serversOf(t, Options{}, none, most)
+	left := len(c.before)
+	servers.PurgeInSteps(ctx, c.last.Time())(func(results []Result, err error) bool {
+		if err != nil || len(results) != 2 {
+			t.Errorf("%v, %v", results, err)
+		}
+		left--
+		return left > 0
+	})
+	for _, it := range []*store{none, most} {
+		commands, _ := it.came()
+		if len(commands) != len(c.before) {
+			t.Fatalf("%d commands", len(commands))
+		}
+		for i, content := range commands {
+			if moment := Moment(binary.BigEndian.Uint64(content[1:])); moment != c.last-c.before[i] {
+				t.Errorf("command %d: by %d", i, moment)
+			}
+		}
+	}
+}
+
 // purgedContent is the content of the reply to a purge.
 func purgedContent(place uint64, dropped uint32) []byte {
 	content := make([]byte, 25)
