@@ -186,6 +186,9 @@ func (s *Servers) command(ctx context.Context, kind byte, body []byte) ([]Result
 	if len(body) > MostRequest {
 		return nil, ErrTooLarge
 	}
+	if err := ctx.Err(); err != nil {
+		return nil, err
+	}
 	d := newDelivery(kind, body, len(s.senders))
 	s.lock.Lock()
 	defer s.lock.Unlock()

@@ -95,6 +95,23 @@ func TestAServerThatIsAwayGetsCommandsLater(t *testing.T) {
 	}
 }
 
+// No server is sent what comes with a context that has ended.
+func TestContextsThatHaveEnded(t *testing.T) {
+	store := running(t, taken)
+	servers, ctx := serversOf(t, Options{}, store)
+	ended, cancel := context.WithCancel(ctx)
+	cancel()
+	if _, err := servers.Purge(ended, Moment(1).Time()); err != context.Canceled {
+		t.Error(err)
+	}
+	if _, err := servers.Purge(ctx, Moment(2).Time()); err != nil {
+		t.Error(err)
+	}
+	if commands, _ := store.came(); len(commands) != 1 {
+		t.Errorf("%d commands", len(commands))
+	}
+}
+
 func TestAServerThatIsStartedAgain(t *testing.T) {
 	store := running(t, silent)
 	servers, ctx := serversOf(t, Options{}, store)
