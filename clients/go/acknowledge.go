@@ -8,16 +8,18 @@ import (
 // Acknowledge says how many servers have to acknowledge a command.
 type Acknowledge int
 
-// All of the servers, which is the zero value; one of them; or more than half of them.
+// All of the servers, which is the zero value; one of them; more than half of them; or all that are not
+// away, and one at least. A server is away where the last try of it failed, until one succeeds.
 const (
 	All Acknowledge = iota
 	One
 	Majority
+	Present
 )
 
 func (a Acknowledge) needed(servers int) int {
 	switch a {
-	case One:
+	case One, Present:
 		return 1
 	case Majority:
 		return servers/2 + 1
@@ -92,16 +94,4 @@ func newDelivery(kind byte, body []byte, servers int) *delivery {
 // size answers how many bytes its frame has.
 func (d *delivery) size() int {
 	return 5 + len(d.body)
-}
-
-// isDecided answers whether as many servers as it needs have acknowledged it, or can't any more.
-func (d *delivery) isDecided(by Acknowledge) bool {
-	waiting := 0
-	for _, it := range d.results {
-		if it.Err == ErrWaiting {
-			waiting++
-		}
-	}
-	count, needed := acknowledged(d.results), by.needed(len(d.results))
-	return count >= needed || count+waiting < needed
 }

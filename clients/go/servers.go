@@ -198,12 +198,27 @@ func (s *Servers) command(ctx context.Context, kind byte, body []byte) ([]Result
 	if err := s.put(d); err != nil {
 		return nil, err
 	}
-	err := s.wait(ctx, func() bool { return s.closed || d.isDecided(s.options.Acknowledge) })
+	err := s.wait(ctx, func() bool { return s.closed || s.isDecided(d) })
 	results := append([]Result(nil), d.results...)
 	if acknowledged(results) < s.options.Acknowledge.needed(len(results)) {
 		return results, &NotAcknowledged{results, err}
 	}
 	return results, nil
+}
+
+// isDecided answers whether as many servers as it needs have acknowledged a command, or can't any more. The
+// lock is held.
+func (s *Servers) isDecided(d *delivery) bool {
+	waiting, isAwaited := 0, false
+	for number, it := range d.results {
+		if it.Err == ErrWaiting {
+			waiting++
+			isAwaited = isAwaited || s.senders[number].state.Err == nil
+		}
+	}
+	by := s.options.Acknowledge
+	count, needed := acknowledged(d.results), by.needed(len(d.results))
+	return count >= needed && !(isAwaited && by == Present) || count+waiting < needed
 }
 
 func (s *Servers) put(d *delivery) error {

@@ -95,6 +95,32 @@ func TestAServerThatIsAwayGetsCommandsLater(t *testing.T) {
 	}
 }
 
+func TestServersThatAreNotAway(t *testing.T) {
+	slowly := func(content []byte) []byte {
+		time.Sleep(20 * time.Millisecond)
+		return taken(content)
+	}
+	up, away := running(t, taken), newStore(t, slowly)
+	servers, ctx := serversOf(t, Options{Acknowledge: Present}, up, away)
+	if results, err := servers.Purge(ctx, Moment(1).Time()); err != nil || results[0].Err != nil || results[1].Err != ErrWaiting {
+		t.Errorf("%v, %v", results, err)
+	}
+	away.start()
+	if err := servers.Drain(ctx); err != nil {
+		t.Error(err)
+	}
+	if results, err := servers.Purge(ctx, Moment(2).Time()); err != nil || results[0].Err != nil || results[1].Err != nil {
+		t.Errorf("%v, %v", results, err)
+	}
+	up.stop()
+	away.stop()
+	short, cancel := context.WithTimeout(ctx, 50*time.Millisecond)
+	defer cancel()
+	if _, err := servers.Purge(short, Moment(3).Time()); !errors.Is(err, context.DeadlineExceeded) {
+		t.Error(err)
+	}
+}
+
 // No server is sent what comes with a context that has ended.
 func TestContextsThatHaveEnded(t *testing.T) {
 	store := running(t, taken)
