@@ -1,16 +1,17 @@
 #!/usr/bin/env bash
-# Runs the tests of the client of clients/go: with a server that the tests imitate, and with the
-# built program. It also carries out the programs of the client's page, compares the generated
-# package with docs/segments.proto, and builds the client as a module. It needs Debian's golang-go,
-# golang-google-protobuf-dev, protoc-gen-go and protobuf-compiler, uses the loopback alone, and is no
-# part of the gate. What is built is removed at the end; Go keeps its own cache of what it compiled.
+# Runs the tests of the client of clients/go, and those of its path database with Go's detector of
+# races: with a server that the tests imitate, and with the built program. It also carries out the
+# programs of their pages, compares the generated package with docs/segments.proto, and builds the
+# client as a module. It needs Debian's golang-go, golang-google-protobuf-dev, protoc-gen-go,
+# protobuf-compiler and gcc, uses the loopback alone, and is no part of the gate. What is built is
+# removed at the end; Go keeps its own cache of what it compiled.
 #
 #     tools/pathd-tools go-client [PROGRAM]
 #
 # PROGRAM is crates/pathd/out/pathd if left out, which `rt run` builds.
 set -euo pipefail
 top=$(cd "$(dirname "${BASH_SOURCE[0]}")/../.." && pwd)
-"$top/tools/pathd-tools" need protoc go protoc-gen-go golang-google-protobuf-dev
+"$top/tools/pathd-tools" need protoc go protoc-gen-go golang-google-protobuf-dev gcc
 program=$(realpath "${1:-$top/crates/pathd/out/pathd}")
 [ -x "$program" ] || { echo "no program: $program" >&2; exit 2; }
 work=$(mktemp -d)
@@ -27,10 +28,11 @@ unformatted=$(gofmt -l "$top/clients")
 
 cd "$work/src/pathd"
 export GO111MODULE=off GOFLAGS= GOPATH="$work:/usr/share/gocode" PATHD=$program CODES=$top/docs/codes.csv
-go vet .
+go vet ./...
 go test -count=1 .
-"$top/tools/pathd-tools" examples --program "$program" "$top/clients/go/README.md"
+go test -race -count=1 ./pathdb
+"$top/tools/pathd-tools" examples --program "$program" "$top/clients/go/README.md" "$top/clients/go/pathdb/README.md"
 
 # As a module, with Debian's protobuf in place of the one that would be fetched.
 replace_modules . google.golang.org/protobuf github.com/golang/protobuf github.com/google/go-cmp
-GO111MODULE=on GOPROXY=off GOFLAGS=-mod=mod go build -modfile="$work/replaced.mod" .
+GO111MODULE=on GOPROXY=off GOFLAGS=-mod=mod go build -modfile="$work/replaced.mod" ./...

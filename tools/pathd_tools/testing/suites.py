@@ -17,7 +17,7 @@ golang-google-grpc-dev golang-golang-x-net-dev openssl"""
 # What each suite needs, and its words, in which PROGRAM is the program's path.
 SUITES = [
     (GATEWAY, "gateway PROGRAM"),
-    ("protoc go protoc-gen-go golang-google-protobuf-dev", "go-client PROGRAM"),
+    ("protoc go protoc-gen-go golang-google-protobuf-dev gcc", "go-client PROGRAM"),
     ("python3-protobuf", "client PROGRAM"),
     ("rustc", "examples --program PROGRAM clients/rust/client.rs"),
     ("", "vectors -p PROGRAM tools/cases"),
