@@ -1,18 +1,14 @@
 package pathd
 
 import (
-	"bufio"
 	"context"
 	"encoding/hex"
 	"errors"
-	"os"
-	"os/exec"
-	"path/filepath"
-	"regexp"
 	"testing"
 	"time"
 
 	"google.golang.org/protobuf/proto"
+	"pathd/internal/testpathd"
 	pb "pathd/segmentspb"
 )
 
@@ -26,36 +22,13 @@ const (
 	cores            = "1-ff00:0:110"
 )
 
-// started answers a client of a new server of the program PATHD, and its address.
+// started answers a client of a new server, and its address.
 func started(t *testing.T) (*Client, string, context.Context) {
-	program := os.Getenv("PATHD")
-	if program == "" {
-		t.Skip("PATHD is the path of the built program")
-	}
-	store := filepath.Join(t.TempDir(), "store")
-	if err := exec.Command(program, "format", store, "--checkpoint", "64", "--journal", "516").Run(); err != nil {
-		t.Fatal(err)
-	}
-	run := exec.Command(program, "run", store, "--listen", "127.0.0.1:0", "--cores", cores)
-	notices, err := run.StderrPipe()
-	if err != nil {
-		t.Fatal(err)
-	}
-	if err := run.Start(); err != nil {
-		t.Fatal(err)
-	}
-	t.Cleanup(func() { run.Process.Kill(); run.Wait() })
-	lines, found := bufio.NewScanner(notices), []string(nil)
-	for found == nil && lines.Scan() {
-		found = regexp.MustCompile(`^pathd: serves .* at (127\.0\.0\.1:\d+):`).FindStringSubmatch(lines.Text())
-	}
-	if found == nil {
-		t.Fatalf("the server doesn't listen: %s", lines.Text())
-	}
+	server := testpathd.Start(t, "64", "516", "--cores", cores)
 	ctx, cancel := context.WithTimeout(context.Background(), limit)
-	client := NewClient(found[1], ClientOptions{})
+	client := NewClient(server.Address, ClientOptions{})
 	t.Cleanup(func() { client.Close(); cancel() })
-	return client, found[1], ctx
+	return client, server.Address, ctx
 }
 
 // segment answers the worked segment, made at a time in seconds since 1970.
