@@ -10,17 +10,18 @@ use std::time::{Clock, Duration, SystemTime};
 /// From this part of a second on its second half has begun, in nanoseconds.
 const MIDDLE: u32 = 500_000_000;
 
-/// Gives moments.
+/// Gives moments, in half seconds since the beginning of its count.
 pub trait Now {
     /// The moment that was given last.
     ghost moment: { Self → ℕ };
 
-    /// A moment, in half seconds since 1970.
+    /// The moment that is now.
     fn now(&mut self) -> u64
         ensures { result ≡ moment self.new };
 }
 
-/// The machine's clock. Contracts see the moment that it gave last, 0 at first.
+/// The machine's clock, which counts from the beginning of 1970. Contracts see the moment that it
+/// gave last, 0 at first.
 #[derive(Drop)]
 pub struct SystemNow<'a, K: Clock> {
     clock: &'a K,
@@ -72,7 +73,7 @@ fn moment_after(last: u64, reading: Option<Duration>) -> u64
 
 /// Twice the seconds, and one more from the middle of a second on. Where that does not fit 64 bits,
 /// it is 2^64 - 1.
-fn half_seconds(time: Duration) -> u64
+pub(crate) fn half_seconds(time: Duration) -> u64
     ensures { result ≡ half_seconds_of (as_nanos time) }
 {
     let half = u64::from(time.subsec_nanos() >= MIDDLE);
