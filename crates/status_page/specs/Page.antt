@@ -14,7 +14,7 @@ use Rattle.status_page.specs.declared.counts.LookupTimes.{LookupTimes}
 use Rattle.status_page.specs.declared.counts.Usage.{Usage}
 use Rattle.status_page.specs.declared.lines.Kind.TheVariants.{Gauge, Counter}
 use Rattle.status_page.specs.declared.lines.Value.TheVariants.{Number, Time, TimeIf, Truth}
-use Rattle.status_page.specs.declared.names.TheConstants.{ROWS, ROWS_HELP, ROWS_BY_TYPE, ROWS_BY_TYPE_HELP, ROW_BYTES, ROW_BYTES_HELP, MOST_BYTES, MOST_BYTES_HELP, COMMANDS, COMMANDS_HELP, PENDING, PENDING_HELP, STOPPED, STOPPED_HELP, EPOCH, EPOCH_HELP, FORMAT, FORMAT_HELP, SEALED, SEALED_HELP, JOURNAL, JOURNAL_HELP, JOURNAL_USED, JOURNAL_USED_HELP, FLUSHER, FLUSHER_HELP, CHECKPOINTER, CHECKPOINTER_HELP, CALLS, CALLS_HELP, GROUPS, GROUPS_HELP, SEALS, SEALS_HELP, CHECKPOINTS, CHECKPOINTS_HELP, CHECKPOINT_TIME, CHECKPOINT_TIME_HELP, WAITS, WAITS_HELP, COMMITS, COMMITS_HELP, SESSIONS, SESSIONS_HELP, STARTED, STARTED_HELP, REFUSED, REFUSED_HELP, ENDS, ENDS_HELP, REPLIES, REPLIES_HELP, OUTCOMES, OUTCOMES_HELP, LOOKUPS, LOOKUPS_HELP, DROPPED, DROPPED_HELP, UPTIME, UPTIME_HELP, BEGUN, BEGUN_HELP, MEMORY, MEMORY_HELP, PROCESSOR, PROCESSOR_HELP, OPEN_FILES, OPEN_FILES_HELP, MOST_FILES, MOST_FILES_HELP, BUILD, BUILD_HELP, REFUSALS, REFUSALS_HELP}
+use Rattle.status_page.specs.declared.names.TheConstants.{ROWS, ROWS_HELP, ROWS_BY_TYPE, ROWS_BY_TYPE_HELP, ROW_BYTES, ROW_BYTES_HELP, MOST_BYTES, MOST_BYTES_HELP, COMMANDS, COMMANDS_HELP, PENDING, PENDING_HELP, STOPPED, STOPPED_HELP, EPOCH, EPOCH_HELP, FORMAT, FORMAT_HELP, SEALED, SEALED_HELP, JOURNAL, JOURNAL_HELP, JOURNAL_USED, JOURNAL_USED_HELP, FLUSHER, FLUSHER_HELP, CHECKPOINTER, CHECKPOINTER_HELP, CALLS, CALLS_HELP, GROUPS, GROUPS_HELP, SEALS, SEALS_HELP, CHECKPOINTS, CHECKPOINTS_HELP, CHECKPOINT_TIME, CHECKPOINT_TIME_HELP, WAITS, WAITS_HELP, COMMITS, COMMITS_HELP, SESSIONS, SESSIONS_HELP, STARTED, STARTED_HELP, REFUSED, REFUSED_HELP, ENDS, ENDS_HELP, REPLIES, REPLIES_HELP, OUTCOMES, OUTCOMES_HELP, PURGES_RESTING, PURGES_RESTING_HELP, OWN_PURGED, OWN_PURGED_HELP, LOOKUPS, LOOKUPS_HELP, DROPPED, DROPPED_HELP, UPTIME, UPTIME_HELP, BEGUN, BEGUN_HELP, MEMORY, MEMORY_HELP, PROCESSOR, PROCESSOR_HELP, OPEN_FILES, OPEN_FILES_HELP, MOST_FILES, MOST_FILES_HELP, BUILD, BUILD_HELP, REFUSALS, REFUSALS_HELP}
 use Rattle.status_page.specs.Calls.{call_number}
 use Rattle.status_page.specs.Phases.{flush_number, check_number}
 use Rattle.status_page.specs.Lines.{heading, labelled}
@@ -151,13 +151,20 @@ reply_lines counts = concat (
     ∷ labelled OUTCOMES.now (codes "outcome=\"removed\"") (Number counts.outcomes.removed)
     ∷ [])
 
+-- The lines of the server's own purges: whether they rest, and the rows that they have dropped.
+unfoldable pub own_purge_lines : Counts → List ℕ
+own_purge_lines counts = concat (
+    plain PURGES_RESTING.now Gauge PURGES_RESTING_HELP.now (Truth counts.own_purges.resting)
+    ∷ plain OWN_PURGED.now Counter OWN_PURGED_HELP.now (Number counts.own_purges.rows)
+    ∷ [])
+
 -- The lines of how long lookups took.
 unfoldable pub lookup_text : LookupTimes → List ℕ
 lookup_text times = histogram LOOKUPS.now LOOKUPS_HELP.now times.buckets times.count times.microseconds
 
--- The lines of what was replied.
+-- The lines of what was replied, and of the server's own purges.
 unfoldable pub answer_text : Counts → List ℕ
-answer_text counts = reply_lines counts ++ lookup_text counts.lookups
+answer_text counts = reply_lines counts ++ (own_purge_lines counts ++ lookup_text counts.lookups)
 
 -- The lines of the notices that were dropped, how long the process has run, and when it began.
 unfoldable pub age_lines : Counts → List ℕ

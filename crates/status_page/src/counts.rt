@@ -44,6 +44,8 @@ pub struct Counts {
     pub removed: u64,
     /// What became of the segments and rows of acknowledged commands.
     pub outcomes: OutcomeCounts,
+    /// What the server's own purges have done.
+    pub own_purges: OwnPurges,
     /// The number of notices that were dropped, since the log took none.
     pub dropped: u64,
     /// The number of seconds that the server has run.
@@ -89,6 +91,15 @@ pub struct OutcomeCounts {
     pub kept: u64,
     /// The number of rows that purges and removals have dropped.
     pub removed: u64,
+}
+
+/// What the purges have done that a server makes by itself.
+#[derive(Clone, Copy, Debug, PartialEq, Eq)]
+pub struct OwnPurges {
+    /// Whether they rest, since the machine's clock is not trusted.
+    pub resting: bool,
+    /// The number of rows that they have dropped.
+    pub rows: u64,
 }
 
 /// Which threads of the store were refused memory, and try again.

@@ -32,7 +32,7 @@ pub use answers::{
 pub use build::VERSION;
 pub use counts::{
     CallTime, CodeCount, Counts, EndCounts, LOOKUP_BUCKETS, LookupTimes, MemoryWaits,
-    OutcomeCounts, RefusedCounts, Usage,
+    OutcomeCounts, OwnPurges, RefusedCounts, Usage,
 };
 pub use request::{Asked, read_head};
 pub use text::page;

@@ -111,6 +111,15 @@ pub(crate) const OUTCOMES: &str = "pathd_outcomes_total";
 pub(crate) const OUTCOMES_HELP: &str =
     "Segments and rows of acknowledged commands, by what became of them.";
 
+pub(crate) const PURGES_RESTING: &str = "pathd_purges_resting";
+
+pub(crate) const PURGES_RESTING_HELP: &str =
+    "1 where the server's own purges rest, since its clock is not trusted.";
+
+pub(crate) const OWN_PURGED: &str = "pathd_own_purged_rows_total";
+
+pub(crate) const OWN_PURGED_HELP: &str = "Segments that the server's own purges have dropped.";
+
 pub(crate) const LOOKUPS: &str = "pathd_lookup_seconds";
 
 pub(crate) const LOOKUPS_HELP: &str =

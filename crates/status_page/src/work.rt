@@ -1,14 +1,15 @@
 //! What a server has done, as lines of a page.
 
 ghost use Rattle.std.specs.Prelude.{◌≡◌, IfOk, string_bytes};
-ghost use Rattle.status_page.specs.Page.{actor_lines, reply_lines, answer_text, work_text};
+ghost use Rattle.status_page.specs.Page.{actor_lines, reply_lines, own_purge_lines, answer_text, work_text};
 
 use crate::counts::Counts;
 use crate::lines::Kind::{Counter, Gauge};
 use crate::lines::Value::{Number, Time, Truth};
 use crate::names::{
     CHECKPOINT_TIME, CHECKPOINT_TIME_HELP, CHECKPOINTS, CHECKPOINTS_HELP, GROUPS, GROUPS_HELP,
-    OUTCOMES, OUTCOMES_HELP, REPLIES, REPLIES_HELP, SEALS, SEALS_HELP, WAITS, WAITS_HELP,
+    OUTCOMES, OUTCOMES_HELP, OWN_PURGED, OWN_PURGED_HELP, PURGES_RESTING, PURGES_RESTING_HELP,
+    REPLIES, REPLIES_HELP, SEALS, SEALS_HELP, WAITS, WAITS_HELP,
 };
 use crate::process::process_text;
 use crate::rows::Row::{Family, Labelled, Plain};
@@ -57,14 +58,15 @@ fn actor_lines(alloc: Global, counts: &Counts) -> Result<String, AllocError>
     rows_text(alloc, &rows)
 }
 
-/// The lines of what was replied.
+/// The lines of what was replied, and of the server's own purges.
 #[tactic(auto, unfolding(crate::specs::Page::answer_text))]
 fn answer_text(alloc: Global, counts: &Counts) -> Result<String, AllocError>
     ensures { IfOk result (λ text. string_bytes text ≡ answer_text counts.now) }
 {
     let replies = reply_lines(alloc, counts)?;
+    let purges = own_purge_lines(alloc, counts)?;
     let lookups = lookup_text(alloc, &counts.lookups)?;
-    format!(in alloc; "{replies}{lookups}")
+    format!(in alloc; "{replies}{purges}{lookups}")
 }
 
 /// The lines of the replies by their kinds, except refusals, and of what acknowledged commands did.
@@ -96,6 +98,24 @@ fn reply_lines(alloc: Global, counts: &Counts) -> Result<String, AllocError>
             "outcome=\"removed\"",
             Number(counts.outcomes.removed),
         ),
+    ];
+    rows_text(alloc, &rows)
+}
+
+/// The lines of the server's own purges: whether they rest, and the rows that they have dropped.
+#[tactic(auto, unfolding(crate::specs::Page::own_purge_lines))]
+fn own_purge_lines(alloc: Global, counts: &Counts) -> Result<String, AllocError>
+    ensures { IfOk result (λ lines. string_bytes lines ≡ own_purge_lines counts.now) }
+{
+    let purges = counts.own_purges;
+    let rows = [
+        Plain(
+            PURGES_RESTING,
+            Gauge,
+            PURGES_RESTING_HELP,
+            Truth(purges.resting),
+        ),
+        Plain(OWN_PURGED, Counter, OWN_PURGED_HELP, Number(purges.rows)),
     ];
     rows_text(alloc, &rows)
 }

@@ -5,7 +5,7 @@ use group_core::Numbers;
 use group_phases::{Check, Flush};
 use status_page::{
     CallTime, CodeCount, Counts, EndCounts, LOOKUP_BUCKETS, LookupTimes, MemoryWaits,
-    OutcomeCounts, RefusedCounts, Usage, page, response,
+    OutcomeCounts, OwnPurges, RefusedCounts, Usage, page, response,
 };
 use std::test::Fail;
 use store_loops::{Bucket, CommitTimes, DeviceCall};
@@ -115,6 +115,10 @@ pub(crate) fn counts() -> Counts {
             updated: 4_294_967_296,
             kept: 7,
             removed: 3,
+        },
+        own_purges: OwnPurges {
+            resting: true,
+            rows: 2,
         },
         dropped: 12,
         seconds: 86_400,
@@ -281,6 +285,12 @@ pathd_outcomes_total{outcome=\"inserted\"} 5
 pathd_outcomes_total{outcome=\"updated\"} 4294967296
 pathd_outcomes_total{outcome=\"kept\"} 7
 pathd_outcomes_total{outcome=\"removed\"} 3
+# HELP pathd_purges_resting 1 where the server's own purges rest, since its clock is not trusted.
+# TYPE pathd_purges_resting gauge
+pathd_purges_resting 1
+# HELP pathd_own_purged_rows_total Segments that the server's own purges have dropped.
+# TYPE pathd_own_purged_rows_total counter
+pathd_own_purged_rows_total 2
 # HELP pathd_lookup_seconds Time from a whole message of a lookup to the segments of its reply.
 # TYPE pathd_lookup_seconds histogram
 pathd_lookup_seconds_bucket{le=\"0.000002\"} 0

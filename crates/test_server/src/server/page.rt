@@ -136,6 +136,12 @@ pathd_outcomes_total{outcome=\"inserted\"} 1
 pathd_outcomes_total{outcome=\"updated\"} 0
 pathd_outcomes_total{outcome=\"kept\"} 0
 pathd_outcomes_total{outcome=\"removed\"} 0
+# HELP pathd_purges_resting 1 where the server's own purges rest, since its clock is not trusted.
+# TYPE pathd_purges_resting gauge
+pathd_purges_resting 0
+# HELP pathd_own_purged_rows_total Segments that the server's own purges have dropped.
+# TYPE pathd_own_purged_rows_total counter
+pathd_own_purged_rows_total 0
 # HELP pathd_lookup_seconds Time from a whole message of a lookup to the segments of its reply.
 # TYPE pathd_lookup_seconds histogram
 pathd_lookup_seconds_bucket{le=\"0.000002\"} ";
