@@ -132,7 +132,7 @@ func (c *Chain) Expires() (latest time.Time) {
 	return latest
 }
 
-// covers answers whether both certificates are valid from a moment to another.
-func (c *Chain) covers(since, until time.Time) bool {
-	return windowOf(c.AS).and(windowOf(c.CA)).covers(Window{since, until})
+// covers answers whether both certificates are valid in all of a window.
+func (c *Chain) covers(window Window) bool {
+	return windowOf(c.AS).and(windowOf(c.CA)).covers(window)
 }

@@ -119,15 +119,66 @@ func TestEntriesThatAreRefused(t *testing.T) {
 func TestChainsExpire(t *testing.T) {
 	isd := pki.NewISD(t, elliptic.P256(), 1)
 	now := time.Now()
-	soon := pki.New(t, elliptic.P256(), "as", "1-ff00:0:110", isd.CA1, pki.OfAS, pki.Until(now.Add(time.Hour)))
+	soon := pki.New(t, elliptic.P256(), "as", "1-ff00:0:110", isd.CA1, pki.OfAS, pki.Until(now.Add(7*time.Hour)))
 	m := materialOf(t, isd, chainOf(t, soon, isd.CA1))
 	segment := pki.Segment(t, now, 1, pki.Hop{Signer: soon, IsdAS: core, KeyOf: core, Base: 1, Serial: 1})
 	known := NewMemory(10)
 	pki.Must(t, verify(m, segment, now, known))
-	for _, at := range []time.Time{now.Add(2 * time.Hour), now.Add(-3 * time.Hour), now.Add(30 * time.Hour)} {
+	for _, at := range []time.Time{now.Add(8 * time.Hour), now.Add(-3 * time.Hour), now.Add(30 * time.Hour)} {
 		if err := verify(m, segment, at, known); !errors.Is(err, ErrNoChain) {
 			t.Error(at, err)
 		}
+	}
+}
+
+// TestASegmentIsValidNoLongerThanItsChains has segments of six hours (64 times 337.5 seconds), whose signers
+// have certificates that begin and end at moments before and after the segment.
+func TestASegmentIsValidNoLongerThanItsChains(t *testing.T) {
+	p256 := elliptic.P256()
+	isd := pki.NewISD(t, p256, 1)
+	made := time.Now().Truncate(time.Second).Add(-time.Minute)
+	const life = 6 * time.Hour
+	for number, c := range []struct {
+		begins, ends time.Duration // after the segment's own beginning and end
+		isGood       bool
+	}{
+		{-time.Hour, time.Hour, true}, {0, 0, true}, {time.Second, 0, false}, {0, -time.Second, false},
+		{30 * time.Second, time.Hour, false}, {-time.Hour, -5 * time.Hour, false},
+	} {
+		its := pki.New(t, p256, "as", "1-ff00:0:110", isd.CA1, pki.OfAS, pki.From(made.Add(c.begins)), pki.Until(made.Add(life+c.ends)))
+		long := isd.AS(t, p256, "1-ff00:0:111")
+		m := materialOf(t, isd, chainOf(t, its, isd.CA1), chainOf(t, long, isd.CA1))
+		one := pki.Hop{Signer: its, IsdAS: core, KeyOf: core, Base: 1, Serial: 1}
+		two := pki.Hop{Signer: long, IsdAS: leaf, KeyOf: leaf, Base: 1, Serial: 1}
+		for _, hops := range [][]pki.Hop{{one}, {one, two}, {two, one}} {
+			err := verify(m, pki.Segment(t, made, 1, hops...), time.Now(), nil)
+			if c.isGood && err != nil || !c.isGood && !errors.Is(err, ErrValidity) {
+				t.Errorf("case %d, %d hops: %v", number, len(hops), err)
+			}
+		}
+	}
+}
+
+// TestTheFirstHopFieldToExpireCounts has the window of a segment of three entries.
+func TestTheFirstHopFieldToExpireCounts(t *testing.T) {
+	entry := func(expTime uint64) []byte {
+		hop := pki.Number(nil, 3, expTime)
+		body := pki.Bytes(pki.Number(nil, 1, core), 3, pki.Bytes(nil, 1, hop))
+		return pki.Bytes(nil, 1, pki.Bytes(nil, 1, pki.Bytes(nil, 2, body)))
+	}
+	segment := pki.Bytes(nil, 1, pki.Number(nil, 1, 1_700_000_000))
+	for _, expTime := range []uint64{63, 1, 255} {
+		segment = pki.Bytes(segment, 2, entry(expTime))
+	}
+	entries, err := Entries(segment)
+	pki.Must(t, err)
+	for _, one := range entries {
+		if one.Segment.NotBefore.Unix() != 1_700_000_000 || one.Segment.NotAfter.Unix() != 1_700_000_675 {
+			t.Error(one.Segment)
+		}
+	}
+	if _, err := Entries(pki.Bytes(nil, 1, pki.Number(nil, 1, 1<<32))); err == nil {
+		t.Error("a timestamp beyond 32 bits")
 	}
 }
 

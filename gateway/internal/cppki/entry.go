@@ -18,10 +18,12 @@ type Entry struct {
 	// KeyID is the id of that key, and Base and Serial the latest TRC that the signer knew.
 	KeyID        []byte
 	Base, Serial int64
+	// Segment is from the segment's timestamp to its expiry.
+	Segment Window
 
 	hash                     crypto.Hash
 	headerAndBody, signature []byte
-	associated               uint64
+	associated, expTime      uint64
 	before                   [][]byte // what is signed after the entry itself
 }
 
@@ -30,6 +32,9 @@ var (
 	ErrSignature = errors.New("its signature is not good")
 	// ErrNoChain is the error of an entry for whose key there is no chain.
 	ErrNoChain = errors.New("there is no valid chain for its key")
+	// ErrValidity is the error of an entry whose key has chains, none of which is valid as long as the
+	// segment is.
+	ErrValidity = errors.New("no chain for its key is valid from the segment's timestamp to its expiry")
 	// ErrNoTRC is the error of an entry whose signer knows a TRC that is not there.
 	ErrNoTRC = errors.New("its signer knows a TRC that is not here")
 )
@@ -80,7 +85,34 @@ func Entries(segment []byte) ([]*Entry, error) {
 		before = append(before, entry.headerAndBody, entry.signature)
 		found = append(found, entry)
 	}
-	return found, nil
+	return found, setWindow(found, info)
+}
+
+// setWindow notes when a segment is valid with its entries: it expires with the first of its hop fields.
+func setWindow(entries []*Entry, info []byte) error {
+	timestamp, least := uint64(0), uint64(mostExpTime)
+	err := each(info, func(it field) error {
+		if it.number == fieldTimestamp && !it.isBytes {
+			timestamp = it.value
+		}
+		return nil
+	})
+	if err != nil {
+		return err
+	}
+	for _, one := range entries {
+		if one.expTime < least {
+			least = one.expTime
+		}
+	}
+	if timestamp > mostTimestamp {
+		return errors.New("the timestamp is out of range")
+	}
+	made := time.Unix(int64(timestamp), 0)
+	for _, one := range entries {
+		one.Segment = Window{made, made.Add(time.Duration(least+1) * expiryUnit)}
+	}
+	return nil
 }
 
 func readEntry(message []byte) (*Entry, error) {
@@ -100,9 +132,30 @@ func readEntry(message []byte) (*Entry, error) {
 	if err := e.readHeader(inner[0]); err != nil {
 		return nil, err
 	}
-	return e, each(inner[1], func(it field) error {
-		if it.number == fieldLocalISDAS && !it.isBytes {
+	return e, e.readBody(inner[1])
+}
+
+func (e *Entry) readBody(body []byte) error {
+	var hop []byte
+	err := each(body, func(it field) error {
+		switch {
+		case it.number == fieldLocalISDAS && !it.isBytes:
 			e.Local = ISDAS(it.value)
+		case it.number == fieldHopEntry:
+			hop = it.content
+		}
+		return nil
+	})
+	if err != nil {
+		return err
+	}
+	fields, err := contents(hop, fieldHopField)
+	if err != nil {
+		return err
+	}
+	return each(fields[0], func(it field) error {
+		if it.number == fieldExpTime && !it.isBytes {
+			e.expTime = it.value
 		}
 		return nil
 	})
@@ -165,9 +218,18 @@ func (m *Material) Verify(e *Entry, at time.Time, known Known) error {
 	if latest == nil || latest.Base < e.Base || latest.Base == e.Base && latest.Serial < e.Serial {
 		return ErrNoTRC
 	}
-	chains := m.good(e.Signer, e.KeyID, at)
-	if len(chains) == 0 {
+	good := m.good(e.Signer, e.KeyID, at)
+	if len(good) == 0 {
 		return ErrNoChain
+	}
+	var chains []*Chain
+	for _, chain := range good {
+		if chain.covers(e.Segment) {
+			chains = append(chains, chain)
+		}
+	}
+	if len(chains) == 0 {
+		return ErrValidity
 	}
 	digest := sum(e.hash, append([][]byte{e.headerAndBody}, e.before...)...)
 	for _, chain := range chains {

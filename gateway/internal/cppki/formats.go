@@ -73,12 +73,23 @@ const (
 	fieldKeyTRCBase    = 3
 	fieldKeyTRCSerial  = 4
 	fieldLocalISDAS    = 1
+	fieldHopEntry      = 3
+	fieldHopField      = 1 // of a HopEntry
+	fieldExpTime       = 3 // of a HopField
 	fieldInfo          = 1 // of a PathSegment
+	fieldTimestamp     = 1 // of a SegmentInformation
 	fieldEntry         = 2
 	fieldSigned        = 1 // of an ASEntry
 	fieldMapEntry      = 1 // of a SegmentsRegistrationRequest
 	fieldMapValue      = 2
 	fieldListedSegment = 1 // of Segments
+)
+
+// Of segments: a hop field expires 337.5 seconds times one more than its exp_time after the timestamp.
+const (
+	expiryUnit    = 337_500 * time.Millisecond
+	mostExpTime   = 255
+	mostTimestamp = 1<<32 - 1 // seconds since 1970
 )
 
 // hashOf has the hash of each signature algorithm: ECDSA with it.

@@ -141,7 +141,7 @@ func (m *Material) good(isdAS ISDAS, keyID []byte, at time.Time) (found []*Chain
 // Chains answers the chains of an AS that are valid from a moment to another. An empty key is any.
 func (m *Material) Chains(isdAS ISDAS, keyID []byte, since, until time.Time) (found []*Chain) {
 	for _, one := range m.chains[isdAS] {
-		if (len(keyID) == 0 || bytes.Equal(one.AS.SubjectKeyId, keyID)) && one.covers(since, until) {
+		if (len(keyID) == 0 || bytes.Equal(one.AS.SubjectKeyId, keyID)) && one.covers(Window{since, until}) {
 			found = append(found, one)
 		}
 	}
