@@ -253,11 +253,7 @@ func TestACertificateHasAShare(t *testing.T) {
 		config := &tls.Config{RootCAs: pool, Certificates: []tls.Certificate{pair}}
 		ctx, cancel := context.WithTimeout(context.Background(), limit)
 		t.Cleanup(cancel)
-		conn, err := grpc.DialContext(ctx, at.address, grpc.WithTransportCredentials(credentials.NewTLS(config)),
-			grpc.WithContextDialer(func(context.Context, string) (net.Conn, error) {
-				dialer := net.Dialer{LocalAddr: &net.TCPAddr{IP: net.ParseIP(from)}}
-				return dialer.Dial("tcp", at.address)
-			}))
+		conn, err := grpc.DialContext(ctx, at.address, grpc.WithTransportCredentials(credentials.NewTLS(config)), dialing(from))
 		pki.Must(t, err)
 		t.Cleanup(func() { conn.Close() })
 		return conn, ctx, err

@@ -3,6 +3,7 @@ package calls
 
 import (
 	"context"
+	"crypto/sha256"
 	"sync/atomic"
 	"time"
 
@@ -61,7 +62,8 @@ type Desk struct {
 	calls    *shares.Pool
 	lookups  *shares.Turns // of lookups that ask pathd
 	commands *shares.Turns // of registrations that pathd has
-	whole    atomic.Int64  // calls whose requests are whole
+	recent   recent
+	whole    atomic.Int64 // calls whose requests are whole
 	turned   atomic.Uint64
 }
 
@@ -103,20 +105,34 @@ func (d *Desk) Segments(ctx context.Context, request []byte) ([]byte, error) {
 	return d.pages.complete(ctx, request, found), nil
 }
 
-// Registration is SegmentRegistrationService/SegmentsRegistration: the response is empty.
+// Registration is SegmentRegistrationService/SegmentsRegistration: the response is empty. Where
+// registrations are verified, one that was acknowledged within the last second is not sent again.
 func (d *Desk) Registration(ctx context.Context, request []byte) ([]byte, error) {
-	if d.options.Verifier != nil {
-		if err := d.options.Verifier.Verify(ctx, request); err != nil {
-			return nil, err
-		}
+	if d.options.Verifier == nil {
+		return nil, d.register(ctx, request)
 	}
+	its := sha256.Sum256(request)
+	if d.recent.has(its, time.Now()) {
+		return nil, nil
+	}
+	err := d.options.Verifier.Verify(ctx, request)
+	if err == nil {
+		err = d.register(ctx, request)
+	}
+	if err == nil {
+		d.recent.add(its, time.Now())
+	}
+	return nil, err
+}
+
+func (d *Desk) register(ctx context.Context, request []byte) error {
 	leave, err := d.commands.Enter(ctx, door.FromContext(ctx).Peers())
 	if err != nil {
-		return nil, err
+		return err
 	}
 	defer leave()
 	_, err = d.options.Pathd.Ask(ctx, pathd.KindRegister, request)
-	return nil, err
+	return err
 }
 
 // Call is a call as whoever serves it has it.
