@@ -70,10 +70,8 @@ func (m *Material) addTRC(trc *TRC) error {
 }
 
 func (m *Material) addChain(chain *Chain) error {
-	for _, one := range m.chains[chain.ISDAS] {
-		if one.AS.Equal(chain.AS) && one.CA.Equal(chain.CA) {
-			return nil
-		}
+	if m.Has(chain) {
+		return nil
 	}
 	anchored := *chain
 	anchored.anchors = nil
@@ -91,6 +89,16 @@ func (m *Material) addChain(chain *Chain) error {
 	}
 	m.chains[chain.ISDAS] = append(m.chains[chain.ISDAS], &anchored)
 	return nil
+}
+
+// Has answers whether a chain is there.
+func (m *Material) Has(chain *Chain) bool {
+	for _, one := range m.chains[chain.ISDAS] {
+		if one.AS.Equal(chain.AS) && one.CA.Equal(chain.CA) {
+			return true
+		}
+	}
+	return false
 }
 
 // TRC answers the TRC of an ISD, or nil. It is the latest where base and serial number are 0.

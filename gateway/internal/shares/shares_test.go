@@ -2,6 +2,7 @@ package shares
 
 import (
 	"context"
+	"fmt"
 	"net/netip"
 	"testing"
 	"time"
@@ -173,4 +174,35 @@ func TestTurns(t *testing.T) {
 	first()
 	(<-entered)()
 	enter(true, "b", "certificate")()
+}
+
+func TestBudgets(t *testing.T) {
+	budgets, now := NewBudgets(3, 0.5), time.Now()
+	spend := func(peers ...Peer) (count int) {
+		for budgets.Has(peers, now) {
+			budgets.Spend(peers, now)
+			count++
+		}
+		return count
+	}
+	for number, c := range []struct {
+		peers  []Peer
+		after  time.Duration
+		wanted int
+	}{
+		{[]Peer{"a"}, 0, 3}, {[]Peer{"a"}, time.Second, 0}, {[]Peer{"a"}, time.Second, 1},
+		{[]Peer{"b", "a"}, 0, 0}, {[]Peer{"b"}, 0, 3}, {[]Peer{"a", "b"}, time.Hour, 3},
+	} {
+		now = now.Add(c.after)
+		if got := spend(c.peers...); got != c.wanted {
+			t.Errorf("case %d: %d", number, got)
+		}
+	}
+	for number := 0; number < 3*mostBudgets; number++ {
+		spend(Peer(fmt.Sprint(number)))
+		now = now.Add(time.Millisecond)
+	}
+	if len(budgets.spent) > mostBudgets {
+		t.Error(len(budgets.spent), "peers are remembered")
+	}
 }

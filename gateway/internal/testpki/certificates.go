@@ -45,7 +45,13 @@ func New(t testing.TB, curve elliptic.Curve, name, isdAS string, by *Signer, set
 	t.Helper()
 	key, err := ecdsa.GenerateKey(curve, rand.Reader)
 	Must(t, err)
-	id := sha1.Sum(elliptic.Marshal(curve, key.X, key.Y))
+	return Renew(t, key, name, isdAS, by, set...)
+}
+
+// Renew makes such a certificate of a key that there is.
+func Renew(t testing.TB, key *ecdsa.PrivateKey, name, isdAS string, by *Signer, set ...func(*x509.Certificate)) *Signer {
+	t.Helper()
+	id := sha1.Sum(elliptic.Marshal(key.Curve, key.X, key.Y))
 	it := &x509.Certificate{
 		SerialNumber: big.NewInt(serial.Add(1)),
 		SubjectKeyId: id[:],

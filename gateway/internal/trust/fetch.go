@@ -4,14 +4,20 @@ import (
 	"context"
 	"errors"
 	"fmt"
+	"sync"
 	"sync/atomic"
 	"time"
 
 	"google.golang.org/grpc"
+	"google.golang.org/grpc/backoff"
+	"google.golang.org/grpc/codes"
+	"google.golang.org/grpc/status"
 	"google.golang.org/protobuf/types/known/timestamppb"
 
+	"pathd/gateway/internal/calls"
 	"pathd/gateway/internal/cppki"
 	control "pathd/gateway/internal/pb/controlplanepb"
+	"pathd/gateway/internal/shares"
 )
 
 const (
@@ -21,22 +27,40 @@ const (
 	mostFetched  = 4096 // chains
 	mostSteps    = 16   // updates of a TRC that are fetched for one entry
 	mostResponse = 1 << 20
+
+	// How many fetches there are at one time, and of one peer.
+	mostFetches, ofPeer = 64, 1
+	// How many keys that are not there a peer may name at once, and a second.
+	misses, missesPerSecond = 16, 1
+
+	longestPause = 3 * time.Second // before a control service that can't be reached is tried again
 )
 
-// fetcher asks a control service, one call at a time.
+// fetcher asks a control service.
 type fetcher struct {
 	address string
-	turn    chan struct{} // has one element, which whoever asks takes: it guards the fields below
-	conn    *grpc.ClientConn
-	missing map[string]time.Time // what was not found, and when
+	turns   *shares.Turns
+	budgets *shares.Budgets
 
-	found, failed atomic.Uint64
+	mu      sync.Mutex
+	conn    *grpc.ClientConn
+	missing map[string]miss
+
+	found, failed, unanswered atomic.Uint64
+}
+
+// miss is why something was not found, and when.
+type miss struct {
+	err error
+	at  time.Time
 }
 
 func newFetcher(address string) *fetcher {
-	f := &fetcher{address: address, turn: make(chan struct{}, 1), missing: map[string]time.Time{}}
-	f.turn <- struct{}{}
-	return f
+	return &fetcher{
+		address: address, missing: map[string]miss{},
+		turns:   shares.NewTurns(mostFetches, ofPeer),
+		budgets: shares.NewBudgets(misses, missesPerSecond),
+	}
 }
 
 // fetched is what was fetched, beside the folder.
@@ -58,35 +82,68 @@ func (f *fetched) drop(now time.Time) bool {
 	return isLess
 }
 
-// fetch fetches what the material lacks for an entry: the updates of its TRC, and its chains.
-func (k *Keeper) fetch(ctx context.Context, entry *cppki.Entry) error {
+// fetch fetches what the material lacks for an entry that peers have sent, the updates of its TRC and its
+// chains, and verifies it then. Its error is a Fault where the entry may be good all the same.
+func (k *Keeper) fetch(ctx context.Context, peers []shares.Peer, entry *cppki.Entry) error {
 	f := k.fetcher
-	select {
-	case <-f.turn:
-		defer func() { f.turn <- struct{}{} }()
-	case <-ctx.Done():
-		return ctx.Err()
+	name := fmt.Sprintf("%v %x %d %d %v", entry.Signer, entry.KeyID, entry.Base, entry.Serial, entry.Segment)
+	if err := f.missed(name); err != nil {
+		return err
 	}
-	name := fmt.Sprintf("%v %x %d %d", entry.Signer, entry.KeyID, entry.Base, entry.Serial)
-	if at, isMissing := f.missing[name]; isMissing && time.Since(at) < againAfter {
-		return errors.New("the control service did not have it shortly before")
+	if !f.budgets.Has(peers, time.Now()) {
+		return calls.NewFault(codes.ResourceExhausted, "too many keys were named that the control service does not have")
 	}
-	ctx, cancel := context.WithTimeout(ctx, fetchLimit)
-	defer cancel()
 	err := k.fetchAll(ctx, entry)
-	if err != nil {
-		f.failed.Add(1)
-		if len(f.missing) >= mostMissing {
-			f.missing = map[string]time.Time{}
+	if err == nil {
+		err = k.verifyOnce(ctx, entry)
+		if !isMissing(err) {
+			f.found.Add(1)
+			return err
 		}
-		f.missing[name] = time.Now()
-		return fmt.Errorf("control service: %w", err)
 	}
-	f.found.Add(1)
+	reason := status.Convert(err).Message()
+	switch {
+	case ctx.Err() != nil:
+		return ctx.Err()
+	case isPassing(err):
+		f.unanswered.Add(1)
+		return calls.NewFault(codes.Unavailable, "the control service does not answer: %s", reason)
+	}
+	f.failed.Add(1)
+	f.budgets.Spend(peers, time.Now())
+	err = errors.New("the control service was asked: " + reason)
+	f.miss(name, err)
+	return err
+}
+
+// isPassing answers whether an error says nothing of what was asked for, as there was no answer.
+func isPassing(err error) bool {
+	answer, isOfCall := status.FromError(err)
+	return isOfCall && answer.Code() != codes.NotFound && answer.Code() != codes.InvalidArgument
+}
+
+// missed answers why something was not found shortly before, or nil.
+func (f *fetcher) missed(name string) error {
+	f.mu.Lock()
+	defer f.mu.Unlock()
+	if its := f.missing[name]; time.Since(its.at) < againAfter {
+		return its.err
+	}
 	return nil
 }
 
+func (f *fetcher) miss(name string, err error) {
+	f.mu.Lock()
+	defer f.mu.Unlock()
+	if len(f.missing) >= mostMissing {
+		f.missing = map[string]miss{}
+	}
+	f.missing[name] = miss{err, time.Now()}
+}
+
 func (k *Keeper) fetchAll(ctx context.Context, entry *cppki.Entry) error {
+	ctx, cancel := context.WithTimeout(ctx, fetchLimit)
+	defer cancel()
 	client, err := k.fetcher.client(ctx)
 	if err != nil {
 		return err
@@ -99,11 +156,29 @@ func (k *Keeper) fetchAll(ctx context.Context, entry *cppki.Entry) error {
 	if err != nil {
 		return err
 	}
+	return k.add(trcs, chains)
+}
+
+// add has what was fetched count, where all of it is good. What is here already is left out.
+func (k *Keeper) add(trcs []*cppki.TRC, chains []*cppki.Chain) error {
 	k.mu.Lock()
 	defer k.mu.Unlock()
-	before := k.fetched
-	k.fetched.trcs = append(before.trcs[:len(before.trcs):len(before.trcs)], trcs...)
-	k.fetched.chains = append(before.chains[:len(before.chains):len(before.chains)], chains...)
+	before, now := k.fetched, k.material.Load()
+	k.fetched.trcs = before.trcs[:len(before.trcs):len(before.trcs)]
+	for _, one := range trcs {
+		if now.TRC(one.ISD, one.Base, one.Serial) == nil {
+			k.fetched.trcs = append(k.fetched.trcs, one)
+		}
+	}
+	k.fetched.chains = before.chains[:len(before.chains):len(before.chains)]
+	for _, one := range chains {
+		if !now.Has(one) {
+			k.fetched.chains = append(k.fetched.chains, one)
+		}
+	}
+	if len(k.fetched.trcs) == len(before.trcs) && len(k.fetched.chains) == len(before.chains) {
+		return nil
+	}
 	if more := len(k.fetched.chains) - mostFetched; more > 0 {
 		k.fetched.chains = k.fetched.chains[more:]
 	}
@@ -115,8 +190,13 @@ func (k *Keeper) fetchAll(ctx context.Context, entry *cppki.Entry) error {
 }
 
 func (f *fetcher) client(ctx context.Context) (control.TrustMaterialServiceClient, error) {
+	f.mu.Lock()
+	defer f.mu.Unlock()
 	if f.conn == nil {
+		pauses := backoff.DefaultConfig
+		pauses.MaxDelay = longestPause
 		conn, err := grpc.DialContext(ctx, f.address, grpc.WithInsecure(),
+			grpc.WithConnectParams(grpc.ConnectParams{Backoff: pauses, MinConnectTimeout: fetchLimit}),
 			grpc.WithDefaultCallOptions(grpc.MaxCallRecvMsgSize(mostResponse)))
 		if err != nil {
 			return nil, err
@@ -151,9 +231,10 @@ func (k *Keeper) newerTRCs(ctx context.Context, client control.TrustMaterialServ
 }
 
 func chainsOf(ctx context.Context, client control.TrustMaterialServiceClient, entry *cppki.Entry) (found []*cppki.Chain, err error) {
-	now := timestamppb.Now()
 	response, err := client.Chains(ctx, &control.ChainsRequest{
-		IsdAs: uint64(entry.Signer), SubjectKeyId: entry.KeyID, AtLeastValidUntil: now, AtLeastValidSince: now})
+		IsdAs: uint64(entry.Signer), SubjectKeyId: entry.KeyID,
+		AtLeastValidSince: timestamppb.New(entry.Segment.NotBefore),
+		AtLeastValidUntil: timestamppb.New(entry.Segment.NotAfter)})
 	if err != nil {
 		return nil, err
 	}

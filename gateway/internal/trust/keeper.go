@@ -14,6 +14,7 @@ import (
 	"time"
 
 	"pathd/gateway/internal/cppki"
+	"pathd/gateway/internal/shares"
 )
 
 const (
@@ -38,7 +39,7 @@ type Keeper struct {
 	options  Options
 	material atomic.Pointer[cppki.Material]
 	known    *cppki.Memory
-	turns    chan struct{} // as many as may verify at one time
+	turns    *shares.Turns // of those that verify
 	fetcher  *fetcher      // nil without a server
 	counts   counts
 
@@ -52,8 +53,9 @@ type counts struct{ good, remembered, refused atomic.Uint64 }
 // Open answers a keeper of the folder, which has to be good as a whole.
 func Open(options Options) (*Keeper, error) {
 	k := &Keeper{options: options, known: cppki.NewMemory(mostKnown)}
-	// Half of the processors are left to lookups.
-	k.turns = make(chan struct{}, (runtime.GOMAXPROCS(0)+1)/2)
+	// Half of the processors are left to lookups, and half of the other half to other peers.
+	turns := (runtime.GOMAXPROCS(0) + 1) / 2
+	k.turns = shares.NewTurns(turns, (turns+1)/2)
 	if options.Server != "" {
 		k.fetcher = newFetcher(options.Server)
 	}

@@ -43,5 +43,6 @@ func (k *Keeper) WriteNumbers(p *numbers.Page) {
 		p.Counter("pathd_gateway_fetches_total", "How often a control service was asked for chains and TRCs.")
 		p.Row("pathd_gateway_fetches_total", `result="found"`, float64(k.fetcher.found.Load()))
 		p.Row("pathd_gateway_fetches_total", `result="failed"`, float64(k.fetcher.failed.Load()))
+		p.Row("pathd_gateway_fetches_total", `result="unanswered"`, float64(k.fetcher.unanswered.Load()))
 	}
 }
