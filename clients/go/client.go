@@ -5,7 +5,6 @@ import (
 	"errors"
 	"time"
 
-	"google.golang.org/protobuf/proto"
 	pb "pathd/segmentspb"
 )
 
@@ -90,7 +89,8 @@ func (c *Client) Register(ctx context.Context, segments *pb.SegmentsRegistration
 	return c.command(ctx, KindRegister, body)
 }
 
-// Lookup asks for the segments from a source to a destination. A part of a side that is 0 is any.
+// Lookup asks for the segments from a source to a destination. A part of a side that is 0 is any. MayHaveMore
+// says whether there may be more than were found. A reply that can't be read is an ErrReply.
 func (c *Client) Lookup(ctx context.Context, source, destination IsdAs) (*pb.SegmentsResponse, error) {
 	body, err := lookupBody(source, destination)
 	if err != nil {
@@ -99,8 +99,7 @@ func (c *Client) Lookup(ctx context.Context, source, destination IsdAs) (*pb.Seg
 	if body, err = c.Ask(ctx, KindLookup, body); err != nil {
 		return nil, err
 	}
-	found := new(pb.SegmentsResponse)
-	return found, proto.Unmarshal(body, found)
+	return ReadFound(body)
 }
 
 // Purge drops the segments that expire at a time or before: with time.Now(), those that have expired.

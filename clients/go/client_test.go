@@ -117,6 +117,42 @@ func TestEachRequestHasItsBytes(t *testing.T) {
 	}
 }
 
+// TestALookupsReplyIsRead has bodies that are no SegmentsResponse, or have a type that there is not, refused
+// by an ErrReply, by one server and by several.
+func TestALookupsReplyIsRead(t *testing.T) {
+	for body, isGood := range map[string]bool{
+		"": true, "\x0a\x04\x08\x01\x12\x00": true, "\x0a\x04\x08\x03\x12\x00": true,
+		"\x0a": false, "\xff\xff": false, "\x0a\x02\x12\x00": false, "\x0a\x04\x08\x00\x12\x00": false, "\x0a\x04\x08\x04\x12\x00": false,
+	} {
+		store := running(t, func([]byte) []byte { return append([]byte{replied | lookup}, body...) })
+		client, ctx := clientOf(t, store, ClientOptions{})
+		servers, _ := serversOf(t, Options{}, store)
+		for _, ask := range []func(context.Context, IsdAs, IsdAs) (*pb.SegmentsResponse, error){client.Lookup, servers.Lookup} {
+			if found, err := ask(ctx, 1, 2); (err == nil) != isGood || !isGood && (found != nil || !errors.Is(err, ErrReply)) {
+				t.Errorf("%x: %v, %v", body, found, err)
+			}
+		}
+	}
+}
+
+func TestWhetherThereMayBeMore(t *testing.T) {
+	of := func(counts ...int) *pb.SegmentsResponse {
+		found := &pb.SegmentsResponse{Segments: map[int32]*pb.Segments{}}
+		for kind, count := range counts {
+			found.Segments[int32(kind+1)] = &pb.Segments{Segments: make([]*pb.PathSegment, count)}
+		}
+		return found
+	}
+	for _, c := range []struct {
+		found *pb.SegmentsResponse
+		more  bool
+	}{{nil, false}, {of(), false}, {of(63), false}, {of(64), true}, {of(32, 31), false}, {of(32, 0, 32), true}} {
+		if MayHaveMore(c.found) != c.more {
+			t.Errorf("%v", c.found)
+		}
+	}
+}
+
 func TestManyAreUnderWay(t *testing.T) {
 	client, server, ctx := open(t)
 	var all sync.WaitGroup

@@ -10,7 +10,8 @@ var (
 	ErrClosed = errors.New("pathd: the client is closed")
 	// ErrTooLarge is the error of a request that no frame has room for. Nothing was sent.
 	ErrTooLarge = errors.New("pathd: the request is too large")
-	// ErrReply is the error of all calls of a session once something came that is no reply.
+	// ErrReply is the error of all calls of a session once something came that is no reply, and of a lookup
+	// or a list whose reply can't be read.
 	ErrReply = errors.New("not a reply")
 	// ErrStuck is the error of all calls of a session whose oldest request has waited too long.
 	ErrStuck = errors.New("no reply in time")

@@ -66,6 +66,30 @@ func ReadAck(body []byte) (Ack, error) {
 	return Ack{binary.BigEndian.Uint64(body), number(8), number(12), number(16), number(20)}, nil
 }
 
+// ReadFound reads the body of the reply to a lookup: segments of the three types that there are.
+func ReadFound(body []byte) (*pb.SegmentsResponse, error) {
+	found := new(pb.SegmentsResponse)
+	if err := proto.Unmarshal(body, found); err != nil {
+		return nil, fmt.Errorf("%w: %v", ErrReply, err)
+	}
+	for kind := range found.Segments {
+		if kind < int32(Up) || kind > int32(Core) {
+			return nil, fmt.Errorf("%w: segments of the type %d", ErrReply, kind)
+		}
+	}
+	return found, nil
+}
+
+// MayHaveMore answers whether there may be more segments than a lookup has found, which finds no more than
+// MostFound. ListPage and List give the others.
+func MayHaveMore(found *pb.SegmentsResponse) bool {
+	count := 0
+	for _, list := range found.GetSegments() {
+		count += len(list.GetSegments())
+	}
+	return count >= MostFound
+}
+
 // isReply answers whether the content of a frame that is no refusal is a reply to a request of a kind.
 func isReply(kind byte, content []byte) bool {
 	return content[0] == replied|kind && (!Kind(kind).isCommand() || len(content) == 1+ackSize)

@@ -7,7 +7,6 @@ import (
 	"sync"
 	"time"
 
-	"google.golang.org/protobuf/proto"
 	pb "pathd/segmentspb"
 )
 
@@ -129,8 +128,7 @@ func (s *Servers) Lookup(ctx context.Context, source, destination IsdAs) (*pb.Se
 	if body, err = s.query(ctx, KindLookup, body); err != nil {
 		return nil, err
 	}
-	found := new(pb.SegmentsResponse)
-	return found, proto.Unmarshal(body, found)
+	return ReadFound(body)
 }
 
 // query answers the body of the reply to a lookup or a list.
