@@ -44,6 +44,7 @@ type gateway struct {
 	certificates *certificates // nil without TLS
 	keeper       *trust.Keeper // nil without trust material
 	pathd        *pathd.Client
+	lists        *pathd.Client // has a session of its own, for lists alone
 	desk         *calls.Desk
 	methods      []*calls.Method
 	checks       *health.Server
@@ -68,17 +69,14 @@ func newGateway(s *settings.Settings, listener net.Listener) (g *gateway, err er
 			return nil, err
 		}
 	}
-	g.pathd = pathd.NewClient(s.Pathd, pathd.ClientOptions{
-		Dialer: pathd.Dialer{Timeout: dialLimit}, Lookups: s.Lookups, Commands: s.Registrations,
-		Patience: s.Deadline, Attempts: attempts,
-	})
+	g.pathd, g.lists = clientOf(s, s.Lookups), clientOf(s, 1)
 	g.door = door.New(listener, door.Options{
 		Connections: s.Connections, PeerConnections: s.PeerConnections,
 		OwedByOne: owedByOne, OwedByAll: owedByAll,
 		Streams: uint32(s.Streams), Stuck: s.Deadline, TLS: g.certificates.current(),
 	}, g.serveHTTP2)
 	options := calls.Options{
-		Pathd: g.pathd, MostSegments: s.MostSegments, Deadline: s.Deadline,
+		Pathd: g.pathd, Lists: g.lists, MostSegments: s.MostSegments, Deadline: s.Deadline,
 		Calls: s.Calls, Registrations: s.Registrations,
 	}
 	if g.keeper != nil {
@@ -89,6 +87,14 @@ func newGateway(s *settings.Settings, listener net.Listener) (g *gateway, err er
 	g.watcher = &watcher{asker: g.pathd, address: s.Pathd, checks: g.checks, services: g.services()}
 	g.grpc = grpcapi.NewServer(g.desk, g.methods, g.checks, grpcapi.Options{Streams: uint32(s.Streams), Idle: s.Idle})
 	return g, g.makeWeb()
+}
+
+// clientOf answers a client of pathd with so many sessions for lookups and lists.
+func clientOf(s *settings.Settings, lookups int) *pathd.Client {
+	return pathd.NewClient(s.Pathd, pathd.ClientOptions{
+		Dialer: pathd.Dialer{Timeout: dialLimit}, Lookups: lookups, Commands: s.Registrations,
+		Patience: s.Deadline, Attempts: attempts,
+	})
 }
 
 // services answers the names by which health is asked for.
@@ -188,4 +194,5 @@ func (g *gateway) drain() {
 	g.web.Close()
 	g.door.End() // with the connections that gRPC has left
 	g.pathd.Close()
+	g.lists.Close()
 }

@@ -95,10 +95,11 @@ func (g *gateway) writeDoor(p *numbers.Page) {
 
 func (g *gateway) writeUpstream(p *numbers.Page) {
 	lookups, registrations := g.pathd.Numbers()
+	lists, _ := g.lists.Numbers()
 	pools := []struct {
 		name string
 		n    pathd.Numbers
-	}{{"lookups", lookups}, {"registrations", registrations}}
+	}{{"lookups", lookups}, {"registrations", registrations}, {"lists", lists}}
 	each := func(name string, value func(pathd.Numbers) float64) {
 		for _, it := range pools {
 			p.Row(name, fmt.Sprintf("pool=%q", it.name), value(it.n))

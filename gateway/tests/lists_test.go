@@ -2,15 +2,19 @@ package tests
 
 import (
 	"bytes"
+	"context"
 	"fmt"
 	"sort"
 	"sync"
 	"testing"
 	"time"
 
+	"google.golang.org/grpc"
+	"google.golang.org/grpc/metadata"
 	"google.golang.org/protobuf/proto"
 
 	client "pathd"
+	control "pathd/gateway/internal/pb/controlplanepb"
 	pki "pathd/gateway/internal/testpki"
 	pb "pathd/segmentspb"
 )
@@ -91,20 +95,35 @@ func lister(t *testing.T, segments []*pb.PathSegment, page func() []byte) (addre
 	}
 }
 
+// marked makes a lookup, and answers whether its response is marked as one that may lack segments.
+func marked(t *testing.T, ctx context.Context, conn *grpc.ClientConn) (*pb.SegmentsResponse, bool) {
+	t.Helper()
+	var trailer metadata.MD
+	found, err := lookup(ctx, conn, grpc.Trailer(&trailer))
+	pki.Must(t, err)
+	mark := trailer.Get("pathd-more")
+	if len(mark) > 1 || len(mark) == 1 && mark[0] != "true" {
+		t.Error(trailer)
+	}
+	return found, len(mark) == 1
+}
+
 func TestALookupOfManySegmentsHasAllOfThem(t *testing.T) {
 	for _, c := range []struct {
 		count, answered, lists int
+		more                   bool
 		words                  []string
 	}{
-		{63, 63, 0, nil}, {64, 64, 1, nil}, {65, 65, 1, nil}, {200, 200, 3, nil}, {256, 256, 3, nil}, {300, 256, 4, nil},
-		{300, 100, 1, []string{"--most-segments", "100"}}, {300, 64, 0, []string{"--most-segments", "64"}},
+		{63, 63, 0, false, nil}, {64, 64, 1, false, nil}, {65, 65, 1, false, nil}, {200, 200, 3, false, nil}, {256, 256, 3, false, nil}, {300, 256, 3, true, nil},
+		{300, 100, 1, true, []string{"--most-segments", "100"}}, {300, 64, 0, true, []string{"--most-segments", "64"}}, {63, 63, 0, false, []string{"--most-segments", "64"}},
 	} {
 		segments := many(t, c.count)
 		address, lists := lister(t, segments, nil)
-		conn, ctx := dial(t, gateway(t, address, c.words...).address)
-		found, err := lookup(ctx, conn)
-		if err != nil || !proto.Equal(found, answerOf(segments[:c.answered])) {
-			t.Errorf("%d: %d segments, %v", c.count, len(found.GetSegments()[2].GetSegments()), err)
+		at := gateway(t, address, c.words...).address
+		conn, ctx := dial(t, at)
+		found, more := marked(t, ctx, conn)
+		if more != c.more || !proto.Equal(found, answerOf(segments[:c.answered])) {
+			t.Errorf("%d: %d segments, more: %v", c.count, len(found.GetSegments()[2].GetSegments()), more)
 		}
 		came := lists()
 		if len(came) != c.lists {
@@ -118,6 +137,56 @@ func TestALookupOfManySegmentsHasAllOfThem(t *testing.T) {
 				t.Errorf("%d: % x", c.count, content)
 			}
 		}
+		for name, by := range clients() {
+			body, _ := proto.Marshal(&pb.SegmentsRequest{SrcIsdAs: core, DstIsdAs: leaf})
+			code, header, _ := post(t, by, "http://"+at+lookupPath, body, "Content-Type", "application/proto")
+			if mark := header.Get("pathd-more"); code != 200 || mark != map[bool]string{true: "true"}[c.more] {
+				t.Errorf("%s, %d: %d, %q", name, c.count, code, mark)
+			}
+		}
+	}
+}
+
+// TestAServerThatDoesNotList has lookups answered with what they find, marked, and others that share the
+// sessions go on: pathd ends the session that asks for a list. The log says once what to do.
+func TestAServerThatDoesNotList(t *testing.T) {
+	segments := many(t, 100)
+	address, lists := lister(t, segments, func() []byte { return nil })
+	at := gateway(t, address, "--status", "127.0.0.1:0", "--lookups", "1")
+	conn, ctx := dial(t, at.address)
+	var wait sync.WaitGroup
+	for caller := 0; caller < 4; caller++ {
+		wait.Add(1)
+		go func() {
+			defer wait.Done()
+			for call := 0; call < 25; call++ {
+				if _, err := control.NewSegmentLookupServiceClient(conn).Segments(ctx, &pb.SegmentsRequest{SrcIsdAs: core, DstIsdAs: leaf}); err != nil {
+					t.Error(err)
+				}
+			}
+		}()
+	}
+	for call := 0; call < 50; call++ {
+		if found, more := marked(t, ctx, conn); !more || !proto.Equal(found, answerOf(segments[:64])) {
+			t.Errorf("%d segments, more: %v", len(found.GetSegments()[2].GetSegments()), more)
+		}
+	}
+	wait.Wait()
+	if count := at.log.count("the server does not list: run it with --lists"); count != 1 {
+		t.Error(count, "lines: ", at.log)
+	}
+	if asked := len(lists()); asked > 16 { // two for each call that came before the first reply
+		t.Error(asked, "lists")
+	}
+	rows := at.rows()
+	for name, wanted := range map[string]string{
+		`pathd_gateway_pages_total{result="unlisted"}`:          "150",
+		`pathd_gateway_sessions_ended_total{pool="lookups"}`:    "0",
+		`pathd_gateway_requests_repeated_total{pool="lookups"}`: "0",
+	} {
+		if rows[name] != wanted {
+			t.Errorf("%s is %q", name, rows[name])
+		}
 	}
 }
 
@@ -125,16 +194,14 @@ func TestALookupOfManySegmentsHasAllOfThem(t *testing.T) {
 func TestAPageWithoutAReply(t *testing.T) {
 	segments := many(t, 100)
 	for name, page := range map[string]func() []byte{
-		"no such request": func() []byte { return nil }, // of an earlier pathd, which ends the session
-		"a refusal":       func() []byte { return []byte{0xff, 0x01} },
-		"no page":         func() []byte { return []byte{0x85, 2} },
+		"a refusal": func() []byte { return []byte{0xff, 0x01} },
+		"no page":   func() []byte { return []byte{0x85, 2} },
 	} {
 		address, _ := lister(t, segments, page)
 		at := gateway(t, address, "--status", "127.0.0.1:0")
 		conn, ctx := dial(t, at.address)
-		found, err := lookup(ctx, conn)
-		if err != nil || !proto.Equal(found, answerOf(segments[:64])) {
-			t.Errorf("%s: %d segments, %v", name, len(found.GetSegments()[2].GetSegments()), err)
+		if found, more := marked(t, ctx, conn); !more || !proto.Equal(found, answerOf(segments[:64])) {
+			t.Errorf("%s: %d segments, more: %v", name, len(found.GetSegments()[2].GetSegments()), more)
 		}
 		if got := at.rows()[`pathd_gateway_pages_total{result="failed"}`]; got != "1" {
 			t.Errorf("%s: %s pages", name, got)
@@ -150,9 +217,9 @@ func TestLargeSegmentsAreNotTooManyBytes(t *testing.T) {
 	address, _ := lister(t, segments, nil)
 	conn, ctx := dial(t, gateway(t, address).address)
 	// 64 of them have 1 MiB and some more: the fourth page would exceed the 4 MiB that a client takes.
-	found, err := lookup(ctx, conn)
-	if err != nil || !proto.Equal(found, answerOf(segments[:192])) {
-		t.Errorf("%d segments, %v", len(found.GetSegments()[2].GetSegments()), err)
+	found, more := marked(t, ctx, conn)
+	if !more || !proto.Equal(found, answerOf(segments[:192])) {
+		t.Errorf("%d segments, more: %v", len(found.GetSegments()[2].GetSegments()), more)
 	}
 }
 
@@ -163,9 +230,9 @@ func TestPagesOfPathd(t *testing.T) {
 	for from := 0; from < len(segments); from += 10 {
 		pki.Must(t, register(ctx, conn, client.Registration(client.Down, segments[from:from+10]...)))
 	}
-	found, err := lookup(ctx, conn)
-	if err != nil || !proto.Equal(found, answerOf(segments)) {
-		t.Errorf("%d segments, %v", len(found.GetSegments()[2].GetSegments()), err)
+	found, more := marked(t, ctx, conn)
+	if more || !proto.Equal(found, answerOf(segments)) {
+		t.Errorf("%d segments, more: %v", len(found.GetSegments()[2].GetSegments()), more)
 	}
 	body, err := proto.Marshal(&pb.SegmentsRequest{SrcIsdAs: core, DstIsdAs: leaf})
 	pki.Must(t, err)

@@ -178,7 +178,11 @@ func pathd(t *testing.T, listen string) *process {
 	if out, err := exec.Command(program, "format", store, "--checkpoint", "64", "--journal", "516").CombinedOutput(); err != nil {
 		t.Fatal(err, string(out))
 	}
-	return start(t, addressOfPathd, program, "run", store, "--listen", listen, "--cores", "1-ff00:0:110")
+	words := []string{program, "run", store, "--listen", listen, "--cores", "1-ff00:0:110"}
+	if help, _ := run(program, "run", "--help"); strings.Contains(help, " --lists ") {
+		words = append(words, "--lists")
+	}
+	return start(t, addressOfPathd, words...)
 }
 
 var loopback = regexp.MustCompile(`127\.0\.0\.1:[0-9]+`)

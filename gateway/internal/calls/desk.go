@@ -41,8 +41,8 @@ const (
 
 // Options of a Desk.
 type Options struct {
-	// Pathd asks pathd.
-	Pathd Asker
+	// Pathd asks pathd, and Lists asks it for lists over sessions of its own.
+	Pathd, Lists Asker
 	// Verifier verifies registrations before pathd gets them. Nil is none.
 	Verifier Verifier
 	// MostSegments is how many segments a lookup's response has at most.
@@ -71,7 +71,7 @@ type Desk struct {
 func NewDesk(options Options) *Desk {
 	all, commands := int64(options.Calls), int64(options.Registrations*ofSession)
 	return &Desk{
-		options: options, pages: pages{pathd: options.Pathd, most: options.MostSegments},
+		options: options, pages: pages{lists: lists{pathd: options.Lists}, most: options.MostSegments},
 		calls:    shares.New(shares.Bounds{All: all, OfPeer: shares.Quarter(all), Patience: patience}),
 		lookups:  shares.NewTurns(lookupsAtOnce, int(shares.Quarter(lookupsAtOnce))),
 		commands: shares.NewTurns(int(commands), int(shares.Quarter(commands))),
@@ -92,28 +92,28 @@ func (d *Desk) WritePages(p *numbers.Page) { d.pages.writeNumbers(p) }
 
 // Segments is SegmentLookupService/Segments: the body of the reply is the response, with pages of a
 // list after it where the lookup may be cut.
-func (d *Desk) Segments(ctx context.Context, request []byte) ([]byte, error) {
+func (d *Desk) Segments(ctx context.Context, request []byte) (Response, error) {
 	leave, err := d.lookups.Enter(ctx, door.FromContext(ctx).Peers())
 	if err != nil {
-		return nil, err
+		return Response{}, err
 	}
 	defer leave()
 	found, err := d.options.Pathd.Ask(ctx, pathd.KindLookup, request)
 	if err != nil {
-		return nil, err
+		return Response{}, err
 	}
 	return d.pages.complete(ctx, request, found), nil
 }
 
 // Registration is SegmentRegistrationService/SegmentsRegistration: the response is empty. Where
 // registrations are verified, one that was acknowledged within the last second is not sent again.
-func (d *Desk) Registration(ctx context.Context, request []byte) ([]byte, error) {
+func (d *Desk) Registration(ctx context.Context, request []byte) (Response, error) {
 	if d.options.Verifier == nil {
-		return nil, d.register(ctx, request)
+		return Response{}, d.register(ctx, request)
 	}
 	its := sha256.Sum256(request)
 	if d.recent.has(its, time.Now()) {
-		return nil, nil
+		return Response{}, nil
 	}
 	err := d.options.Verifier.Verify(ctx, request)
 	if err == nil {
@@ -122,7 +122,7 @@ func (d *Desk) Registration(ctx context.Context, request []byte) ([]byte, error)
 	if err == nil {
 		d.recent.add(its, time.Now())
 	}
-	return nil, err
+	return Response{}, err
 }
 
 func (d *Desk) register(ctx context.Context, request []byte) error {
@@ -146,15 +146,15 @@ type Call struct {
 }
 
 // Serve carries a call of a method out, and answers its response or how it has ended.
-func (d *Desk) Serve(ctx context.Context, m *Method, call Call) ([]byte, *Fault) {
+func (d *Desk) Serve(ctx context.Context, m *Method, call Call) (Response, *Fault) {
 	begun := time.Now()
 	response, fault := d.serve(ctx, m, call, begun)
-	if fault == nil && call.Conn != nil && !call.Conn.Owe(len(response)) {
+	if fault == nil && call.Conn != nil && !call.Conn.Owe(len(response.Body)) {
 		fault = errNotTaken
 	}
 	status := codes.OK
 	if fault != nil {
-		response, status = nil, fault.Status
+		response, status = Response{}, fault.Status
 		if fault.IsForRoom {
 			d.turned.Add(1)
 		}
@@ -169,14 +169,14 @@ var (
 	errNotTaken = noRoom("the connection, its peer or all peers have not taken their earlier replies")
 )
 
-func (d *Desk) serve(ctx context.Context, m *Method, call Call, begun time.Time) ([]byte, *Fault) {
+func (d *Desk) serve(ctx context.Context, m *Method, call Call, begun time.Time) (Response, *Fault) {
 	if call.Conn != nil && !call.Conn.Owe(0) {
-		return nil, errNotTaken
+		return Response{}, errNotTaken
 	}
 	its := &visit{begun: begun.UnixNano(), stop: call.Stop}
 	place := d.calls.Claim(its, call.Conn.Peers()...)
 	if !place.Take(1) {
-		return nil, errCalls
+		return Response{}, errCalls
 	}
 	defer place.GiveAll()
 	ctx = door.NewContext(ctx, call.Conn)
@@ -189,16 +189,16 @@ func (d *Desk) serve(ctx context.Context, m *Method, call Call, begun time.Time)
 	request, err := call.Read(ctx)
 	its.isWhole.Store(true)
 	if its.isLost.Load() {
-		return nil, errSlow
+		return Response{}, errSlow
 	}
 	if ended := ctx.Err(); err != nil && ended != nil {
 		err = ended
 	}
 	if err != nil {
-		return nil, FaultOf(err)
+		return Response{}, FaultOf(err)
 	}
 	if len(request) > pathd.MostRequest {
-		return nil, NewFault(codes.ResourceExhausted, "a request has more than %d bytes", pathd.MostRequest)
+		return Response{}, NewFault(codes.ResourceExhausted, "a request has more than %d bytes", pathd.MostRequest)
 	}
 	response, fault := d.carryOut(ctx, m, call.Conn, request)
 	if fault != nil && its.isLost.Load() { // in the moment in which it became whole
@@ -208,7 +208,7 @@ func (d *Desk) serve(ctx context.Context, m *Method, call Call, begun time.Time)
 }
 
 // carryOut carries a call out whose request is whole.
-func (d *Desk) carryOut(ctx context.Context, m *Method, conn *door.Conn, request []byte) ([]byte, *Fault) {
+func (d *Desk) carryOut(ctx context.Context, m *Method, conn *door.Conn, request []byte) (Response, *Fault) {
 	d.whole.Add(1)
 	defer d.whole.Add(-1)
 	if conn != nil {
@@ -217,7 +217,7 @@ func (d *Desk) carryOut(ctx context.Context, m *Method, conn *door.Conn, request
 	}
 	response, err := m.Serve(ctx, request)
 	if err != nil {
-		return nil, FaultOf(err)
+		return Response{}, FaultOf(err)
 	}
 	return response, nil
 }

@@ -16,12 +16,22 @@ const (
 	TrustService        = "proto.control_plane.v1.TrustMaterialService"
 )
 
+// MoreKey is the key of the trailing metadata, and the header of Connect, of a response that is marked:
+// it has the value true.
+const MoreKey = "pathd-more"
+
+// Response is a response to a call. More marks one that may lack segments which match.
+type Response struct {
+	Body []byte
+	More bool
+}
+
 // Method is a method that is served.
 type Method struct {
 	// Service is the whole name of the service, and File the file of its descriptor.
 	Service, Name, File string
-	// Serve answers the body of the response to the body of a request.
-	Serve func(ctx context.Context, request []byte) ([]byte, error)
+	// Serve answers the response to the body of a request.
+	Serve func(ctx context.Context, request []byte) (Response, error)
 	// Request and Response answer empty messages, by which JSON is read and written.
 	Request, Response func() proto.Message
 

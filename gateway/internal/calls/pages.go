@@ -18,61 +18,75 @@ const MostResponse = 4 << 20
 
 // pages adds to what a lookup has found where that may be cut.
 type pages struct {
-	pathd               Asker
-	most                int // segments of a response
-	taken, failed, left atomic.Uint64
+	lists                         lists
+	most                          int // segments of a response
+	taken, failed, left, unlisted atomic.Uint64
 }
 
 // complete answers the response to a lookup that found these segments. Where there are as many as a
 // lookup finds at most, further ones are asked for, up to the bounds. Where a page has no reply the
-// response has what was found before.
-func (p *pages) complete(ctx context.Context, request, found []byte) []byte {
-	if p.most <= pathd.MostFound || countOf(found) < pathd.MostFound {
-		return found
+// response has what was found before. It is marked where more segments match, or may match.
+func (p *pages) complete(ctx context.Context, request, found []byte) Response {
+	if countOf(found) < pathd.MostFound {
+		return Response{Body: found}
 	}
+	cut := Response{Body: found, More: true}
 	asked, response := new(segmentspb.SegmentsRequest), new(segmentspb.SegmentsResponse)
-	if proto.Unmarshal(request, asked) != nil || proto.Unmarshal(found, response) != nil || len(response.Segments) != 1 {
-		return found
+	if p.most <= pathd.MostFound || proto.Unmarshal(request, asked) != nil ||
+		proto.Unmarshal(found, response) != nil || len(response.Segments) != 1 {
+		return cut
 	}
+	more := false
 	for kind, list := range response.Segments {
 		if len(list.GetSegments()) < pathd.MostFound { // where the type comes twice, its last list counts
-			return found
+			return cut
 		}
-		p.add(ctx, asked, segmentspb.SegmentType(kind), list, len(found))
+		more = p.add(ctx, asked, segmentspb.SegmentType(kind), list, len(found))
 	}
-	if completed, err := proto.Marshal(response); err == nil {
-		return completed
+	completed, err := proto.Marshal(response)
+	if err != nil {
+		return cut
 	}
-	return found
+	return Response{Body: completed, More: more}
 }
 
-// add adds pages to the segments of a type, which have so many bytes.
-func (p *pages) add(ctx context.Context, asked *segmentspb.SegmentsRequest, kind segmentspb.SegmentType, list *segmentspb.Segments, size int) {
+// add adds pages to the segments of a type, which have so many bytes, and answers whether there may be
+// more of them.
+func (p *pages) add(ctx context.Context, asked *segmentspb.SegmentsRequest, kind segmentspb.SegmentType, list *segmentspb.Segments, size int) bool {
 	// A lookup finds down segments from its source on, and the others from its destination on.
 	start, end := pathd.IsdAs(asked.DstIsdAs), pathd.IsdAs(asked.SrcIsdAs)
 	if kind == pathd.Down {
 		start, end = end, start
 	}
 	for page := (pathd.Page{Segments: list.Segments, More: true}); page.More; {
-		next, reply, err := p.after(ctx, kind, start, end, page)
-		if err != nil {
-			p.failed.Add(1)
-			return
-		}
 		room := p.most - len(list.Segments)
-		if size += len(reply); size > MostResponse || room == 0 && len(next.Segments) > 0 {
+		if room == 0 {
 			p.left.Add(1)
-			return
+			return true
 		}
-		if len(next.Segments) > room {
-			next.Segments = next.Segments[:room]
+		next, reply, err := p.after(ctx, kind, start, end, page)
+		switch {
+		case err == errNoLists:
+			p.unlisted.Add(1)
+			return true
+		case err != nil:
+			p.failed.Add(1)
+			return true
+		}
+		if size += len(reply); size > MostResponse {
 			p.left.Add(1)
-			next.More = false
+			return true
 		}
 		p.taken.Add(1)
+		if len(next.Segments) > room {
+			list.Segments = append(list.Segments, next.Segments[:room]...)
+			p.left.Add(1)
+			return true
+		}
 		list.Segments = append(list.Segments, next.Segments...)
 		page = next
 	}
+	return false
 }
 
 // after answers the page that comes after one, and the body that has it.
@@ -81,7 +95,7 @@ func (p *pages) after(ctx context.Context, kind segmentspb.SegmentType, start, e
 	if err != nil {
 		return pathd.Page{}, nil, err
 	}
-	reply, err := p.pathd.Ask(ctx, pathd.KindList, pathd.ListBody(kind, start, end, &last))
+	reply, err := p.lists.ask(ctx, pathd.ListBody(kind, start, end, &last))
 	if err != nil {
 		return pathd.Page{}, nil, err
 	}
@@ -92,10 +106,11 @@ func (p *pages) after(ctx context.Context, kind segmentspb.SegmentType, start, e
 // writeNumbers writes what became of pages.
 func (p *pages) writeNumbers(page *numbers.Page) {
 	const name = "pathd_gateway_pages_total"
-	page.Counter(name, "Pages that were added to lookups, that had no reply, and that were left out as there are too many.")
+	page.Counter(name, "Pages that were added to lookups, that had no reply, that were left out as there are too many, and that pathd does not list.")
 	page.Row(name, `result="taken"`, float64(p.taken.Load()))
 	page.Row(name, `result="failed"`, float64(p.failed.Load()))
 	page.Row(name, `result="left"`, float64(p.left.Load()))
+	page.Row(name, `result="unlisted"`, float64(p.unlisted.Load()))
 }
 
 // countOf answers how many segments the body of a lookup's reply has, which is a SegmentsResponse.

@@ -77,8 +77,9 @@ func FuzzPages(f *testing.F) {
 		if isRead && countOf(found) < segmentsOf(before) {
 			t.Fatalf("%d segments of %d are counted", countOf(found), segmentsOf(before))
 		}
-		p := &pages{pathd: pageOf(page), most: most}
-		got := p.complete(context.Background(), request, found)
+		p := &pages{lists: lists{pathd: pageOf(page)}, most: most}
+		response := p.complete(context.Background(), request, found)
+		got := response.Body
 		if bytes.Equal(got, found) {
 			return
 		}

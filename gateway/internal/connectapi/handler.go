@@ -65,16 +65,20 @@ func (h *handler) ServeHTTP(w http.ResponseWriter, r *http.Request) {
 		Read: func(context.Context) ([]byte, error) { return h.read(w, r, body) },
 		Stop: func() { conn.ReadUntil(w, door.Past) },
 	})
+	var content []byte
 	if fault == nil {
-		response, fault = body.write(h.method, response)
+		content, fault = body.write(h.method, response.Body)
 	}
 	if fault != nil {
 		refuse(w, fault)
 		return
 	}
+	if response.More {
+		w.Header().Set(calls.MoreKey, "true")
+	}
 	w.Header()["Content-Type"] = body.contentType
-	w.Header()["Content-Length"] = []string{strconv.Itoa(len(response))}
-	w.Write(response)
+	w.Header()["Content-Length"] = []string{strconv.Itoa(len(content))}
+	w.Write(content)
 }
 
 func mediaType(r *http.Request) string {

@@ -181,8 +181,11 @@ func handler(desk *calls.Desk, m *calls.Method) grpc.StreamHandler {
 				return request, noEOF(err)
 			},
 		})
+		if response.More {
+			stream.SetTrailer(metadata.Pairs(calls.MoreKey, "true"))
+		}
 		if fault == nil {
-			return stream.SendMsg(Raw(response))
+			return stream.SendMsg(Raw(response.Body))
 		}
 		if fault.Code != 0 {
 			stream.SetTrailer(metadata.Pairs(calls.CodeKey, refusal.NumberOf(fault.Code)))
