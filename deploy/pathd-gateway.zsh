@@ -12,7 +12,7 @@ _arguments \
   '--streams[calls under way in a connection]:N:' \
   '--calls[calls under way in all]:N:' \
   '--connections[open connections]:N:' \
-  '--peer-connections[open connections of one address]:N:' \
+  '--peer-connections[open connections of one peer]:N:' \
   '--cert[a certificate and its chain]:FILE:_files' \
   '--key[the key of the certificate]:FILE:_files' \
   '--client-ca[authorities of clients]:FILE:_files' \

@@ -93,11 +93,11 @@ func (d *Desk) WritePages(p *numbers.Page) { d.pages.writeNumbers(p) }
 // Segments is SegmentLookupService/Segments: the body of the reply is the response, with pages of a
 // list after it where the lookup may be cut.
 func (d *Desk) Segments(ctx context.Context, request []byte) (Response, error) {
-	leave, err := d.lookups.Enter(ctx, door.FromContext(ctx).Peers())
+	end, err := d.lookups.Enter(ctx, door.FromContext(ctx).Peers())
 	if err != nil {
 		return Response{}, err
 	}
-	defer leave()
+	defer end()
 	found, err := d.options.Pathd.Ask(ctx, pathd.KindLookup, request)
 	if err != nil {
 		return Response{}, err
@@ -126,11 +126,11 @@ func (d *Desk) Registration(ctx context.Context, request []byte) (Response, erro
 }
 
 func (d *Desk) register(ctx context.Context, request []byte) error {
-	leave, err := d.commands.Enter(ctx, door.FromContext(ctx).Peers())
+	end, err := d.commands.Enter(ctx, door.FromContext(ctx).Peers())
 	if err != nil {
 		return err
 	}
-	defer leave()
+	defer end()
 	_, err = d.options.Pathd.Ask(ctx, pathd.KindRegister, request)
 	return err
 }

@@ -63,7 +63,7 @@ func Read(words []string, out io.Writer) (*Settings, error) {
 	add.seconds(&s.Deadline, "deadline", 10*time.Second, "the longest that a call may take")
 	add.seconds(&s.Idle, "idle", 300*time.Second, "the longest that a connection may have no call")
 	add.number(&s.Streams, "streams", 256, 1, mostStreams, "calls under way in a connection")
-	add.number(&s.Calls, "calls", 1024, 1, mostCalls, "calls under way in all")
+	add.number(&s.Calls, "calls", 1024, 1, mostCalls, "calls under way in all, of which one peer has a quarter at the most")
 	add.number(&s.Connections, "connections", 1024, 1, mostConnections, "open connections")
 	add.number(&s.PeerConnections, "peer-connections", isLeftOut, 0, mostConnections, "open connections of one peer, a quarter of --connections if left out; 0 is no bound")
 	add.text(&s.Certificate, "cert", "FILE", "a certificate and its chain in PEM, for TLS; without it there is no TLS")

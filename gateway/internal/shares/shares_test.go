@@ -154,19 +154,19 @@ func TestTurns(t *testing.T) {
 		}
 		ctx, cancel := context.WithTimeout(context.Background(), limit)
 		defer cancel()
-		leave, err := turns.Enter(ctx, peers)
+		end, err := turns.Enter(ctx, peers)
 		if (err == nil) != isFree {
 			t.Fatal(peers, err)
 		}
-		return leave
+		return end
 	}
 	first := enter(true, "a")
 	enter(true, "a", "certificate")
 	enter(false, "a")
 	entered := make(chan func())
 	go func() {
-		leave, _ := turns.Enter(context.Background(), []Peer{"a"})
-		entered <- leave
+		end, _ := turns.Enter(context.Background(), []Peer{"a"})
+		entered <- end
 	}()
 	third := enter(true, "b")
 	enter(false, "c")

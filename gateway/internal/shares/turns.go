@@ -11,54 +11,54 @@ type Turns struct {
 	ofPeer int
 
 	mu    sync.Mutex
-	lanes map[Peer]*lane
+	lines map[Peer]*line
 }
 
-// lane is where those of one peer wait.
-type lane struct {
+// line is where those of one peer wait.
+type line struct {
 	places chan struct{}
 	users  int // those that have a turn, and those that wait
 }
 
 // NewTurns answers turns for so many at one time.
 func NewTurns(all, ofPeer int) *Turns {
-	return &Turns{all: make(chan struct{}, all), ofPeer: ofPeer, lanes: map[Peer]*lane{}}
+	return &Turns{all: make(chan struct{}, all), ofPeer: ofPeer, lines: map[Peer]*line{}}
 }
 
-// Enter waits until it is the turn of one that belongs to these peers, or until the context ends. leave
+// Enter waits until it is the turn of one that belongs to these peers, or until the context ends. end
 // is called at the end of the turn.
-func (t *Turns) Enter(ctx context.Context, peers []Peer) (leave func(), err error) {
+func (t *Turns) Enter(ctx context.Context, peers []Peer) (end func(), err error) {
 	entered := 0
-	leave = func() {
+	end = func() {
 		if entered > len(peers) {
 			<-t.all
 			entered--
 		}
-		t.leaveLanes(peers, entered)
+		t.endLines(peers, entered)
 	}
-	for lanes := t.lanesOf(peers); entered <= len(peers); entered++ {
+	for lines := t.linesOf(peers); entered <= len(peers); entered++ {
 		places := t.all
 		if entered < len(peers) {
-			places = lanes[entered].places
+			places = lines[entered].places
 		}
 		select {
 		case places <- struct{}{}:
 		case <-ctx.Done():
-			leave()
+			end()
 			return nil, ctx.Err()
 		}
 	}
-	return leave, nil
+	return end, nil
 }
 
-func (t *Turns) lanesOf(peers []Peer) (found []*lane) {
+func (t *Turns) linesOf(peers []Peer) (found []*line) {
 	t.mu.Lock()
 	defer t.mu.Unlock()
 	for _, peer := range peers {
-		it := t.lanes[peer]
+		it := t.lines[peer]
 		if it == nil {
-			it = &lane{places: make(chan struct{}, t.ofPeer)}
-			t.lanes[peer] = it
+			it = &line{places: make(chan struct{}, t.ofPeer)}
+			t.lines[peer] = it
 		}
 		it.users++
 		found = append(found, it)
@@ -66,17 +66,17 @@ func (t *Turns) lanesOf(peers []Peer) (found []*lane) {
 	return found
 }
 
-// leaveLanes leaves the lanes of peers, of which the first so many have been entered.
-func (t *Turns) leaveLanes(peers []Peer, entered int) {
+// endLines gives back the places in the lines of peers, of which the first so many have been entered.
+func (t *Turns) endLines(peers []Peer, entered int) {
 	t.mu.Lock()
 	defer t.mu.Unlock()
 	for number, peer := range peers {
-		it := t.lanes[peer]
+		it := t.lines[peer]
 		if number < entered {
 			<-it.places
 		}
 		if it.users--; it.users == 0 {
-			delete(t.lanes, peer)
+			delete(t.lines, peer)
 		}
 	}
 }

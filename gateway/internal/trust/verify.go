@@ -69,11 +69,11 @@ func (k *Keeper) verifyEntry(ctx context.Context, entry *cppki.Entry) error {
 		return err
 	}
 	peers := door.FromContext(ctx).Peers()
-	leave, ended := k.fetcher.turns.Enter(ctx, peers)
+	end, ended := k.fetcher.turns.Enter(ctx, peers)
 	if ended != nil {
 		return ended
 	}
-	defer leave()
+	defer end()
 	if err = k.verifyOnce(ctx, entry); !isMissing(err) {
 		return err // another call has fetched it meanwhile
 	}
@@ -86,11 +86,11 @@ func isMissing(err error) bool {
 }
 
 func (k *Keeper) verifyOnce(ctx context.Context, entry *cppki.Entry) error {
-	leave, ended := k.turns.Enter(ctx, door.FromContext(ctx).Peers())
+	end, ended := k.turns.Enter(ctx, door.FromContext(ctx).Peers())
 	if ended != nil {
 		return ended
 	}
-	defer leave()
+	defer end()
 	memory := &counted{Known: k.known}
 	err := k.material.Load().Verify(entry, time.Now(), memory)
 	switch {
