@@ -1,3 +1,4 @@
 pub mod Future
 pub mod Limits
+pub mod Readings
 pub mod Sending

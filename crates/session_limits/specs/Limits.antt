@@ -7,12 +7,13 @@ use Rattle.session_core.specs.declared.message.Message.TheVariants as message
 use Rattle.session_core.specs.Commands.{command_kind}
 use Rattle.session_core.specs.Frames.{MessageView}
 use Rattle.session_core.specs.Reply.{ReplyView, Refused}
-use Rattle.reply_codes.specs.Codes.{memory_code, future_code, no_commands_code, submit_code}
+use Rattle.reply_codes.specs.Codes.{memory_code, future_code, submit_code}
 use Rattle.session_limits.specs.declared.limit.Limit.{Limit}
 use Rattle.session_limits.specs.declared.limit.Limit.TheVariants.{NoMemory, Future, NoRoom, NoCommands}
 use Rattle.session_limits.specs.declared.limited.Limited.{Limited}
 use Rattle.session_limits.specs.declared.limited.LimitedCommand.{LimitedCommand}
 use Rattle.session_limits.specs.Future.{IsJudged}
+use Rattle.session_limits.specs.Readings.{ReadsAs, untaken_code}
 
 -- A limited service as contracts see it, over a service with states of this type.
 pub record LimitedView (S : Type 0) : Type 0 where
@@ -44,7 +45,7 @@ abbrev pub limit_code : Limit → ℕ
 limit_code NoMemory = memory_code
 limit_code Future = future_code
 limit_code NoRoom = submit_code Busy
-limit_code NoCommands = no_commands_code
+limit_code (NoCommands fault) = untaken_code fault
 
 -- A message that has to be read, by a bound, may be refused memory once its outline was read.
 abbrev pub MayLackMemory : Option ℕ → MessageView → Type 0
@@ -52,8 +53,8 @@ MayLackMemory (Some bound) (Register body) = IsOk (registration_outline body)
 MayLackMemory _ _ = ⊥
 
 -- Why a message is refused, or None where it goes on to the service below. A session that takes no
--- commands refuses each one for that, and has no other refusal. Elsewhere a message is refused that
--- lies in the future. Only a command that does not is refused for want of room, and only where room
+-- commands refuses each one, first for why it cannot be read, and has no other refusal. Elsewhere a
+-- message is refused that lies in the future. Only a command that does not is refused for want of room, and only where room
 -- is shared.
 abbrev pub IsAdmission : Bool → Option ℕ → Bool → Option ℕ → MessageView → Option Limit → Type 0
 IsAdmission takes future shares moment message None = IsJudged future moment message false × (takes ≡ false → command_kind message ≡ None)
@@ -61,7 +62,8 @@ IsAdmission takes future shares moment message (Some NoMemory) = (takes ≡ true
 IsAdmission takes future shares moment message (Some Future) = (takes ≡ true) × IsJudged future moment message true
 IsAdmission takes future shares moment message (Some NoRoom) =
     (takes ≡ true) × (IsJudged future moment message false × ((shares ≡ true) × IsSome (command_kind message)))
-IsAdmission takes future shares moment message (Some NoCommands) = (takes ≡ false) × ((moment ≡ None) × IsSome (command_kind message))
+IsAdmission takes future shares moment message (Some (NoCommands fault)) =
+    (takes ≡ false) × ((moment ≡ None) × (IsSome (command_kind message) × ReadsAs message fault))
 
 -- ---- what is answered
 

@@ -2,6 +2,7 @@
 
 use group_core::SubmitError;
 use reply_codes::Refusal;
+use seg_core::SegError;
 use session_core::Code;
 
 /// Why a message is refused before the service below is asked.
@@ -13,8 +14,8 @@ pub enum Limit {
     Future,
     /// As many sessions have commands under way as may have some.
     NoRoom,
-    /// The session takes no commands.
-    NoCommands,
+    /// The session takes no commands. One that cannot be read is refused by this error.
+    NoCommands(Option<SegError>),
 }
 
 impl Limit {
@@ -29,7 +30,8 @@ impl Limit {
             Limit::NoMemory => Refusal::NoMemory.code(),
             Limit::Future => Refusal::Future.code(),
             Limit::NoRoom => Refusal::Submit(SubmitError::Busy).code(),
-            Limit::NoCommands => Refusal::NoCommands.code(),
+            Limit::NoCommands(None) => Refusal::NoCommands.code(),
+            Limit::NoCommands(Some(error)) => Refusal::Message(error).code(),
         }
     }
 }

@@ -7,6 +7,7 @@ ghost use Rattle.session_core.specs.Front.{message_at};
 ghost use Rattle.session_core.specs.declared.message.Message.TheVariants.{Register, Purge, Remove};
 ghost use Rattle.session_limits.specs.declared.limit.Limit.TheVariants.{Future, NoCommands};
 ghost use Rattle.session_limits.specs.Limits.{limited, after_judging, IsAdmission, IsLimitedFor};
+ghost use Rattle.session_limits.specs.Readings.{ReadsAs};
 ghost use Rattle.session_limits.specs.Sending.{limited_sent, LimitedHandsIn};
 
 use crate::future::{is_after, is_one_after};
@@ -32,14 +33,16 @@ pub struct Limits<'a> {
 
 /// Answers as another service does, but refuses some messages before that one is called:
 ///
-/// - each command, where commands are not taken;
+/// - each command, where commands are not taken: one that cannot be read by the code for that, as
+///   the service below would. Signatures and expiries are not checked then;
 /// - a registration or a purge with a time too far in the future, where there is a bound;
 /// - a command of a session that has none under way, where there is no room for one more such
 ///   session. Room is awaited for 200 milliseconds, and not again until the session has had some. A
 ///   session keeps its room until none of its commands is under way.
 ///
-/// Where commands are taken and there is a bound, a registration is read here, too, and the clock is
-/// asked once for each that can be read, and for each purge.
+/// Where there is a bound or commands are not taken, a registration is read here, too. Where there is
+/// a bound and commands are taken, the clock is asked once for each that can be read, and for each
+/// purge.
 ///
 /// Where a message is refused here, the service below is the same value afterwards (the clauses
 /// `untouched`). Code that is generic in that service can show this only by not calling it, so that
@@ -139,7 +142,7 @@ impl<'a, S: Service, C: Now, R: Clock> Limited<'a, S, C, R> {
         ensures taken { result.limit ≡ None → self.old.commands ≡ true }
     {
         if !self.commands {
-            return not_taken();
+            return not_taken(registration_fault(alloc, body));
         }
         let judged = self.judge_registration(alloc, body);
         self.take_room(judged)
@@ -155,7 +158,7 @@ impl<'a, S: Service, C: Now, R: Clock> Limited<'a, S, C, R> {
         ensures taken { result.limit ≡ None → self.old.commands ≡ true }
     {
         if !self.commands {
-            return not_taken();
+            return not_taken(None);
         }
         let judged = self.judge_purge(until);
         self.take_room(judged)
@@ -171,7 +174,7 @@ impl<'a, S: Service, C: Now, R: Clock> Limited<'a, S, C, R> {
         ensures taken { result.limit ≡ None → self.old.commands ≡ true }
     {
         if !self.commands {
-            return not_taken();
+            return not_taken(removal_fault(kind, id));
         }
         self.take_room(unjudged())
     }
@@ -321,15 +324,29 @@ fn unjudged() -> Admission
     }
 }
 
-/// A command of a session that takes none.
-fn not_taken() -> Admission
+/// A command of a session that takes none, with why it cannot be read, if it cannot.
+fn not_taken(fault: Option<SegError>) -> Admission
     ensures moment { result.moment ≡ None }
-    ensures limit { result.limit ≡ Some NoCommands }
+    ensures limit { result.limit ≡ Some (NoCommands fault) }
 {
     Admission {
         moment: None,
-        limit: Some(Limit::NoCommands),
+        limit: Some(Limit::NoCommands(fault)),
     }
+}
+
+/// Why a registration cannot be read, if it cannot.
+fn registration_fault(alloc: Global, body: &[u8]) -> Option<SegError>
+    ensures { ReadsAs (Register body.now) result }
+{
+    read_registration(alloc, body).err()
+}
+
+/// Why a removal cannot be read, if its type is none.
+fn removal_fault(kind: u8, _id: &[u8; 32]) -> Option<SegError>
+    ensures { ReadsAs (Remove kind _id.now) result }
+{
+    SegType::from_number(u64::from(kind)).err()
 }
 
 /// A message that was judged at a moment: whether it lies in the future.

@@ -44,9 +44,17 @@ struct Asking {
     lookups: SocketAddr,
 }
 
+/// A registration that ends within its first number, and a removal of the type 4.
+const CUT: &str = "000000020180";
+
+const NO_TYPE: &str =
+    "0000002204040000000000000000000000000000000000000000000000000000000000000000";
+
 /// Whether the replies in a session of each listener are as they should be.
-fn are_replied(first: &mut Peer, second: &mut Peer) -> io::Result<[bool; 6]> {
+fn are_replied(first: &mut Peer, second: &mut Peer) -> io::Result<[bool; 8]> {
     Ok([
+        second.asks(CUT, "00000002ff11")?,
+        second.asks(NO_TYPE, "00000002ff29")?,
         second.asks(LOOKUP, NOTHING)?,
         second.asks(REGISTRATION, NO_COMMANDS)?,
         first.asks(REGISTRATION, REGISTERED)?,
@@ -57,9 +65,9 @@ fn are_replied(first: &mut Peer, second: &mut Peer) -> io::Result<[bool; 6]> {
 }
 
 impl Clients for Asking {
-    type Seen = [bool; 6];
+    type Seen = [bool; 8];
 
-    fn meet<R: Outside>(&self, rt: R, alloc: Global, to: SocketAddr) -> io::Result<[bool; 6]> {
+    fn meet<R: Outside>(&self, rt: R, alloc: Global, to: SocketAddr) -> io::Result<[bool; 8]> {
         let mut first = Peer::connect(rt, alloc, to)?;
         let mut second = Peer::connect(rt, alloc, self.lookups)?;
         are_replied(&mut first, &mut second)
@@ -78,7 +86,7 @@ fn commands_are_refused_at_the_listener_of_lookups(rt: HostRuntime) {
     let (served, seen) = meet_both(&rt, alloc, listener, &options, &clients, &counts);
     assert_same(&rt, &served, &2, &"sessions");
     let seen = seen.expect(&rt, "the clients meet the server");
-    assert_same(&rt, &seen, &[true; 6], &"replies");
+    assert_same(&rt, &seen, &[true; 8], &"replies");
 }
 
 /// Takes all seats of both listeners, and asks each for one more.

@@ -15,6 +15,7 @@ use std::alloc::Global;
 use std::process::Abort;
 use std::sync::Wait;
 use std::time::Clock;
+use test_support::digits::REMOVE_NO_TYPE;
 
 /// The refusal of a command.
 const NOT_TAKEN: &str = "00000002ff64";
@@ -26,7 +27,7 @@ const UNREADABLE: &str = "0000000301ffff";
 const PURGE_ALL: &str = "0000000903ffffffffffffffff";
 
 /// What the session is sent that takes no commands.
-const FRAMES: [&str; 9] = [
+const FRAMES: [&str; 10] = [
     REGISTER,
     UNREADABLE,
     REGISTER_NONE,
@@ -34,6 +35,7 @@ const FRAMES: [&str; 9] = [
     PURGE,
     LOOKUP,
     REMOVE,
+    REMOVE_NO_TYPE,
     LIST,
     LIST_NO_TYPE,
 ];
@@ -82,7 +84,8 @@ impl Talk for Sessions {
     }
 }
 
-// Each command of the second session is refused, whatever it is, and none is in the store.
+// Each command of the second session is refused, one that cannot be read by the code for that, and
+// none is in the store.
 #[test]
 fn only_lookups_and_lists(rt: HostRuntime) {
     let alloc = rt.alloc();
@@ -91,12 +94,13 @@ fn only_lookups_and_lists(rt: HostRuntime) {
     let replies = [
         INSERTED,
         NOT_TAKEN,
-        NOT_TAKEN,
+        "00000002ff11",
         NOT_TAKEN,
         NOT_TAKEN,
         NOT_TAKEN,
         FOUND,
         NOT_TAKEN,
+        "00000002ff29",
         LISTED_HEAD,
         segment,
         "00000002ff29",
