@@ -3,7 +3,6 @@ use Rattle.std.specs.Prelude.{Bool, true, false}
 use Rattle.std.specs.IoError.{error_kind}
 use Rattle.std.specs.declared.io.ErrorKind.{ErrorKind}
 use Rattle.std.specs.declared.io.ErrorKind.TheVariants.{OutOfMemory, NotFound, PermissionDenied, InvalidInput}
-use Rattle.isd_as.specs.declared.error.IaError.TheVariants as text_error
 use Rattle.cli_once.specs.declared.error.SessionFault.TheVariants as session_fault
 use Rattle.store_open.specs.declared.error.OpenError.TheVariants as opening
 use Rattle.cli_store.specs.declared.error.Fault.{Fault}
@@ -24,7 +23,6 @@ or_memory _ other = other
 -- How the program ends by a failure.
 abbrev pub ended_by : Failure → Ended
 ended_by (failure.Core text error) = ended.Session (session_fault.Text error)
-ended_by (failure.AnyCore text) = ended.Session (session_fault.Text text_error.BadText)
 ended_by failure.Key = ended.Session session_fault.Hex
 ended_by (failure.Address option text) = ended.Net
 ended_by (failure.Word word error) = ended.Ask (ask_fault.Word (word_number error))
@@ -59,7 +57,6 @@ is_lasting_kind _ = false
 -- A server that is started again fails so, too, until its words, its file or its store are changed.
 abbrev pub is_lasting : Failure → Bool
 is_lasting (failure.Core text error) = true
-is_lasting (failure.AnyCore text) = true
 is_lasting failure.Key = true
 is_lasting (failure.Address option text) = true
 is_lasting (failure.File path error) = is_lasting_kind (error_kind error)

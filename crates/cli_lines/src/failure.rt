@@ -22,8 +22,6 @@ use store_open::OpenError;
 pub enum Failure<'a> {
     /// A text of the core ASes is none.
     Core(&'a str, IaError),
-    /// A text of the core ASes means more than one AS.
-    AnyCore(&'a str),
     /// The key is none. Its text is not shown.
     Key,
     /// The text of an option is no socket address.
@@ -61,7 +59,6 @@ impl Failure<'_> {
     {
         match self {
             Failure::Core(_, error) => Ended::Session(SessionFault::Text(*error)),
-            Failure::AnyCore(_) => Ended::Session(SessionFault::Text(IaError::BadText)),
             Failure::Key => Ended::Session(SessionFault::Hex),
             Failure::Address(_, _) | Failure::Peer(_) | Failure::BrokenListener => Ended::Net,
             Failure::Word(_, error) => Ended::Ask(AskFault::Word(error.number())),
@@ -124,8 +121,7 @@ impl Failure<'_> {
         ensures { result ≡ is_lasting self.now }
     {
         match self {
-            Failure::Core(_, _) | Failure::AnyCore(_) | Failure::Key | Failure::Address(_, _) =>
-                true,
+            Failure::Core(_, _) | Failure::Key | Failure::Address(_, _) => true,
             Failure::File(_, error) | Failure::Listen(_, error) => is_lasting_kind(error.kind()),
             Failure::Store(_, fault) | Failure::Device(_, fault, _) => is_lasting_fault(*fault),
             Failure::Word(_, _)
@@ -147,7 +143,6 @@ impl Display for Failure<'_> {
             Failure::Core(text, IaError::TooLarge) => {
                 write!(f, "--{CORES}: a number of '{text}' is too large")
             }
-            Failure::AnyCore(text) => write!(f, "--{CORES}: '{text}' is not one AS"),
             Failure::Key => write!(f, "--{KEY}: no hexadecimal text of at most 64 bytes"),
             Failure::Address(option, text) => {
                 write!(

@@ -1,16 +1,15 @@
 //! How a server runs, by the words of its command line.
 
-ghost use Rattle.std.specs.Prelude.{◌≡◌, ℕ, ◌*◌, false, codes, option_map, IfOk};
+ghost use Rattle.std.specs.Prelude.{◌≡◌, ℕ, ◌*◌, codes, option_map, IfOk};
 ghost use Rattle.std.specs.Duration.{as_nanos};
 ghost use Rattle.clap.specs.Words.{first_value, found_of};
-ghost use Rattle.cli_commands.specs.Options.{AreCoresOf, IsKeyOf, IsNumberOf};
-ghost use Rattle.cli_program.specs.Options.{has_wildcard, IsRosterOf, limit_of, bound_of};
+ghost use Rattle.cli_commands.specs.Options.{IsKeyOf, IsNumberOf};
+ghost use Rattle.cli_program.specs.Options.{IsRosterOf, limit_of, bound_of};
 
 use clap::ArgMatches;
 use cli_commands::{cores_in, key_in, u32_in};
 use cli_lines::Failure;
-use cli_words::{CORES, FUTURE, GRACE, IDLE, LOOKUP_SEATS, PEER_SESSIONS, PURGE, SESSIONS, SPARE};
-use isd_as::{IsdAs, parse};
+use cli_words::{FUTURE, GRACE, IDLE, LOOKUP_SEATS, PEER_SESSIONS, PURGE, SESSIONS, SPARE};
 use path_server::Options;
 use seg_lookup::Roster;
 use std::alloc::Global;
@@ -46,7 +45,7 @@ pub(crate) fn options_of<'a>(alloc: Global, words: &ArgMatches<'a>) -> Result<Op
     ensures grace { IfOk result (λ options. (count : ℕ) × IsNumberOf (found_of words.now) (codes "grace") 32 10 count
         × (as_nanos options.grace ≡ count * 1_000_000_000)) }
 {
-    let cores = Roster::new(core_ases_in(alloc, words)?);
+    let cores = Roster::new(cores_in(alloc, words)?);
     let key = key_in(alloc, words)?;
     Ok(Options {
         cores,
@@ -60,39 +59,6 @@ pub(crate) fn options_of<'a>(alloc: Global, words: &ArgMatches<'a>) -> Result<Op
         purge: limit(u32_in(words, PURGE, 0)),
         grace: seconds(u32_in(words, GRACE, GRACE_SECONDS)),
     })
-}
-
-/// The core ASes of the words for a server, none of which has a part that is 0: such a text names
-/// no AS, and would only silence the line that says that there is no core AS.
-fn core_ases_in<'a>(alloc: Global, words: &ArgMatches<'a>) -> Result<Vec<IsdAs>, Failure<'a>>
-    ensures given { IfOk result (λ cores. AreCoresOf (first_value (found_of words.now) (codes "cores")) cores.items) }
-    ensures whole { IfOk result (λ cores. has_wildcard cores.items ≡ false) }
-{
-    let cores = cores_in(alloc, words)?;
-    if has_wildcard(&cores) {
-        let list = words.get_str(CORES).unwrap_or("");
-        return Err(Failure::AnyCore(first_wildcard(list)));
-    }
-    Ok(cores)
-}
-
-/// Whether one of these ASes has a part that is 0.
-fn has_wildcard(cores: &[IsdAs]) -> bool
-    ensures { result ≡ has_wildcard cores.now }
-{
-    cores.iter().any(|core| core.has_zero_part())
-}
-
-/// The first text of a list with a part that is 0, which means more than one AS, or else the list.
-fn first_wildcard(list: &str) -> &str {
-    for text in list.split(',') {
-        if let Ok(core) = parse(text) {
-            if core.has_zero_part() {
-                return text;
-            }
-        }
-    }
-    list
 }
 
 /// The number of an option, or 0 where the option is left out.

@@ -12,7 +12,7 @@ ghost use Rattle.cli_program.specs.Serving.{ServesFile};
 use crate::addresses::{addresses_of, listen};
 use crate::notices::Notices;
 use crate::server_options::options_of;
-use crate::starting::{say_addresses, say_opened, say_overfull, say_without_cores};
+use crate::starting::{say_addresses, say_opened, say_overfull, say_wildcards, say_without_cores};
 use crate::system::{Host, System};
 use crate::usage::UsageFiles;
 use clap::ArgMatches;
@@ -69,8 +69,9 @@ fn serve_noted<'a, R: System, I: Read + Drop + Send + 'static, O: Write>(
     let Ok(notices) = Notices::new(rt, is_quiet, is_marked, &site.last_fault, usage) else {
         return Err(Failure::Memory);
     };
-    if words.get_str(CORES).is_none() {
-        say_without_cores(rt.alloc(), &notices);
+    match words.get_str(CORES) {
+        Some(list) => say_wildcards(rt.alloc(), &notices, list),
+        None => say_without_cores(rt.alloc(), &notices),
     }
     let input = words.get_flag(STOP_ON_END_OF_INPUT).then_some(input);
     let served = serve_beside(rt, site, options, &notices, input, output);

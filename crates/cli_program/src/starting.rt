@@ -4,6 +4,8 @@ use crate::notices::Notices;
 use crate::system::Host;
 use ckpt_pair::area_room;
 use cli_lines::Priority;
+use cli_words::CORES;
+use isd_as::parse;
 use sector_dev::Device;
 use server_listeners::Listeners;
 use std::alloc::{AllocError, Global};
@@ -15,6 +17,19 @@ use store_open::Store;
 pub(crate) fn say_without_cores<R: Host>(alloc: Global, notices: &Notices<R>) {
     let line = "no --cores: lookups between two named ASes are refused by 0x43";
     notices.say_as(Priority::Warning, line.to_string(alloc));
+}
+
+/// Says which texts of the core ASes have a part that is 0. A lookup by them is as without them: by
+/// an AS that is 0 each side is a core AS, and an ISD that is 0 is refused with any other AS.
+pub(crate) fn say_wildcards<R: Host>(alloc: Global, notices: &Notices<R>, list: &str) {
+    for text in list.split(',') {
+        if let Ok(core) = parse(text)
+            && core.has_zero_part()
+        {
+            let line = format!(in alloc; "--{CORES} has {text}, which names no AS");
+            notices.say_as(Priority::Warning, line);
+        }
+    }
 }
 
 /// Says what the opening of a store has found, and how long it took.

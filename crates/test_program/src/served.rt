@@ -115,6 +115,19 @@ const PARTS: &[Part] = &[
         )],
     },
     Part {
+        what: "core ASes of which some are none",
+        before: Before::Nothing,
+        peers: Peers {
+            sessions: &[LOOKUP],
+            together: 0,
+            silent: 0,
+        },
+        lines: &[(
+            "pathd run other --listen ADDR --cores 1-0,1-ff00:0:110,0-5 --sessions 1 --idle 60 --log-priority",
+            &[],
+        )],
+    },
+    Part {
         what: "lines with their priorities, and purges by itself",
         before: Before::Nothing,
         peers: Peers {
