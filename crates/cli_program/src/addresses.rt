@@ -13,28 +13,6 @@ struct Address<'a> {
     address: SocketAddr,
 }
 
-/// The addresses at which a server listens.
-#[derive(Clone, Copy)]
-pub(crate) struct Addresses<'a> {
-    sessions: Address<'a>,
-    /// That for sessions that only look up, if there are such.
-    lookups: Option<Address<'a>>,
-    /// That for requests of the server's numbers, if they are answered.
-    status: Option<Address<'a>>,
-}
-
-/// The addresses of the words. Nothing is opened for them yet.
-pub(crate) fn addresses_of<'a>(words: &ArgMatches<'a>) -> Result<Addresses<'a>, Failure<'a>> {
-    let sessions = address_of(LISTEN, words.get_str(LISTEN).unwrap_or(""))?;
-    let lookups = optional_address(words, LOOKUPS)?;
-    let status = optional_address(words, STATUS_LISTEN)?;
-    Ok(Addresses {
-        sessions,
-        lookups,
-        status,
-    })
-}
-
 /// The address of an option that may be left out.
 fn optional_address<'a>(
     words: &ArgMatches<'a>,
@@ -54,18 +32,18 @@ fn address_of<'a>(option: &'static str, text: &'a str) -> Result<Address<'a>, Fa
     }
 }
 
-/// Listens at the addresses.
+/// Listens at the addresses of the words, once all of them are read.
 pub(crate) fn listen<'a, R: Net<Listener = TcpListener, Stream = TcpStream>>(
     rt: &R,
-    addresses: &Addresses<'a>,
+    words: &ArgMatches<'a>,
 ) -> Result<Listeners<TcpListener>, Failure<'a>> {
-    let sessions = bind(rt, addresses.sessions)?;
-    let lookups = bind_optional(rt, addresses.lookups)?;
-    let status = bind_optional(rt, addresses.status)?;
+    let sessions = address_of(LISTEN, words.get_str(LISTEN).unwrap_or(""))?;
+    let lookups = optional_address(words, LOOKUPS)?;
+    let status = optional_address(words, STATUS_LISTEN)?;
     Ok(Listeners {
-        sessions,
-        lookups,
-        status,
+        sessions: bind(rt, sessions)?,
+        lookups: bind_optional(rt, lookups)?,
+        status: bind_optional(rt, status)?,
     })
 }
 

@@ -9,7 +9,7 @@ ghost use Rattle.store_open.specs.Open.{IsOpened, OpensAlike};
 ghost use Rattle.cli_program.specs.Failures.{failure_of};
 ghost use Rattle.cli_program.specs.Serving.{ServesFile};
 
-use crate::addresses::{addresses_of, listen};
+use crate::addresses::listen;
 use crate::notices::Notices;
 use crate::server_options::options_of;
 use crate::starting::{say_addresses, say_opened, say_overfull, say_wildcards, say_without_cores};
@@ -37,12 +37,13 @@ struct Site<'a, F: PositionedFile> {
     device: FileDevice<F>,
     /// What failed last in that file.
     last_fault: Arc<LastFault>,
-    listeners: Listeners<TcpListener>,
+    /// Where the server listens, or why it does not, which is said once the store is open.
+    listeners: Result<Listeners<TcpListener>, Failure<'a>>,
 }
 
 /// Serves the sessions of a store. Prints `ready` once peers are answered, and the number of
-/// sessions at the end. The words are judged before the file is opened, and the server listens
-/// before the store is opened.
+/// sessions at the end. The core ASes and the key are judged before the file is opened. The server
+/// listens before the store is opened, so that peers that come early wait for the store.
 pub(crate) fn serve_file<'a, R: System, I: Read + Drop + Send + 'static, O: Write>(
     rt: &R,
     words: &ArgMatches<'a>,
@@ -79,12 +80,11 @@ fn serve_noted<'a, R: System, I: Read + Drop + Send + 'static, O: Write>(
     served
 }
 
-/// Opens the file of the words, and listens at their addresses, once these are read.
+/// Opens the file of the words, and listens at their addresses.
 fn site_of<'a, R: System>(
     rt: &R,
     words: &ArgMatches<'a>,
 ) -> Result<Site<'a, SystemFile>, Failure<'a>> {
-    let addresses = addresses_of(words)?;
     let path = words.get_str(DEVICE).unwrap_or("");
     let no_file = |error| Failure::File(path, error);
     let file = device_files::open(rt, path).map_err(no_file)?;
@@ -92,12 +92,11 @@ fn site_of<'a, R: System>(
         return Err(Failure::Memory);
     };
     let device = FileDevice::new(file).map_err(no_file)?;
-    let listeners = listen(rt, &addresses)?;
     Ok(Site {
         path,
         device,
         last_fault,
-        listeners,
+        listeners: listen(rt, words),
     })
 }
 
@@ -156,6 +155,13 @@ fn serve_site<'a, R: Host, F: PositionedFile + Drop + Send>(
         Err(failure) => return (None, Err(failure)),
     };
     say_opened(rt, notices, path, &store, begun);
+    let listeners = match listeners {
+        Ok(listeners) => listeners,
+        Err(failure) => {
+            drop(store.into_device());
+            return (None, Err(failure));
+        }
+    };
     say_addresses(rt.alloc(), notices, path, &store, &listeners);
     say_overfull(notices, &store);
     let (device, left, served) = serve_store(rt, rt.alloc(), listeners, store, options, notices);
