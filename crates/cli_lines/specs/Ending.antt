@@ -1,5 +1,5 @@
 -- How the program ends.
-use Rattle.std.specs.Prelude.{ℕ, List, ◌++◌, codes, Result, Ok, Err, if◌then◌else◌}
+use Rattle.std.specs.Prelude.{ℕ, List, ◌++◌, codes, Result, Ok, Err}
 use Rattle.cli_once.specs.Fault as session
 use Rattle.cli_store.specs.Fault as store
 use Rattle.cli_ask.specs.Faults as asked
@@ -24,4 +24,4 @@ ended_line ended = codes "error: " ++ ended_text ended
 abbrev pub program_status : Result Done Failed → ℕ
 program_status (Ok Carried) = 0
 program_status (Ok Refused) = 2
-program_status (Err failed) = if failed.is_lasting then 3 else 1
+program_status (Err failed) = failed.status

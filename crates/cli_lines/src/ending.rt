@@ -1,6 +1,6 @@
 //! How the program ends: its status, and its last line on standard error.
 
-ghost use Rattle.std.specs.Prelude.{◌≡◌, ◌≤◌, Some};
+ghost use Rattle.std.specs.Prelude.{◌≡◌, Some};
 ghost use Rattle.cli_lines.specs.Ending.{program_status};
 
 use std::error::Error;
@@ -72,9 +72,8 @@ impl From<cli_store::Fault> for Ended {
 pub struct Failed {
     /// Why it ends.
     pub ended: Ended,
-    /// Whether a server that is started again ends so, too, until its words, its file or its store
-    /// are changed.
-    pub is_lasting: bool,
+    /// The exit status of the program.
+    pub status: u8,
     /// Whether the last line on standard error begins with its priority.
     pub is_marked: bool,
 }
@@ -82,27 +81,25 @@ pub struct Failed {
 impl From<Ended> for Failed {
     ghost use Rattle.std.specs.Prelude.{false};
 
-    ghost from_gives = { λ why failed. failed ≡ record { ended = why; is_lasting = false; is_marked = false } };
+    ghost from_gives = { λ why failed. failed ≡ record { ended = why; status = 1; is_marked = false } };
 
     fn from(ended: Ended) -> Failed {
         Failed {
             ended,
-            is_lasting: false,
+            status: 1,
             is_marked: false,
         }
     }
 }
 
-/// The exit status of the program: 0 where the words are carried out, 1 where the program ended
-/// before that, 2 where the words cannot be read, and 3 where a server that is started again ends
-/// so, too.
+/// The exit status of the program: 0 where the words are carried out, 2 where they cannot be read,
+/// and that of the failure where the program ended before they were carried out.
 pub fn status_of(outcome: &Result<Done, Failed>) -> u8
-    ensures status { result ≡ program_status outcome.now }
-    ensures most { result ≤ 3 }
+    ensures { result ≡ program_status outcome.now }
 {
     match outcome {
         Ok(Done::Carried) => 0,
         Ok(Done::Refused) => 2,
-        Err(failed) => { if failed.is_lasting { 3 } else { 1 } }
+        Err(failed) => failed.status,
     }
 }

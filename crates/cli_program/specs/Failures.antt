@@ -1,4 +1,12 @@
--- Why a command line is not carried out, where its server ended early.
+-- Why a command line is not carried out, where its server ended early, and the status by that.
+use Rattle.std.specs.Prelude.{◌≡◌, ℕ, Bool, true, false, codes}
+use Rattle.clap.specs.declared.parser.matches.Found.{Found}
+use Rattle.clap.specs.Words.{found_of}
+use Rattle.cli_commands.specs.Options.{IsNumberOf}
+use Rattle.cli_words.specs.declared.command_line.CommandLine.{CommandLine}
+use Rattle.cli_words.specs.declared.command_line.Subcommand.{Subcommand}
+use Rattle.cli_words.specs.declared.command_line.Subcommand.TheVariants.{Run}
+use Rattle.cli_lines.specs.Failures.{is_lasting}
 use Rattle.path_server.specs.declared.error.RunError.{RunError}
 use Rattle.path_server.specs.declared.error.RunError.TheVariants as server
 use Rattle.cli_lines.specs.declared.failure.Failure.{Failure}
@@ -8,3 +16,18 @@ use Rattle.cli_lines.specs.declared.failure.Failure.TheVariants as failure
 abbrev pub failure_of : RunError → Failure
 failure_of server.NoMemory = failure.ServerMemory
 failure_of server.Net = failure.BrokenListener
+
+-- The server that the words ask for would fail so again.
+abbrev pub is_final : Subcommand → Failure → Bool
+is_final Run failure = is_lasting failure
+is_final _ failure = false
+
+-- The status is that of the words, which is 1 unless they name one, where the failure is final, and
+-- else 1.
+abbrev pub IsStatusWhere : Bool → Found → ℕ → Type 0
+IsStatusWhere true found status = IsNumberOf found (codes "final-status") 8 1 status
+IsStatusWhere false found status = status ≡ 1
+
+-- The status of the program by a failure of the words.
+abbrev pub IsStatusOf : CommandLine → Failure → ℕ → Type 0
+IsStatusOf line failure status = IsStatusWhere (is_final line.subcommand failure) (found_of line.options) status

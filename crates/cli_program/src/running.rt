@@ -1,29 +1,31 @@
 //! From the words of a command line to the command, and to the program's end.
 
-ghost use Rattle.std.specs.Prelude.{◌≤◌};
+ghost use Rattle.std.specs.Prelude.{◌≡◌, codes};
+ghost use Rattle.clap.specs.Words.{found_of};
+ghost use Rattle.cli_commands.specs.Options.{IsNumberOf};
+ghost use Rattle.cli_lines.specs.Failures.{ended_by};
+ghost use Rattle.cli_program.specs.Failures.{IsStatusOf};
 
 use crate::output::Output;
 use crate::serving::serve_file;
 use crate::system::System;
-use clap::Error;
 use clap::error::ErrorKind;
+use clap::{ArgMatches, Error};
 use cli_commands::{
     answer, ask_server, copy_file, format_file, more_of, show_file, status_of_file, upgrade_file,
 };
 use cli_lines::{Done, Failed, Failure, Priority, status_of};
-use cli_words::{CommandLine, LOG_PRIORITY, Subcommand, read};
+use cli_words::{CommandLine, FINAL_STATUS, LOG_PRIORITY, Subcommand, read};
 use std::io::{IsTerminal, Read, Write};
 use std::{env, io};
 
-/// Runs the command line; prints why it failed; returns the status: 0 to 3, as `status_of` says.
-/// No clause says what the words do. The contracts of the commands that it calls do.
+/// Runs the command line; prints why it failed; returns the status, as `status_of` says. No clause
+/// says what the words do. The contracts of the commands that it calls do.
 pub fn carry_out<
     R: System,
     I: Read + IsTerminal + Drop + Send + 'static,
     O: Write + IsTerminal + Drop,
->(rt: &R, input: I, output: O) -> u8
-    ensures { result ≤ 3 }
-{
+>(rt: &R, input: I, output: O) -> u8 {
     let outcome = run(rt, input, output);
     if let Err(failed) = &outcome {
         let mark = Priority::Error.mark_where(failed.is_marked);
@@ -57,16 +59,37 @@ pub fn run<R: System, I: Read + IsTerminal + Drop + Send + 'static, O: Write + I
     match outcome {
         Ok(()) => Ok(Done::Carried),
         Err(failure) => {
-            let is_server = line.subcommand == Subcommand::Run;
-            let is_marked = is_server && line.options.get_flag(LOG_PRIORITY);
-            explain(rt, &failure, &output, is_marked);
-            Err(Failed {
-                ended: failure.ended(),
-                is_lasting: is_server && failure.is_lasting(),
-                is_marked,
-            })
+            let failed = failed_by(&line, &failure);
+            explain(rt, &failure, &output, failed.is_marked);
+            Err(failed)
         }
     }
+}
+
+/// How the program ends by a failure of these words.
+fn failed_by(line: &CommandLine<'_>, failure: &Failure<'_>) -> Failed
+    ensures ended { result.ended ≡ ended_by failure.now }
+    ensures status { IsStatusOf line.now failure.now result.status }
+{
+    let is_server = line.subcommand == Subcommand::Run;
+    let is_final = is_server && failure.is_lasting();
+    Failed {
+        ended: failure.ended(),
+        status: if is_final {
+            final_status(&line.options)
+        } else {
+            1
+        },
+        is_marked: is_server && line.options.get_flag(LOG_PRIORITY),
+    }
+}
+
+/// The status of a failure that a server meets again when it is started again: 1, unless the words
+/// name another.
+fn final_status(words: &ArgMatches<'_>) -> u8
+    ensures { IsNumberOf (found_of words.now) (codes "final-status") 8 1 result }
+{
+    words.get_one::<u8>(FINAL_STATUS).unwrap_or(1)
 }
 
 /// Does what a command line asks for, by its command; `is_terminal` says that the input and the

@@ -9,7 +9,7 @@ ghost use Rattle.cli_program.specs.Options.{IsRosterOf, limit_of, bound_of};
 use clap::ArgMatches;
 use cli_commands::{cores_in, key_in, u32_in};
 use cli_lines::Failure;
-use cli_words::{FUTURE, GRACE, IDLE, LOOKUP_SEATS, PEER_SESSIONS, PURGE, SESSIONS, SPARE};
+use cli_words::{FUTURE, GRACE, IDLE, LEAVE, LOOKUP_SEATS, PEER_SESSIONS, PURGE, SESSIONS, SPARE};
 use path_server::Options;
 use seg_lookup::Roster;
 use std::alloc::Global;
@@ -17,9 +17,6 @@ use std::time::Duration;
 
 /// The number of seconds that a peer may be silent where no option names it.
 const IDLE_SECONDS: u32 = 300;
-
-/// The number of seats that commands under way leave to others where no option names it.
-const SPARE_SEATS: u32 = 8;
 
 /// The number of seats for sessions that only look up where no option names it.
 const LOOKUP_SEATS_LEFT_OUT: u32 = 16;
@@ -36,9 +33,11 @@ pub(crate) fn options_of<'a>(alloc: Global, words: &ArgMatches<'a>) -> Result<Op
     ensures peers { IfOk result (λ options. IsNumberOf (found_of words.now) (codes "peer-sessions") 64 0 options.peer_sessions) }
     ensures idle { IfOk result (λ options. (count : ℕ) × IsNumberOf (found_of words.now) (codes "idle") 32 300 count
         × (option_map as_nanos options.idle ≡ limit_of count)) }
+    ensures leave { IfOk result (λ options. (count : ℕ) × IsNumberOf (found_of words.now) (codes "leave") 32 0 count
+        × (option_map as_nanos options.leave ≡ limit_of count)) }
     ensures future { IfOk result (λ options. (count : ℕ) × IsNumberOf (found_of words.now) (codes "future") 32 0 count
         × (options.future ≡ bound_of count)) }
-    ensures spare { IfOk result (λ options. IsNumberOf (found_of words.now) (codes "spare") 32 8 options.spare) }
+    ensures spare { IfOk result (λ options. IsNumberOf (found_of words.now) (codes "spare") 32 0 options.spare) }
     ensures lookups { IfOk result (λ options. IsNumberOf (found_of words.now) (codes "lookup-seats") 32 16 options.lookup_seats) }
     ensures purge { IfOk result (λ options. (count : ℕ) × IsNumberOf (found_of words.now) (codes "purge") 32 0 count
         × (option_map as_nanos options.purge ≡ limit_of count)) }
@@ -53,8 +52,9 @@ pub(crate) fn options_of<'a>(alloc: Global, words: &ArgMatches<'a>) -> Result<Op
         sessions: u64_in(words, SESSIONS),
         peer_sessions: u64_in(words, PEER_SESSIONS),
         idle: limit(u32_in(words, IDLE, IDLE_SECONDS)),
+        leave: limit(u32_in(words, LEAVE, 0)),
         future: bound(u32_in(words, FUTURE, 0)),
-        spare: u64::from(u32_in(words, SPARE, SPARE_SEATS)),
+        spare: u64::from(u32_in(words, SPARE, 0)),
         lookup_seats: u64::from(u32_in(words, LOOKUP_SEATS, LOOKUP_SEATS_LEFT_OUT)),
         purge: limit(u32_in(words, PURGE, 0)),
         grace: seconds(u32_in(words, GRACE, GRACE_SECONDS)),

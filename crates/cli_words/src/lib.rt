@@ -82,6 +82,15 @@ pub const FUTURE: &str = "future";
 /// The name of its option with the number of seats that commands under way leave to others.
 pub const SPARE: &str = "spare";
 
+/// The name of its flag by which lists are answered.
+pub const LISTS: &str = "lists";
+
+/// The name of its option with the seconds for which a peer that has ended its side is awaited.
+pub const LEAVE: &str = "leave";
+
+/// The name of its option with the status of a failure that a server meets again.
+pub const FINAL_STATUS: &str = "final-status";
+
 /// The name of its option with the seconds from one purge of the server's own to the next, and of
 /// the request that drops what has expired.
 pub const PURGE: &str = "purge";
@@ -444,16 +453,19 @@ fn with_limits<'a>(
         "Refuse a session of an address that has this number open; 0 is no bound [default: 0]";
     let idle =
         "End a session whose peer is silent for this number of seconds; 0 is no end [default: 300]";
+    let leave =
+        "Await commits for this number of seconds once the peer has ended its side; 0 is no end [default: 0]";
     let command = with_arg(command, RUN, number(option(alloc, SESSIONS, "N", sessions)));
     let command = with_arg(
         command,
         RUN,
         number(option(alloc, PEER_SESSIONS, "N", peers)),
     );
-    with_arg(command, RUN, seconds(alloc, IDLE, idle))
+    let command = with_arg(command, RUN, seconds(alloc, IDLE, idle));
+    with_arg(command, RUN, seconds(alloc, LEAVE, leave))
 }
 
-/// Gives the command that serves sessions the options for what it refuses of commands.
+/// Gives the command that serves sessions the options for what it refuses.
 fn with_refusals<'a>(
     alloc: Global,
     command: Result<Command<'a>, AllocError>,
@@ -464,14 +476,16 @@ fn with_refusals<'a>(
     let future =
         "Refuse a time more than this number of seconds after now; 0 is no bound [default: 0]";
     let spare =
-        "Keep this number of the 64 seats for sessions without commands under way, 0 to 56 [default: 8]";
+        "Keep this number of the 64 seats for sessions without commands under way, 0 to 56 [default: 0]";
     let command = with_arg(command, RUN, seconds(alloc, FUTURE, future));
     let spare = within(
         option(alloc, SPARE, "SEATS", spare),
         0,
         MOST_LOOKUP_SEATS as i64,
     );
-    with_arg(command, RUN, spare)
+    let command = with_arg(command, RUN, spare);
+    let lists = "Answer lists of segments; without it a list ends its session";
+    with_arg(command, RUN, flag(alloc, LISTS, lists))
 }
 
 /// Gives the command that serves sessions the option for its own purges.
@@ -499,10 +513,12 @@ fn with_end<'a>(
     let grace = "The seconds that open sessions have at such an end [default: 10]";
     let quiet = "Print nothing on standard error but why the program ends";
     let priority = "Begin each line on standard error with its priority, as <3>, for a journal";
+    let status = "The status of a failure that a restart would not mend, 1 to 255 [default: 1]";
     let command = with_arg(command, RUN, flag(alloc, STOP_ON_END_OF_INPUT, stop));
     let command = with_arg(command, RUN, seconds(alloc, GRACE, grace));
     let command = with_arg(command, RUN, flag(alloc, QUIET, quiet));
-    with_arg(command, RUN, flag(alloc, LOG_PRIORITY, priority))
+    let command = with_arg(command, RUN, flag(alloc, LOG_PRIORITY, priority));
+    with_arg(command, RUN, final_status_option(alloc, status))
 }
 
 /// The command that asks a server.
@@ -621,6 +637,11 @@ fn seconds<'a>(alloc: Global, name: &'static str, help: &'static str) -> Arg<'a>
 /// An option whose value is a number of this range.
 fn within<'a>(option: Arg<'a>, least: i64, most: i64) -> Arg<'a> {
     option.value_parser(value_parser!(u32).range(least..=most))
+}
+
+/// The option with the status of a failure that a server meets again.
+fn final_status_option<'a>(alloc: Global, help: &'static str) -> Arg<'a> {
+    option(alloc, FINAL_STATUS, "N", help).value_parser(value_parser!(u8).range(1..))
 }
 
 /// The option with the sectors of a checkpoint area.

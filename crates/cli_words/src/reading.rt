@@ -12,8 +12,8 @@ ghost use Rattle.cli_words.specs.Requests.{request_name, word_count, HasRequest}
 use crate::command_line::{CommandLine, Subcommand, command_line};
 use crate::request::Request;
 use crate::{
-    AT_ONCE, CHECKPOINT, FUTURE, GRACE, IDLE, JOURNAL, LOOKUP_SEATS, NOW, PEER_SESSIONS, PURGE,
-    REQUEST, ROWS, SESSIONS, SPARE, TIMEOUT, WORDS, command,
+    AT_ONCE, CHECKPOINT, FINAL_STATUS, FUTURE, GRACE, IDLE, JOURNAL, LEAVE, LOOKUP_SEATS, NOW,
+    PEER_SESSIONS, PURGE, REQUEST, ROWS, SESSIONS, SPARE, TIMEOUT, WORDS, command,
 };
 use clap::error::ErrorKind;
 use clap::{ArgMatches, Command, Error};
@@ -124,11 +124,13 @@ fn check_numbers(
     check_number(alloc, command, options, SESSIONS)?;
     check_number(alloc, command, options, PEER_SESSIONS)?;
     check_number(alloc, command, options, IDLE)?;
+    check_number(alloc, command, options, LEAVE)?;
     check_number(alloc, command, options, FUTURE)?;
     check_number(alloc, command, options, SPARE)?;
     check_number(alloc, command, options, LOOKUP_SEATS)?;
     check_number(alloc, command, options, PURGE)?;
     check_number(alloc, command, options, GRACE)?;
+    check_number(alloc, command, options, FINAL_STATUS)?;
     check_number(alloc, command, options, TIMEOUT)
 }
 

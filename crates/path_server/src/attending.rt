@@ -47,7 +47,7 @@ impl<L: Listener + Drop, V: Verifier, O: Reports> Server<'_, L, V, O> {
         };
         let input = SystemStream::new(&peer.stream);
         let output = SystemStream::new(&peer.stream);
-        let waiter = PeerSocket::new(rt, &peer.stream);
+        let waiter = PeerSocket::new(rt, &peer.stream, self.options.leave);
         match self.serve(hub, sender, role, waiter, input, output) {
             Some((ended, claims, look)) => {
                 hub.keep_acknowledged(claims);

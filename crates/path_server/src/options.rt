@@ -18,6 +18,9 @@ pub struct Options {
     /// How long a session waits for its peer, or `None` for no limit: for the first byte of a
     /// frame, for the rest of the frame, and until the peer has taken a reply.
     pub idle: Option<Duration>,
+    /// How long commits are awaited for a peer that has ended its side of the connection, or `None`
+    /// for no limit. A peer that has closed its connection cannot be distinguished from it.
+    pub leave: Option<Duration>,
     /// The seconds by which the timestamp of a segment that is registered, and the moment of a
     /// purge, may lie after now, or `None` for no bound.
     pub future: Option<u64>,

@@ -1,6 +1,6 @@
 //! Whether the peer of a session has left, by its socket.
 
-ghost use Rattle.std.specs.Prelude.{◌≡◌, false};
+ghost use Rattle.std.specs.Prelude.{◌≡◌, false, None};
 
 use hub_claims::Waiter;
 use libc::net::{POLLERR, POLLHUP, POLLNVAL, POLLRDHUP, poll};
@@ -10,18 +10,17 @@ use std::net::TcpStream;
 use std::os::fd::AsRawFd;
 use std::time::{Clock, Duration};
 
-/// The time in milliseconds for which a peer that has ended its side is taken to wait for replies.
-/// A peer may end its side once it has sent its requests, and a peer that closes its connection
-/// cannot be distinguished from it before something is written.
-const ENDED_SIDE: u64 = 1_000;
-
 /// The peer of a session, who waits for replies. It has left once its connection is reset or is
-/// ended on both sides, and once it has ended its own side and a second has gone by in which no
-/// command of it was answered.
+/// ended on both sides. Where there is a limit, it has also left once it has ended its own side and
+/// this time has gone by in which no command of it was answered. A peer may end its side once it has
+/// sent its requests, and a peer that closes its connection cannot be distinguished from it before
+/// something is written.
 #[derive(Drop)]
 pub(crate) struct PeerSocket<'a, K: Clock> {
     clock: &'a K,
     stream: &'a TcpStream,
+    /// How long a peer that has ended its side is awaited, or `None` for no limit.
+    limit: Option<Duration>,
     /// When a peer that has ended its side is taken to have left.
     deadline: Option<Deadline>,
     has_left: bool,
@@ -40,12 +39,18 @@ enum Side {
 
 impl<'a, K: Clock> PeerSocket<'a, K> {
     /// The peer of a connection, who has not left.
-    pub(crate) fn new(clock: &'a K, stream: &'a TcpStream) -> PeerSocket<'a, K>
-        ensures { result.has_left ≡ false }
+    pub(crate) fn new(
+        clock: &'a K,
+        stream: &'a TcpStream,
+        limit: Option<Duration>,
+    ) -> PeerSocket<'a, K>
+        ensures present { result.has_left ≡ false }
+        ensures limit { result.limit ≡ limit }
     {
         PeerSocket {
             clock,
             stream,
+            limit,
             deadline: None,
             has_left: false,
         }
@@ -60,14 +65,18 @@ impl<'a, K: Clock> PeerSocket<'a, K> {
         }
     }
 
-    /// Whether a peer that has ended its side has waited for a second. The time begins with the
+    /// Whether a peer that has ended its side has waited for the limit. The time begins with the
     /// first call after an answer.
-    fn is_late(&mut self) -> bool {
+    fn is_late(&mut self) -> bool
+        ensures { self.old.limit ≡ None → result ≡ false }
+    {
+        let Some(limit) = self.limit else {
+            return false;
+        };
         match self.deadline {
             Some(deadline) => deadline.left(self.clock).is_none(),
             None => {
-                let time = Duration::from_millis(ENDED_SIDE);
-                self.deadline = Deadline::after(self.clock, time).ok();
+                self.deadline = Deadline::after(self.clock, limit).ok();
                 false
             }
         }

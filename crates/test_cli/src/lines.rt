@@ -88,15 +88,15 @@ fn lines_of_files_that_fail(rt: HostRuntime) {
     }
 }
 
-// A server that is started again fails in the same way.
+// The status of a failure is that which the words name for it.
 #[test]
-fn status_of_what_lasts(rt: HostRuntime) {
+fn status_of_a_failure(rt: HostRuntime) {
     let failed = Failed {
         ended: Ended::from(StoreFault::Open(OpenError::NotAStore)),
-        is_lasting: true,
+        status: 9,
         is_marked: false,
     };
-    assert_eq!(rt; status_of(&Err(failed)), 3);
+    assert_eq!(rt; status_of(&Err(failed)), 9);
 }
 
 #[test]

@@ -5,10 +5,11 @@ use crate::checks::assert_same;
 use clap::ArgMatches;
 use clap::error::ErrorKind;
 use cli_words::{
-    ASK, AT_ONCE, CHECKPOINT, CORES, CommandLine, DEVICE, FORCE, FORMAT, FUTURE, GRACE, HEX, IDLE,
-    JOURNAL, JSON, KEY, LAYOUT, LISTEN, LOG_PRIORITY, LOOKUP_SEATS, LOOKUPS, NEW, NOW, ONCE,
-    PEER_SESSIONS, PURGE, QUIET, REQUEST, RESERVE, RUN, SERVER, SESSIONS, SHOW, SPARE, STATUS,
-    STATUS_LISTEN, STOP_ON_END_OF_INPUT, Subcommand, TIMEOUT, UPGRADE, WORDS, read,
+    ASK, AT_ONCE, CHECKPOINT, CORES, CommandLine, DEVICE, FINAL_STATUS, FORCE, FORMAT, FUTURE,
+    GRACE, HEX, IDLE, JOURNAL, JSON, KEY, LAYOUT, LEAVE, LISTEN, LISTS, LOG_PRIORITY, LOOKUP_SEATS,
+    LOOKUPS, NEW, NOW, ONCE, PEER_SESSIONS, PURGE, QUIET, REQUEST, RESERVE, RUN, SERVER, SESSIONS,
+    SHOW, SPARE, STATUS, STATUS_LISTEN, STOP_ON_END_OF_INPUT, Subcommand, TIMEOUT, UPGRADE, WORDS,
+    read,
 };
 use std::alloc::Global;
 use std::process::Abort;
@@ -58,7 +59,7 @@ struct Value {
 const ALL_OF_ONCE: &str = "once --cores 1-1,2-2 --now 5 --key 00ff --hex";
 
 const ALL_OF_RUN: &str =
-    "run --quiet --grace 4294967295 --stop-on-end-of-input --peer-sessions 18446744073709551615 --idle 4294967295 --future 4294967295 --spare 56 --purge 4294967295 --lookup-seats 56 --lookups [::1]:2 --log-priority --sessions 18446744073709551615 --key 00 --cores 1-1 --status [::1]:1 --listen [::1]:0 d";
+    "run --quiet --grace 4294967295 --stop-on-end-of-input --peer-sessions 18446744073709551615 --idle 4294967295 --leave 4294967295 --final-status 255 --future 4294967295 --spare 56 --lists --purge 4294967295 --lookup-seats 56 --lookups [::1]:2 --log-priority --sessions 18446744073709551615 --key 00 --cores 1-1 --status [::1]:1 --listen [::1]:0 d";
 
 const ALL_OF_ASK: &str = "ask --timeout 4294967295 a list up --json 1-0 0-0";
 
@@ -86,6 +87,8 @@ const VALUES: &[Value] = &[
     Value { line: ALL_OF_RUN, command: RUN, option: STATUS_LISTEN, value: Some("[::1]:1") },
     Value { line: ALL_OF_RUN, command: RUN, option: SESSIONS, value: Some("18446744073709551615") },
     Value { line: ALL_OF_RUN, command: RUN, option: IDLE, value: Some("4294967295") },
+    Value { line: ALL_OF_RUN, command: RUN, option: LEAVE, value: Some("4294967295") },
+    Value { line: ALL_OF_RUN, command: RUN, option: FINAL_STATUS, value: Some("255") },
     Value { line: ALL_OF_RUN, command: RUN, option: PEER_SESSIONS, value: Some("18446744073709551615") },
     Value { line: ALL_OF_RUN, command: RUN, option: GRACE, value: Some("4294967295") },
     Value { line: ALL_OF_RUN, command: RUN, option: FUTURE, value: Some("4294967295") },
@@ -101,6 +104,8 @@ const VALUES: &[Value] = &[
     Value { line: "run d --listen a", command: RUN, option: STATUS_LISTEN, value: None },
     Value { line: "run d --listen a", command: RUN, option: SESSIONS, value: None },
     Value { line: "run d --listen a", command: RUN, option: IDLE, value: None },
+    Value { line: "run d --listen a", command: RUN, option: LEAVE, value: None },
+    Value { line: "run d --listen a", command: RUN, option: FINAL_STATUS, value: None },
     Value { line: "run d --listen a", command: RUN, option: PEER_SESSIONS, value: None },
     Value { line: "run d --listen a", command: RUN, option: GRACE, value: None },
     Value { line: "run d --listen a", command: RUN, option: FUTURE, value: None },
@@ -168,6 +173,8 @@ const FLAGS: &[Flag] = &[
     Flag { line: ALL_OF_RUN, command: RUN, flag: QUIET, is_given: true },
     Flag { line: "run d --listen a", command: RUN, flag: LOG_PRIORITY, is_given: false },
     Flag { line: ALL_OF_RUN, command: RUN, flag: LOG_PRIORITY, is_given: true },
+    Flag { line: "run d --listen a", command: RUN, flag: LISTS, is_given: false },
+    Flag { line: ALL_OF_RUN, command: RUN, flag: LISTS, is_given: true },
     Flag { line: "run d --listen a", command: RUN, flag: STOP_ON_END_OF_INPUT, is_given: false },
     Flag { line: ALL_OF_RUN, command: RUN, flag: STOP_ON_END_OF_INPUT, is_given: true },
 ];
@@ -224,6 +231,11 @@ const REFUSED: &[(&str, ErrorKind)] = &[
     ("run d --listen a --sessions 18446744073709551616", ErrorKind::ValueValidation),
     ("run d --listen a --idle 4294967296", ErrorKind::ValueValidation),
     ("run d --listen a --idle +1", ErrorKind::ValueValidation),
+    ("run d --listen a --leave 4294967296", ErrorKind::ValueValidation),
+    ("run d --listen a --leave +1", ErrorKind::ValueValidation),
+    ("run d --listen a --final-status 0", ErrorKind::ValueValidation),
+    ("run d --listen a --final-status 256", ErrorKind::ValueValidation),
+    ("run d --listen a --final-status +3", ErrorKind::ValueValidation),
     ("run d --listen a --peer-sessions +1", ErrorKind::ValueValidation),
     ("run d --listen a --grace +1", ErrorKind::ValueValidation),
     ("run d --listen a --grace 4294967296", ErrorKind::ValueValidation),

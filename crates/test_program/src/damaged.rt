@@ -25,6 +25,7 @@ const PARTS: &[Part] = &[
             ("pathd status damaged", &[]),
             ("pathd upgrade damaged", &[]),
             ("pathd run damaged --listen 127.0.0.1:0", &[]),
+            ("pathd run damaged --listen localhost --final-status 3", &[]),
         ],
     },
     Part {

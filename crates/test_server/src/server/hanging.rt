@@ -9,6 +9,7 @@ use crate::server::worlds::{Clients, Others, Outside, assert_served, options};
 use std::alloc::Global;
 use std::io;
 use std::net::SocketAddr;
+use std::time::Duration;
 
 /// How many of the 64 seats are for sessions without commands under way.
 const SPARE: u64 = 8;
@@ -19,8 +20,11 @@ const ROOMS: usize = 56;
 /// What is replied to a command for which there is no room.
 const BUSY: &str = "00000002ff51";
 
-/// What is replied to a peer who has ended its side, and whose command is not committed within a
-/// second.
+/// How long a peer is awaited that has ended its side, in seconds.
+const LEAVE: u64 = 1;
+
+/// What is replied to a peer who has ended its side, and whose command is not committed within that
+/// time.
 const NOT_AWAITED: &str = "00000002ff63";
 
 /// A registration whose sync is held once it is sent, in a session that stays open.
@@ -109,6 +113,7 @@ fn seats_are_given_back_while_the_device_hangs(rt: HostRuntime) {
     let door = Door::new();
     let mut options = options(&rt, rt.alloc(), 0);
     options.spare = SPARE;
+    options.leave = Some(Duration::from_secs(LEAVE));
     let clients = GivingUp { door: &door };
     let others = Others::none();
     let left = (1, 2 + ROUNDS * PEERS);
@@ -119,10 +124,14 @@ fn seats_are_given_back_while_the_device_hangs(rt: HostRuntime) {
     assert_same(&rt, &last, &[true; 3], &"the last replies");
 }
 
-/// Has one more session send a command than have room, while a sync is held.
+/// Has sessions send a command each while a sync is held, and then others look up.
 #[derive(Drop)]
 struct Waiting<'a> {
     door: &'a Door,
+    /// How many send a command.
+    purging: usize,
+    /// How many look up.
+    looking: u64,
 }
 
 /// The first bytes of the acknowledgement of a purge, and its length in digits.
@@ -181,10 +190,15 @@ fn add_purging<R: Outside>(
     Ok(())
 }
 
-/// Peers that have sent a purge each, one more than have room.
-fn purging_peers<R: Outside>(rt: R, alloc: Global, to: SocketAddr) -> io::Result<Vec<Peer>> {
+/// This number of peers that have sent a purge each.
+fn purging_peers<R: Outside>(
+    rt: R,
+    alloc: Global,
+    to: SocketAddr,
+    count: usize,
+) -> io::Result<Vec<Peer>> {
     let mut peers = Vec::new(alloc);
-    for _ in 0..ROOMS {
+    for _ in 0..count {
         add_purging(rt, alloc, to, &mut peers)?;
     }
     Ok(peers)
@@ -196,10 +210,10 @@ fn finds_nothing<R: Outside>(rt: R, alloc: Global, to: SocketAddr) -> io::Result
     peer.asks(LOOKUP, NOTHING)
 }
 
-/// Whether as many sessions as have spare seats look up, one after the other.
-fn are_answered<R: Outside>(rt: R, alloc: Global, to: SocketAddr) -> io::Result<bool> {
+/// Whether this number of sessions look up, one after the other.
+fn are_answered<R: Outside>(rt: R, alloc: Global, to: SocketAddr, count: u64) -> io::Result<bool> {
     let mut are_answered = true;
-    for _ in 0..SPARE {
+    for _ in 0..count {
         are_answered &= finds_nothing(rt, alloc, to)?;
     }
     Ok(are_answered)
@@ -215,9 +229,9 @@ impl Clients for Waiting<'_> {
         to: SocketAddr,
     ) -> io::Result<([bool; 3], Outcomes)> {
         let (mut first, is_held) = hold(rt, alloc, to, self.door)?;
-        let peers = purging_peers(rt, alloc, to)?;
+        let peers = purging_peers(rt, alloc, to, self.purging)?;
         naps(&rt, WAIT);
-        let are_answered = are_answered(rt, alloc, to)?;
+        let are_answered = are_answered(rt, alloc, to, self.looking)?;
         self.door.open(&rt);
         let is_acknowledged = first.receives(REGISTERED)?;
         let outcomes = outcomes_of(peers)?;
@@ -230,7 +244,11 @@ fn spare_seats_have_no_commands_under_way(rt: HostRuntime) {
     let door = Door::new();
     let mut options = options(&rt, rt.alloc(), 0);
     options.spare = SPARE;
-    let clients = Waiting { door: &door };
+    let clients = Waiting {
+        door: &door,
+        purging: ROOMS,
+        looking: SPARE,
+    };
     let others = Others::none();
     let left = (1, ROOMS as u64);
     let (_served, seen) = serve_held(&rt, rt.alloc(), &door, others, &options, &clients, left);
@@ -239,6 +257,27 @@ fn spare_seats_have_no_commands_under_way(rt: HostRuntime) {
     let wanted = Outcomes {
         acknowledged: ROOMS - 1,
         busy: 1,
+    };
+    assert_same(&rt, &outcomes, &wanted, &"purges");
+}
+
+// All 64 sessions have a command under way, and each is acknowledged.
+#[test]
+fn all_seats_have_commands_under_way_where_none_is_spare(rt: HostRuntime) {
+    let door = Door::new();
+    let options = options(&rt, rt.alloc(), 0);
+    let clients = Waiting {
+        door: &door,
+        purging: 63,
+        looking: 0,
+    };
+    let others = Others::none();
+    let (_served, seen) = serve_held(&rt, rt.alloc(), &door, others, &options, &clients, (1, 64));
+    let (seen, outcomes) = seen.expect(&rt, "the clients meet the server");
+    assert_same(&rt, &seen, &[true; 3], &"held, answered and acknowledged");
+    let wanted = Outcomes {
+        acknowledged: 63,
+        busy: 0,
     };
     assert_same(&rt, &outcomes, &wanted, &"purges");
 }
@@ -281,11 +320,58 @@ impl Clients for Ending<'_> {
 #[test]
 fn a_peer_that_has_ended_its_side_is_not_awaited(rt: HostRuntime) {
     let door = Door::new();
-    let options = options(&rt, rt.alloc(), 2);
+    let mut options = options(&rt, rt.alloc(), 2);
+    options.leave = Some(Duration::from_secs(LEAVE));
     let clients = Ending { door: &door };
     let others = Others::none();
     let (served, seen) = serve_held(&rt, rt.alloc(), &door, others, &options, &clients, (1, 3));
     let (seen, given_up) = assert_served(&rt, served, seen, 2);
     assert_same(&rt, &seen, &[true; 3], &"held, acknowledged and next");
     assert_same(&rt, &given_up.as_str(), &NOT_AWAITED, &"given up");
+}
+
+/// A peer sends a command and ends its side while a sync is held for two seconds more.
+#[derive(Drop)]
+struct Staying<'a> {
+    door: &'a Door,
+}
+
+/// How long the sync is held, in naps: two seconds.
+const HELD: u64 = 400;
+
+/// The acknowledgement of a purge at the place 1.
+const PURGED_NEXT: &str = "0000001983000000000000000100000000000000000000000000000000";
+
+impl Clients for Staying<'_> {
+    type Seen = ([bool; 2], String);
+
+    fn meet<R: Outside>(
+        &self,
+        rt: R,
+        alloc: Global,
+        to: SocketAddr,
+    ) -> io::Result<([bool; 2], String)> {
+        let (mut first, is_held) = hold(rt, alloc, to, self.door)?;
+        let mut second = Peer::connect(rt, alloc, to)?;
+        second.send(PURGE)?;
+        second.end_side()?;
+        naps(&rt, HELD);
+        self.door.open(&rt);
+        let is_acknowledged = first.receives(REGISTERED)?;
+        let awaited = second.receive()?;
+        Ok(([is_held, is_acknowledged], awaited))
+    }
+}
+
+// Without a limit the commit of a peer that has ended its side is awaited, and acknowledged.
+#[test]
+fn a_peer_that_has_ended_its_side_is_awaited(rt: HostRuntime) {
+    let door = Door::new();
+    let options = options(&rt, rt.alloc(), 2);
+    let clients = Staying { door: &door };
+    let others = Others::none();
+    let (served, seen) = serve_held(&rt, rt.alloc(), &door, others, &options, &clients, (1, 2));
+    let (seen, awaited) = assert_served(&rt, served, seen, 2);
+    assert_same(&rt, &seen, &[true; 2], &"held and acknowledged");
+    assert_same(&rt, &awaited.as_str(), &PURGED_NEXT, &"awaited");
 }

@@ -80,11 +80,15 @@ impl Peer {
         self.receives(reply)
     }
 
+    /// Sends no more.
+    pub(crate) fn end_side(&mut self) -> io::Result<()> {
+        self.stream.shutdown(Shutdown::Write)
+    }
+
     /// Sends no more, and receives all until the server ends the connection, as hexadecimal text.
-    pub(crate) fn end(self) -> io::Result<String> {
-        let mut stream = self.stream;
-        stream.shutdown(Shutdown::Write)?;
-        received(self.alloc, &mut stream)
+    pub(crate) fn end(mut self) -> io::Result<String> {
+        self.end_side()?;
+        self.receive()
     }
 
     /// Receives all until the server ends the connection, as hexadecimal text.

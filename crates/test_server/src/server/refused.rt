@@ -36,6 +36,7 @@ fn no_cores(alloc: Global) -> Options {
         sessions: 0,
         peer_sessions: 0,
         idle: None,
+        leave: None,
         future: None,
         spare: 0,
         lookup_seats: 0,

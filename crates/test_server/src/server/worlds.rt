@@ -150,6 +150,7 @@ pub(crate) fn options(rt: &impl Abort, alloc: Global, sessions: u64) -> Options 
         sessions,
         peer_sessions: 0,
         idle: Some(Duration::from_secs(10)),
+        leave: None,
         future: None,
         spare: 0,
         lookup_seats: 0,
