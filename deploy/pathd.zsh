@@ -74,13 +74,16 @@ _pathd() {
         '--sessions[end after this number of sessions]:N:' \
         '--peer-sessions[sessions that one address may have open]:N:' \
         '--idle[end a session whose peer is silent for so long]:SECONDS:' \
+        '--leave[how long commits are awaited once the peer has ended its side]:SECONDS:' \
         '--future[refuse a time more than so long after now]:SECONDS:' \
         '--spare[seats for sessions without commands under way]:SEATS:' \
+        '--lists[answer lists of segments]' \
         '--purge[drop expired segments each time after so long]:SECONDS:' \
         '--stop-on-end-of-input[end once standard input has ended]' \
         '--grace[how long open sessions have at such an end]:SECONDS:' \
         '--quiet[print only why the program ends]' \
         '--log-priority[begin each line with its priority]' \
+        '--final-status[the status of a failure that a restart would not mend]:N:' \
         '1:DEV:_files'
       ;;
     ask)
