@@ -31,7 +31,8 @@ CORE_A, CORE_B = 0x0001_FF00_0000_0110, 0x0002_0000_0000_FC00
 LEAVES = [0x0001_FF00_0000_0111 + n for n in range(4)]
 CORES = {CORE_A, CORE_B}
 LARGE = 3_000
-CORE_WORDS = ["--cores", "1-ff00:0:110,2-64512"]
+# The words of each server: its core ASes, and that it lists.
+RUN_WORDS = ["--cores", "1-ff00:0:110,2-64512", "--lists"]
 # How many requests sessions send before they read replies, at the most: one after the other.
 AHEAD = (1, 8, 32, 128, 2, 64)
 # Lookups of each kind, with wildcards among them.
@@ -164,7 +165,7 @@ class Server(Process):
         under: Sequence[str] = (),
         port: int = 0,
     ) -> None:
-        command = [*under, program, "run", str(store), "--listen", f"127.0.0.1:{port}", *CORE_WORDS, *words]
+        command = [*under, program, "run", str(store), "--listen", f"127.0.0.1:{port}", *RUN_WORDS, *words]
         if limits:
             command = ["bash", "-c", f'{limits} && exec "$@"', "bash", *command]
         super().__init__(command, notices or Path(f"{store}.notices"), env)

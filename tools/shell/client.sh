@@ -46,7 +46,7 @@ compare() { # a text with what is printed by these options
 start() { # a server of a file, with these options; sets `address`
   : >"$work/ready"
   : >"$work/notices"
-  "$program" run "$work/store" --listen 127.0.0.1:0 --cores "$cores" "$@" >"$work/ready" 2>"$work/notices" &
+  "$program" run "$work/store" --listen 127.0.0.1:0 --cores "$cores" --lists "$@" >"$work/ready" 2>"$work/notices" &
   server=$!
   for _ in $(seq 200); do
     grep -qx ready "$work/ready" && grep -q "^pathd: serves " "$work/notices" && break

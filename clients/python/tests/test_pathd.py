@@ -52,7 +52,7 @@ class Server:
     def start(self) -> None:
         """Starts the program, at the port that it had before."""
         notices = Path(self._folder.name) / "notices"
-        words = ["run", self._store, "--listen", f"127.0.0.1:{self.port}", "--cores", CORES]
+        words = ["run", self._store, "--listen", f"127.0.0.1:{self.port}", "--cores", CORES, "--lists"]
         with notices.open("w", encoding="utf-8") as file:
             self._process = subprocess.Popen(
                 [PROGRAM, *words, *self._words], stdout=subprocess.DEVNULL, stderr=file

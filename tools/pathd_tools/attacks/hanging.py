@@ -57,7 +57,7 @@ from pathd_tools.attacks import histories, peers, soak
 from pathd_tools.attacks.histories import ACKS, NEVER, Asked
 from pathd_tools.attacks.leaving import AHEAD, AT_ONCE, LATEST, RESET, SOON, Client, Clock, give_up, look_up, settled
 
-WORDS = [*histories.WORDS, "--status", "127.0.0.1:0"]
+WORDS = [*histories.WORDS, "--status", "127.0.0.1:0", "--spare", "8", "--leave", "1"]
 # A backlog of some thousand commands fills several of its journals.
 LAYOUT = model.Layout(256, 1024)
 # The numbers by which tools/native/hanging_calls.c knows the calls that wait.

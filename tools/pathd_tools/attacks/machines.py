@@ -172,7 +172,7 @@ class Server:
     def __init__(self, program: str, machine: Machine) -> None:
         self.machine = machine
         self._notices = machine.folder / "notices"
-        words = machine.within(program, "run", str(STORE), "--listen", f"{machine.address}:0", *runs.CORE_WORDS)
+        words = machine.within(program, "run", str(STORE), "--listen", f"{machine.address}:0", *runs.RUN_WORDS)
         with open(self._notices, "wb") as lines:
             self.process = subprocess.Popen(words, stdin=subprocess.DEVNULL, stdout=subprocess.DEVNULL, stderr=lines)
         self.port = 0

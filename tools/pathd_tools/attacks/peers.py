@@ -379,7 +379,7 @@ def main(words: list[str]) -> int:
     faults: list[str] = []
     with runs.scratch() as folder:
         runs.format_store(program, folder / "store", LAYOUT)
-        with runs.Server(program, folder / "store", ["--idle", "60", "--spare", "0", "--status", "127.0.0.1:0"]) as server:
+        with runs.Server(program, folder / "store", ["--idle", "60", "--status", "127.0.0.1:0"]) as server:
             witness = Witness(server)
             witness.start()
             attack = Attack(server, witness, options.connections, options.seconds)

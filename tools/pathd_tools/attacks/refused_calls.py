@@ -97,11 +97,6 @@ def called(words: list[str], env: dict) -> tuple[int, bytes, bytes]:
 # Commands
 
 
-def statuses(command: str) -> set[int]:
-    """The statuses of a command that has failed: of a server also that of what a restart can't mend."""
-    return {1, 3} if command == "run" else {1}
-
-
 def try_command(program: str, store: Path, command: str, env: dict, kind: str, how: str, first: bytes | None) -> str:
     """Runs a command over a store, and answers what came of it."""
     words, made = [program, command, str(store)], store.with_name("made")
@@ -133,14 +128,14 @@ def try_command(program: str, store: Path, command: str, env: dict, kind: str, h
     if command == "copy":
         check_copy(program, store, made, first, before)
     if kind in BESIDE:
-        return ended_beside(program, store, command, before, (status, out, err), wanted)
+        return ended_beside(program, store, before, (status, out, err), wanted)
     lines = {"error: open 2", "error: device 1", "error: copy 5" if command == "copy" else "error: format 3"}
     if kind == "memory":
         lines = {"error: memory", *NO_PATH} if OF_PATH in err else {"error: memory"}
     if how == "ENOMEM":
         lines.add("error: memory")
     line = runs.last_line(err)
-    if status not in statuses(command) or not wanted[1].startswith(out) or line not in lines:
+    if status != 1 or not wanted[1].startswith(out) or line not in lines:
         raise Wrong(f"status {status}, {out!r}, {err!r}")
     if how in PASSING:
         raise Wrong(f"ends at an interrupted or shorter transfer: {err!r}")
@@ -163,11 +158,11 @@ def check_copy(program: str, store: Path, made: Path, first: bytes, before: tupl
         raise Wrong(f"the copy shows {shown}")
 
 
-def ended_beside(program: str, store: Path, command: str, before: tuple | None, ended: tuple[int, bytes, bytes], wanted: tuple[int, bytes, bytes]) -> str:
+def ended_beside(program: str, store: Path, before: tuple | None, ended: tuple[int, bytes, bytes], wanted: tuple[int, bytes, bytes]) -> str:
     """What came of a refused call that isn't one of the store's file, where it ended a command."""
     status, out, err = ended
     line = runs.last_line(err)
-    if status not in statuses(command) or not wanted[1].startswith(out) or not BESIDE_LINES.fullmatch(line):
+    if status != 1 or not wanted[1].startswith(out) or not BESIDE_LINES.fullmatch(line):
         raise Wrong(f"status {status}, {out!r}, {err!r}")
     if before and called([program, "show", str(store)], {}) != before:
         raise Wrong("what was there isn't shown any more")

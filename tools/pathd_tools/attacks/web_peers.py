@@ -363,7 +363,7 @@ def main(words: list[str]) -> int:
         print(f"{runs.commit_name(program)}, gateway {runs.sum_of(built)}, seed {options.seed}", flush=True)
         runs.format_store(program, folder / "store", peers.LAYOUT)
         listeners = ["--status", "127.0.0.1:0", "--lookups", "127.0.0.1:0", "--lookup-seats", str(LOOKUP_SEATS)]
-        with runs.Server(program, folder / "store", ["--idle", "60", "--spare", "0", *listeners]) as server:
+        with runs.Server(program, folder / "store", ["--idle", "60", *listeners]) as server:
             with Gateway(built, server, folder / "gateway.notices") as gateway:
                 faults = attack(server, gateway, options)
     for fault in faults[:10]:

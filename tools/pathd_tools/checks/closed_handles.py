@@ -73,7 +73,7 @@ def hold_session(process: subprocess.Popen, port: int) -> None:
 def outcome(program: str, words: list[str], store: Path, closed: tuple[int, ...]) -> tuple[int, bytes, bytes, bytes]:
     """Runs a command: its status, output and errors, and the bytes of the store then."""
     port = free_port() if words[0] == "run" else 0
-    listen = ["--listen", f"127.0.0.1:{port}", "--sessions", "1", *runs.CORE_WORDS] if port else []
+    listen = ["--listen", f"127.0.0.1:{port}", "--sessions", "1", *runs.RUN_WORDS] if port else []
     process = started([program, words[0], str(store), *words[1:], *listen], closed)
     try:
         if port:

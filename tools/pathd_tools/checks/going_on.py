@@ -45,7 +45,7 @@ def started(program: str, store: Path, words: list[str], **more) -> tuple[subpro
     with socket.socket() as free:
         free.bind(("127.0.0.1", 0))
         port = free.getsockname()[1]
-    command = [program, "run", str(store), "--listen", f"127.0.0.1:{port}", *runs.CORE_WORDS, *words]
+    command = [program, "run", str(store), "--listen", f"127.0.0.1:{port}", *runs.RUN_WORDS, *words]
     process = subprocess.Popen(command, stdin=subprocess.DEVNULL, stdout=subprocess.PIPE, **more)
     if process.stdout is None or process.stdout.readline() != b"ready\n":
         raise Wrong("the server is not ready")
