@@ -15,6 +15,7 @@ from __future__ import annotations
 import hashlib
 import os
 import shutil
+import signal
 import sys
 import threading
 import time
@@ -27,7 +28,7 @@ PROVED = TOP / "crates/pathd/out/pathd"
 # Some seconds of a processor that each stage of a build takes, and what it does.
 STAGES = {
     building.FRONT_END: (110, "the front end compiles the crates"),
-    building.LLVM: (60, "LLVM makes machine code"),
+    building.LLVM: (45, "LLVM makes machine code"),
     building.LINKER: (1, "the linker makes the program"),
 }
 # LLVM's level of optimization. A greater one takes a minute more.
@@ -139,6 +140,11 @@ def main(words: list[str]) -> int:
     parser.add_argument("--once", action="store_true", help="end by itself")
     parser.add_argument("--program", metavar="PROGRAM", help="a built program")
     options = parser.parse_args(words)
-    program = options.program or program_of()
+    # What a build has started is ended with it.
+    signal.signal(signal.SIGTERM, lambda number, _: sys.exit(128 + number))
+    try:
+        program = options.program or program_of()
+    except KeyboardInterrupt:
+        return 128 + signal.SIGINT
     sys.stdout.flush()
     os.execv(sys.executable, [sys.executable, str(TOP / "deploy/try"), *(["--once"] if options.once else []), str(program)])
