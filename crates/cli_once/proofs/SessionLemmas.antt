@@ -5,6 +5,7 @@ use Rattle.std.specs.Io.KnownBytes.{Consumes, Appends, IsAtEnd}
 use Rattle.std.proofs.KnownBytes.{Consumes-nil, Consumes-trans}
 use Rattle.std.proofs.lemmas.List.{append-nil}
 use Rattle.std.proofs.lemmas.List.Folds.{flat_map-map}
+use Rattle.session_core.specs.declared.message_kinds.Kinds.TheVariants.{Base}
 use Rattle.session_core.specs.Frames.{MessageView, Rest, AreWholeFrames, AreFrames}
 use Rattle.session_core.specs.Reply.{ReplyView, reply_frame}
 use Rattle.session_core.specs.Service.{Exchange, messages_of, replies_of, AreAnswered}
@@ -40,8 +41,8 @@ read_all : (input read : List ℕ) (left : Option (List ℕ)) → Consumes (Some
 read_all input read None c end = absurd c
 read_all input read (Some rest) c end = c ∙ ap (λ (t : List ℕ). read ++ t) end ∙ append-nil read
 
-all_frames : (bytes rest : List ℕ) (messages : List MessageView) → AreWholeFrames bytes messages rest → rest ≡ [] → AreFrames bytes messages (Rest [])
-all_frames bytes rest messages framed none = record { rest = []; whole = subst (AreWholeFrames bytes messages) none framed; ends = (refl, nothing_is_partial) }
+all_frames : (bytes rest : List ℕ) (messages : List MessageView) → AreWholeFrames Base bytes messages rest → rest ≡ [] → AreFrames Base bytes messages (Rest [])
+all_frames bytes rest messages framed none = record { rest = []; whole = subst (AreWholeFrames Base bytes messages) none framed; ends = (refl, nothing_is_partial) }
 
 -- ---- a session
 
@@ -54,9 +55,9 @@ whole_session_of remaining turns start input output old new output_left count se
     let s = session.served in
     let read = subst (λ (o : Option (List ℕ)). Consumes o (remaining new) (concat s.pieces)) from (joined_reads remaining old s.pieces new s.read.made) in
     let all = read_all input (concat s.pieces) (remaining new) read s.ended.at_end in
-    let same = one_decoding_of (concat s.pieces) (messages_of s.exchanges) messages (Rest []) (Rest [])
+    let same = one_decoding_of Base (concat s.pieces) (messages_of s.exchanges) messages (Rest []) (Rest [])
     (all_frames (concat s.pieces) s.rest (messages_of s.exchanges) s.framed s.ended.whole)
-    (subst (λ (t : List ℕ). AreFrames t messages (Rest [])) all framed) in
+    (subst (λ (t : List ℕ). AreFrames Base t messages (Rest [])) all framed) in
     let replies = only_replies_of start s.exchanges session.left s.answered enough ∙ ap (replies_from start) same.0 in
     wrote output s.written output_left s.appended
     ∙ ap (λ (t : List ℕ). Some (output ++ t)) (s.told ∙ sym (flat_map-map reply_frame (λ (e : Exchange). e.reply) s.exchanges))

@@ -5,6 +5,7 @@ use Rattle.std.specs.Io.KnownBytes.{Appends}
 use Rattle.hex.specs.Hex.{decode_of}
 use Rattle.session_core.specs.declared.error.FrameError.{FrameError}
 use Rattle.session_core.specs.declared.error.FrameError.TheVariants as error
+use Rattle.session_core.specs.declared.message_kinds.Kinds.TheVariants.{Base}
 use Rattle.session_core.specs.Source.{AreReads}
 use Rattle.session_core.specs.Lines.{IsServedInLines}
 use Rattle.cli_once.specs.declared.error.SessionFault.{SessionFault}
@@ -46,10 +47,10 @@ abbrev pub answer_for : Result ℕ FrameError → Result ℕ SessionFault
 answer_for (Ok count) = Ok count
 answer_for (Err e) = Err (frame_fault e)
 
--- The messages of these bytes were answered in lines, from this start on.
+-- The messages of these bytes, none of which is a list, were answered in lines, from this start on.
 pub record AreAnsweredInLines (start : Served) (bytes : List ℕ) (output output_left : Option (List ℕ)) (outcome : Result ℕ FrameError) : Type 0 where
   pub left : Served
-  pub served : IsServedInLines Answers bytes start left output output_left outcome
+  pub served : IsServedInLines Base Answers bytes start left output output_left outcome
 
 -- The input is a text that encodes bytes, whose messages were answered in lines.
 pub record IsAnsweredText (start : Served) (text : List ℕ) (output output_left : Option (List ℕ)) (result : Result ℕ SessionFault) : Type 0 where

@@ -2,6 +2,7 @@
 use Rattle.std.specs.Prelude.{◌≡◌, ℕ, List, [], ◌∷◌, ◌++◌, Option, Some, Ok, Contains}
 use Rattle.std.specs.List.{flat_map}
 use Rattle.std.specs.Io.KnownBytes.{Consumes, IsAtEnd}
+use Rattle.session_core.specs.declared.message_kinds.Kinds.TheVariants.{Base}
 use Rattle.session_core.specs.Frames.{MessageView, Rest, AreFrames}
 use Rattle.session_core.specs.Reply.{ReplyView, Refused, reply_frame}
 use Rattle.session_core.specs.Service.{Exchange, messages_of, replies_of, AreAnswered}
@@ -30,5 +31,5 @@ abbrev pub WholeSession : {R : Type 0} → (R → Option (List ℕ)) → Type 0
 WholeSession {R} remaining =
     (turns : ℕ) (start : Served) (input output : List ℕ) (old new : R) (output_left : Option (List ℕ)) (count : ℕ)
     (session : IsSession (λ old bytes new. Consumes (remaining old) (remaining new) bytes) turns start old new (IsAtEnd (remaining new)) (Some output) output_left (Ok count))
-    → remaining old ≡ Some input → HasMemory session.served.exchanges → (messages : List MessageView) → AreFrames input messages (Rest [])
+    → remaining old ≡ Some input → HasMemory session.served.exchanges → (messages : List MessageView) → AreFrames Base input messages (Rest [])
     → output_left ≡ Some (output ++ flat_map reply_frame (replies_from start messages))

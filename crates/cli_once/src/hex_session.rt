@@ -8,7 +8,7 @@ use crate::hex_input::bytes_of;
 use crate::once_service::OnceService;
 use seg_check::Verifier;
 use seg_lookup::Roster;
-use session_core::{FrameError, Source, read_all, serve_in_lines};
+use session_core::{FrameError, Kinds, Source, read_all, serve_in_lines};
 use std::alloc::Global;
 use std::io::Write;
 
@@ -47,7 +47,7 @@ fn answer_in_lines<W: Write, V: Verifier>(
     let Ok(mut service) = OnceService::new(alloc, cores, checker, now) else {
         return Err(FrameError::NoMemory);
     };
-    let served = serve_in_lines(alloc, input, writer, &mut service);
+    let served = serve_in_lines(alloc, input, writer, &mut service, Kinds::Base);
     service.end();
     served
 }

@@ -6,11 +6,11 @@ ghost use Rattle.cli_once.specs.Session.{IsSession};
 use crate::once_service::OnceService;
 use seg_check::Verifier;
 use seg_lookup::Roster;
-use session_core::{FrameError, Source, serve};
+use session_core::{FrameError, Kinds, Source, serve};
 use std::alloc::Global;
 use std::io::Write;
 
-/// Answers the messages of one session, from no rows and place 0, in at most `turns` reads, and
+/// Answers the messages of one session, which has no lists, from no rows and place 0, in at most `turns` reads, and
 /// returns how many replies were written, capped at 2^64 - 1. Signatures are checked by `checker`,
 /// and `now`, in half seconds since 1970, is the moment at which segments are valid or not.
 pub fn once<R: Source, W: Write, V: Verifier>(
@@ -28,7 +28,7 @@ pub fn once<R: Source, W: Write, V: Verifier>(
     let Ok(mut service) = OnceService::new(alloc, cores, checker, now) else {
         return Err(FrameError::NoMemory);
     };
-    let served = serve(alloc, reader, writer, &mut service, turns);
+    let served = serve(alloc, reader, writer, &mut service, Kinds::Base, turns);
     service.end();
     served
 }

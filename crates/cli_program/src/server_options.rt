@@ -10,7 +10,7 @@ use clap::ArgMatches;
 use cli_commands::{cores_in, key_in, u32_in};
 use cli_lines::Failure;
 use cli_words::{FUTURE, GRACE, IDLE, LEAVE, LOOKUP_SEATS, PEER_SESSIONS, PURGE, SESSIONS, SPARE};
-use path_server::Options;
+use path_server::{Kinds, Options};
 use seg_lookup::Roster;
 use std::alloc::Global;
 use std::time::Duration;
@@ -29,6 +29,7 @@ const GRACE_SECONDS: u32 = 10;
 pub(crate) fn options_of<'a>(alloc: Global, words: &ArgMatches<'a>) -> Result<Options, Failure<'a>>
     ensures cores { IfOk result (λ options. IsRosterOf (first_value (found_of words.now) (codes "cores")) options.cores) }
     ensures key { IfOk result (λ options. IsKeyOf (first_value (found_of words.now) (codes "key")) options.key) }
+    ensures kinds { IfOk result (λ options. options.kinds ≡ Kinds.Base) }
     ensures sessions { IfOk result (λ options. IsNumberOf (found_of words.now) (codes "sessions") 64 0 options.sessions) }
     ensures peers { IfOk result (λ options. IsNumberOf (found_of words.now) (codes "peer-sessions") 64 0 options.peer_sessions) }
     ensures idle { IfOk result (λ options. (count : ℕ) × IsNumberOf (found_of words.now) (codes "idle") 32 300 count
@@ -49,6 +50,7 @@ pub(crate) fn options_of<'a>(alloc: Global, words: &ArgMatches<'a>) -> Result<Op
     Ok(Options {
         cores,
         key,
+        kinds: Kinds::Base,
         sessions: u64_in(words, SESSIONS),
         peer_sessions: u64_in(words, PEER_SESSIONS),
         idle: limit(u32_in(words, IDLE, IDLE_SECONDS)),

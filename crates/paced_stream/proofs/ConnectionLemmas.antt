@@ -5,6 +5,7 @@ use Rattle.std.specs.List.{FoldsTo}
 use Rattle.std.proofs.lemmas.List.{append-nil}
 use Rattle.session_core.specs.declared.error.FrameError.{FrameError}
 use Rattle.session_core.specs.declared.error.FrameError.TheVariants as error
+use Rattle.session_core.specs.declared.message_kinds.Kinds.{Kinds}
 use Rattle.session_core.specs.declared.source.TheConstants.{MOST_READS}
 use Rattle.session_core.specs.Frames.{MessageView}
 use Rattle.session_core.specs.HandedIn.{HandsInFromSource}
@@ -15,23 +16,23 @@ use Rattle.paced_stream.specs.Connection.{IsConnectionServed}
 
 -- ---- before the first read
 
-module _ {S T : Type 0} (answers : S → MessageView → ReplyView → S → Type 0) (given taken : T → List ℕ) (is_at_end : T → Type 0) where
+module _ {S T : Type 0} {kinds : Kinds} (answers : S → MessageView → ReplyView → S → Type 0) (given taken : T → List ℕ) (is_at_end : T → Type 0) where
   -- a session that has written nothing leaves nothing unsent
   connected : (s : S) (input output : T) (e : FrameError)
-      → IsServed answers (λ old bytes new. given new ≡ given old ++ bytes) MOST_READS s s input input (is_at_end input) (Some (taken output)) (Some (taken output)) (Err e)
-      → IsSentFor (◌≡◌ {A = List ℕ} [] []) (Err e) → IsConnectionServed answers given taken is_at_end s s input input output output (Err e)
+      → IsServed kinds answers (λ old bytes new. given new ≡ given old ++ bytes) MOST_READS s s input input (is_at_end input) (Some (taken output)) (Some (taken output)) (Err e)
+      → IsSentFor (◌≡◌ {A = List ℕ} [] []) (Err e) → IsConnectionServed kinds answers given taken is_at_end s s input input output output (Err e)
   connected s input output e served sent = record {
     unsent = [];
-    served = subst (λ (written : List ℕ). IsServed answers (λ old bytes new. given new ≡ given old ++ bytes) MOST_READS s s input input (is_at_end input) (Some (taken output)) (Some written) (Err e)) (sym (append-nil (taken output))) served;
+    served = subst (λ (written : List ℕ). IsServed kinds answers (λ old bytes new. given new ≡ given old ++ bytes) MOST_READS s s input input (is_at_end input) (Some (taken output)) (Some written) (Err e)) (sym (append-nil (taken output))) served;
     sent = sent;
   }
 
   -- the connection could not be set up
-  pub not_set_up : (s : S) (input output : T) → IsConnectionServed answers given taken is_at_end s s input input output output (Err error.Read)
+  pub not_set_up : (s : S) (input output : T) → IsConnectionServed kinds answers given taken is_at_end s s input input output output (Err error.Read)
   not_set_up s input output = connected s input output error.Read (fails_at_once answers _ MOST_READS s input (is_at_end input) (Some (taken output))) refl
 
   -- there is no memory for the buffer
-  pub without_buffer : (s : S) (input output : T) → IsConnectionServed answers given taken is_at_end s s input input output output (Err error.NoMemory)
+  pub without_buffer : (s : S) (input output : T) → IsConnectionServed kinds answers given taken is_at_end s s input input output output (Err error.NoMemory)
   without_buffer s input output = connected s input output error.NoMemory (ends_at_once answers _ MOST_READS s input (is_at_end input) (Some (taken output)) error.NoMemory refl) refl
 
 -- ---- a whole session
@@ -46,7 +47,7 @@ sent_through P Q (Err error.Read) f p = f p
 sent_through P Q (Err error.Write) f p = tt
 sent_through P Q (Err error.Turns) f p = f p
 
-module _ {S P T : Type 0} (answers : S → MessageView → ReplyView → S → Type 0) (given taken : T → List ℕ) (is_at_end : T → Type 0) (stream : P → T) where
+module _ {S P T : Type 0} (kinds : Kinds) (answers : S → MessageView → ReplyView → S → Type 0) (given taken : T → List ℕ) (is_at_end : T → Type 0) (stream : P → T) where
   -- reads of what reads the connection are reads of the connection
   reads_through : (old : P) (pieces : List (List ℕ)) (new : P)
       → FoldsTo (λ a bytes b. given (stream b) ≡ given (stream a) ++ bytes) old pieces new → FoldsTo (λ a bytes b. given b ≡ given a ++ bytes) (stream old) pieces (stream new)
@@ -55,11 +56,11 @@ module _ {S P T : Type 0} (answers : S → MessageView → ReplyView → S → T
 
   -- what was handed in from what reads the connection was handed in from the connection
   pub handed_in_through : {X : Type 0} (hands_in : X → MessageView → X → Type 0) (reader reader_left : P) (input input_left : T) (x y : X)
-      → HandsInFromSource hands_in (λ a bytes b. given (stream b) ≡ given (stream a) ++ bytes) MOST_READS reader reader_left x y → stream reader ≡ input → input_left ≡ stream reader_left
-      → HandsInFromSource hands_in (λ a bytes b. given b ≡ given a ++ bytes) MOST_READS input input_left x y
+      → HandsInFromSource kinds hands_in (λ a bytes b. given (stream b) ≡ given (stream a) ++ bytes) MOST_READS reader reader_left x y → stream reader ≡ input → input_left ≡ stream reader_left
+      → HandsInFromSource kinds hands_in (λ a bytes b. given b ≡ given a ++ bytes) MOST_READS input input_left x y
   handed_in_through hands_in reader reader_left input input_left x y h begins ends =
-      subst (λ (u : T). HandsInFromSource hands_in (λ a bytes b. given b ≡ given a ++ bytes) MOST_READS input u x y) (sym ends)
-      (subst (λ (u : T). HandsInFromSource hands_in (λ a bytes b. given b ≡ given a ++ bytes) MOST_READS u (stream reader_left) x y) begins (record {
+      subst (λ (u : T). HandsInFromSource kinds hands_in (λ a bytes b. given b ≡ given a ++ bytes) MOST_READS input u x y) (sym ends)
+      (subst (λ (u : T). HandsInFromSource kinds hands_in (λ a bytes b. given b ≡ given a ++ bytes) MOST_READS u (stream reader_left) x y) begins (record {
         pieces = h.pieces;
         read = record { made = reads_through reader h.pieces reader_left h.read.made; few = h.read.few; short = h.read.short };
         rest = h.rest;
@@ -67,10 +68,10 @@ module _ {S P T : Type 0} (answers : S → MessageView → ReplyView → S → T
       }))
 
   abbrev Over : S → S → T → T → List ℕ → List ℕ → Result ℕ FrameError → Type 0
-  Over s t input input_left written written_left result = IsServed answers (λ a bytes b. given b ≡ given a ++ bytes) MOST_READS s t input input_left (is_at_end input_left) (Some written) (Some written_left) result
+  Over s t input input_left written written_left result = IsServed kinds answers (λ a bytes b. given b ≡ given a ++ bytes) MOST_READS s t input input_left (is_at_end input_left) (Some written) (Some written_left) result
 
   over_stream : (s t : S) (reader reader_left : P) (written written_left : List ℕ) (result : Result ℕ FrameError)
-      → IsServed answers (λ a bytes b. given (stream b) ≡ given (stream a) ++ bytes) MOST_READS s t reader reader_left (is_at_end (stream reader_left)) (Some written) (Some written_left) result
+      → IsServed kinds answers (λ a bytes b. given (stream b) ≡ given (stream a) ++ bytes) MOST_READS s t reader reader_left (is_at_end (stream reader_left)) (Some written) (Some written_left) result
       → Over s t (stream reader) (stream reader_left) written written_left result
   over_stream s t reader reader_left written written_left result x = record {
     pieces = x.pieces;
@@ -90,10 +91,10 @@ module _ {S P T : Type 0} (answers : S → MessageView → ReplyView → S → T
   }
 
   pub served_through : (s t : S) (reader reader_left : P) (input input_left output output_left : T) (written written_left unsent : List ℕ) (Held : Type 0) (result : Result ℕ FrameError)
-      → IsServed answers (λ a bytes b. given (stream b) ≡ given (stream a) ++ bytes) MOST_READS s t reader reader_left (is_at_end (stream reader_left)) (Some written) (Some written_left) result
+      → IsServed kinds answers (λ a bytes b. given (stream b) ≡ given (stream a) ++ bytes) MOST_READS s t reader reader_left (is_at_end (stream reader_left)) (Some written) (Some written_left) result
       → IsSentFor Held result
       → stream reader ≡ input → input_left ≡ stream reader_left → written ≡ taken output → taken output_left ++ unsent ≡ written_left → (Held → unsent ≡ [])
-      → IsConnectionServed answers given taken is_at_end s t input input_left output output_left result
+      → IsConnectionServed kinds answers given taken is_at_end s t input input_left output output_left result
   served_through s t reader reader_left input input_left output output_left written written_left unsent Held result x sent begins ends first last none = record {
     unsent = unsent;
     sent = sent_through Held (unsent ≡ []) result none sent;

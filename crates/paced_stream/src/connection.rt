@@ -8,7 +8,7 @@ ghost use Rattle.paced_stream.specs.Connection.{IsConnectionServed};
 use crate::buffered::{BUFFER, Buffered};
 use crate::paced::Paced;
 use crate::stream_calls::StreamCalls;
-use session_core::{FrameError, MOST_READS, Service, serve};
+use session_core::{FrameError, Kinds, MOST_READS, Service, serve};
 use std::alloc::Global;
 use std::io;
 use std::time::{Clock, Duration};
@@ -26,8 +26,8 @@ pub struct Ended<T> {
     pub output: T,
 }
 
-/// Answers the messages of a connection, and returns the number of replies, a count that stays at
-/// 2^64 - 1. Replies are sent when all messages that have arrived are answered, or the buffer of
+/// Answers the messages of a connection, which are of these kinds, and returns the number of
+/// replies, a count that stays at 2^64 - 1. Replies are sent when all messages that have arrived are answered, or the buffer of
 /// 8,192 bytes is full. The session ends where a frame does not begin within the idle time, where its
 /// rest does not come within the idle time of the first read that waits for it, or where what is
 /// sent is not taken within it. The time in which messages are answered is in none of these.
@@ -40,11 +40,12 @@ pub fn serve_connection<C: Clock, T: StreamCalls, S: Service>(
     input: T,
     output: T,
     service: &mut S,
+    kinds: Kinds,
     idle: Option<Duration>,
 ) -> Ended<T>
-    ensures served { IsConnectionServed S.answers T.given T.taken T.is_at_end (S.state service.old) (S.state service.new)
+    ensures served { IsConnectionServed kinds S.answers T.given T.taken T.is_at_end (S.state service.old) (S.state service.new)
         input result.input output result.output result.replies }
-    ensures handed_in { HandsInFromSource S.hands_in (λ old bytes new. T.given new ≡ T.given old ++ bytes) MOST_READS input result.input
+    ensures handed_in { HandsInFromSource kinds S.hands_in (λ old bytes new. T.given new ≡ T.given old ++ bytes) MOST_READS input result.input
         (S.sent service.old) (S.sent service.new) }
 {
     if set_up(&input, &output, idle).is_err() {
@@ -65,7 +66,7 @@ pub fn serve_connection<C: Clock, T: StreamCalls, S: Service>(
     };
     let mut input = Paced::new(clock, input, idle);
     let mut output = Buffered::new(Paced::new(clock, output, idle), held);
-    let replies = serve(alloc, &mut input, &mut output, service, MOST_READS);
+    let replies = serve(alloc, &mut input, &mut output, service, kinds, MOST_READS);
     let output = output.into_paced();
     Ended {
         replies,

@@ -9,6 +9,7 @@ use Rattle.command_log.specs.declared.rule.Claim.{Claim}
 use Rattle.seg_check.specs.Signatures.{Verdicts}
 use Rattle.seg_lookup.specs.Roster.{RosterView}
 use Rattle.session_core.specs.declared.error.FrameError.{FrameError}
+use Rattle.session_core.specs.declared.message_kinds.Kinds.{Kinds}
 use Rattle.server_seats.specs.declared.role.Role.{Role}
 use Rattle.server_seats.specs.Roles.{takes_commands}
 use Rattle.hub_readers.specs.Sight.{Sight}
@@ -27,16 +28,16 @@ shares_room role shared = takes_commands role && shared
 abbrev pub limited_beginning : Option ℕ → Bool → Bool → Serving → LimitedView Serving
 limited_beginning future shares commands serving = record { future = future; shares = shares; commands = commands; moment = 0; inner = serving }
 
--- A limited service over a hub served a session over a connection. The hub opened with this value,
+-- A limited service over a hub served a session over a connection, of messages of these kinds. The hub opened with this value,
 -- and of its commands it is known for which reasons they were refused.
-pub record IsHubServed {T : Type 0} (opening : StoreValue (List RowView)) (refused : Command → Option SubmitError → Bool) (given taken : T → List ℕ) (is_at_end : T → Type 0) (future : Option ℕ) (shares commands : Bool) (roster : RosterView) (verifies : Verdicts) (left : Bool)
+pub record IsHubServed {T : Type 0} (kinds : Kinds) (opening : StoreValue (List RowView)) (refused : Command → Option SubmitError → Bool) (given taken : T → List ℕ) (is_at_end : T → Type 0) (future : Option ℕ) (shares commands : Bool) (roster : RosterView) (verifies : Verdicts) (left : Bool)
     (input input_left output output_left : T) (result : Result ℕ FrameError) (claims : List Claim) (look : List Command) : Type 0 where
   -- The reader by which the service began.
   pub reader : Sight
   -- The service after the last message.
   pub last : LimitedView Serving
   -- The messages that the connection gave, the replies to them, and the bytes that it took.
-  pub connection : IsConnectionServed (LimitedAnswers (HubAnswers opening refused)) given taken is_at_end
+  pub connection : IsConnectionServed kinds (LimitedAnswers (HubAnswers opening refused)) given taken is_at_end
       (limited_beginning future shares commands (beginning roster verifies reader left)) last input input_left output output_left result
   -- The claims are those of the acknowledgements among the replies: each is of its message's
   -- command, at its place.

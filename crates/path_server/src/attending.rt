@@ -74,7 +74,7 @@ impl<L: Listener + Drop, V: Verifier, O: Reports> Server<'_, L, V, O> {
         input: T,
         output: T,
     ) -> Option<(Ended<T>, LoggedList<N>, Look<N>)>
-        ensures served { IfSome result (λ served. IsHubServed N.opening N.refused T.given T.taken T.is_at_end
+        ensures served { IfSome result (λ served. IsHubServed self.now.options.now.kinds N.opening N.refused T.given T.taken T.is_at_end
             self.now.options.now.future (shares_room role (is_some self.now.rooms)) (takes_commands role)
             self.now.options.now.cores (V.verifies self.now.verifier.now) (P.has_left peer)
             input served.0.input output served.0.output served.0.replies served.1 served.2) }
@@ -88,8 +88,9 @@ impl<L: Listener + Drop, V: Verifier, O: Reports> Server<'_, L, V, O> {
         let limits = self.limits(role);
         let limited = Limited::new(service, SystemNow::new(rt), limits, rt);
         let mut counted = Counted::new(limited, &self.replies, rt);
+        let kinds = self.options.kinds;
         let idle = self.options.idle;
-        let ended = serve_connection(rt, self.alloc, input, output, &mut counted, idle);
+        let ended = serve_connection(rt, self.alloc, input, output, &mut counted, kinds, idle);
         let (reader, acknowledged, look) = counted.into_service().into_service().into_parts();
         hub.give_back(reader);
         Some((ended, acknowledged, look))

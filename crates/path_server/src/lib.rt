@@ -28,4 +28,5 @@ pub use error::RunError;
 pub use options::Options;
 pub use reports::{Report, Reports};
 pub use running::{System, serve_store};
+pub use session_core::Kinds;
 pub use status_page::Usage;

@@ -2,6 +2,7 @@
 
 use seg_check::Keyed;
 use seg_lookup::Roster;
+use session_core::Kinds;
 use std::time::Duration;
 
 /// How a server runs.
@@ -11,6 +12,8 @@ pub struct Options {
     pub cores: Roster,
     /// The key by which signatures are checked. Without a key, all signatures are trusted.
     pub key: Option<Keyed>,
+    /// Which kinds of messages sessions have.
+    pub kinds: Kinds,
     /// The number of sessions to start, or 0 for no limit.
     pub sessions: u64,
     /// The most sessions at one time with peers of one IP address, or 0 for no limit.

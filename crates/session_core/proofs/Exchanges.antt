@@ -8,6 +8,7 @@ use Rattle.std.specs.Io.KnownBytes.{Appends}
 use Rattle.std.proofs.KnownBytes.{Appends-nil, Appends-trans}
 use Rattle.session_core.specs.declared.error.FrameError.{FrameError}
 use Rattle.session_core.specs.declared.error.FrameError.TheVariants as error
+use Rattle.session_core.specs.declared.message_kinds.Kinds.{Kinds}
 use Rattle.session_core.specs.Frames.{MessageView, message_frame, AreWholeFrames}
 use Rattle.session_core.specs.Reply.{ReplyView, HasReplySize, told_as}
 use Rattle.session_core.specs.Service.{Exchange, messages_of, replies_of, all_told, AreAnswered}
@@ -40,17 +41,17 @@ told-append form es fs = flat_map-append (λ (e : Exchange). told_as form e.repl
 
 -- Messages at the front of the bytes were answered, the rest is left, and all replies were written
 -- and counted.
-pub record HasAnswered {S : Type 0} (form : Form) (answers : S → MessageView → ReplyView → S → Type 0) (old : S) (bytes : List ℕ) (new : S) (rest : List ℕ)
+pub record HasAnswered {S : Type 0} (kinds : Kinds) (form : Form) (answers : S → MessageView → ReplyView → S → Type 0) (old : S) (bytes : List ℕ) (new : S) (rest : List ℕ)
     (output output_left : Option (List ℕ)) (count sum : ℕ) : Type 0 where
   pub exchanges : List Exchange
-  pub framed : AreWholeFrames bytes (messages_of exchanges) rest
+  pub framed : AreWholeFrames kinds bytes (messages_of exchanges) rest
   pub answered : AreAnswered answers old exchanges new
   pub sized : AllByRecursion HasReplySize (replies_of exchanges)
   pub appended : Appends output output_left (all_told form exchanges)
   pub counted : sum ≡ min (count + length exchanges) (2 ^ 64 - 1)
 
-module _ {S : Type 0} (form : Form) (answers : S → MessageView → ReplyView → S → Type 0) where
-  pub answered_none : (s : S) (bytes : List ℕ) (o : Option (List ℕ)) (n : ℕ) → n < 2 ^ 64 → HasAnswered form answers s bytes s bytes o o n n
+module _ {kinds : Kinds} {S : Type 0} (form : Form) (answers : S → MessageView → ReplyView → S → Type 0) where
+  pub answered_none : (s : S) (bytes : List ℕ) (o : Option (List ℕ)) (n : ℕ) → n < 2 ^ 64 → HasAnswered kinds form answers s bytes s bytes o o n n
   answered_none s bytes o n fits = record {
     exchanges = [];
     framed = AreWholeFrames-none bytes;
@@ -61,8 +62,8 @@ module _ {S : Type 0} (form : Form) (answers : S → MessageView → ReplyView �
   }
 
   -- the next frame is faulty
-  pub stops_at_fault : (a b c : S) (bytes mid rest left : List ℕ) (o p : Option (List ℕ)) (n m : ℕ) (e : FrameError) → HasAnswered form answers a bytes b mid o p n m
-      → IsFaultAt mid e × IsUnanswered b mid c rest → AreFrontsAnswered form answers a bytes c left o p n (Err e)
+  pub stops_at_fault : (a b c : S) (bytes mid rest left : List ℕ) (o p : Option (List ℕ)) (n m : ℕ) (e : FrameError) → HasAnswered kinds form answers a bytes b mid o p n m
+      → IsFaultAt kinds mid e × IsUnanswered b mid c rest → AreFrontsAnswered kinds form answers a bytes c left o p n (Err e)
   stops_at_fault a b c bytes mid rest left o p n m error.Length h f = record {
     exchanges = h.exchanges;
     rest = mid;
@@ -95,22 +96,22 @@ module _ {S : Type 0} (form : Form) (answers : S → MessageView → ReplyView �
   stops_at_fault a b c bytes mid rest left o p n m error.Turns h f = absurd f.0
 
   -- the exchange of the first message
-  abbrev pub first_of : (a b : S) (bytes rest : List ℕ) (reply : ReplyView) → IsFirstAnswered answers a bytes reply b rest → Exchange
+  abbrev pub first_of : (a b : S) (bytes rest : List ℕ) (reply : ReplyView) → IsFirstAnswered kinds answers a bytes reply b rest → Exchange
   first_of a b bytes rest reply x = record { message = x.message; reply = reply }
 
-  first_framed : (a b : S) (bytes rest : List ℕ) (reply : ReplyView) (x : IsFirstAnswered answers a bytes reply b rest) → AreWholeFrames bytes (x.message ∷ []) rest
+  first_framed : (a b : S) (bytes rest : List ℕ) (reply : ReplyView) (x : IsFirstAnswered kinds answers a bytes reply b rest) → AreWholeFrames kinds bytes (x.message ∷ []) rest
   first_framed a b bytes rest reply x = record {
     joined = x.framed ∙ ap (λ (t : List ℕ). t ++ rest) (sym (append-nil (message_frame x.message)));
     sized = (x.fits, tt);
   }
 
   -- the messages answered before, and the first message after them
-  module _ (a b c : S) (bytes mid rest : List ℕ) (o p : Option (List ℕ)) (n m : ℕ) (reply : ReplyView) (h : HasAnswered form answers a bytes b mid o p n m) (x : IsFirstAnswered answers b mid reply c rest) where
+  module _ (a b c : S) (bytes mid rest : List ℕ) (o p : Option (List ℕ)) (n m : ℕ) (reply : ReplyView) (h : HasAnswered kinds form answers a bytes b mid o p n m) (x : IsFirstAnswered kinds answers b mid reply c rest) where
     abbrev pub more : List Exchange
     more = h.exchanges ++ first_of b c mid rest reply x ∷ []
 
-    more_framed : AreWholeFrames bytes (messages_of more) rest
-    more_framed = subst (λ (ms : List MessageView). AreWholeFrames bytes ms rest) (sym (messages-append h.exchanges (first_of b c mid rest reply x ∷ [])))
+    more_framed : AreWholeFrames kinds bytes (messages_of more) rest
+    more_framed = subst (λ (ms : List MessageView). AreWholeFrames kinds bytes ms rest) (sym (messages-append h.exchanges (first_of b c mid rest reply x ∷ [])))
         (AreWholeFrames-append (messages_of h.exchanges) (x.message ∷ []) bytes mid rest h.framed (first_framed b c mid rest reply x))
 
     more_answered : AreAnswered answers a more c
@@ -123,7 +124,7 @@ module _ {S : Type 0} (form : Form) (answers : S → MessageView → ReplyView �
     more_frames : all_told form more ≡ all_told form h.exchanges ++ told_as form reply
     more_frames = told-append form h.exchanges (first_of b c mid rest reply x ∷ []) ∙ ap (λ (t : List ℕ). all_told form h.exchanges ++ t) (append-nil (told_as form reply))
 
-    pub answered_next : (q : Option (List ℕ)) (k : ℕ) → Appends p q (told_as form reply) → k ≡ min (m + 1) (2 ^ 64 - 1) → HasAnswered form answers a bytes c rest o q n k
+    pub answered_next : (q : Option (List ℕ)) (k : ℕ) → Appends p q (told_as form reply) → k ≡ min (m + 1) (2 ^ 64 - 1) → HasAnswered kinds form answers a bytes c rest o q n k
     answered_next q k w is = record {
       exchanges = more;
       framed = more_framed;
@@ -134,7 +135,7 @@ module _ {S : Type 0} (form : Form) (answers : S → MessageView → ReplyView �
     }
 
     -- the reply was not written, or only a front of it
-    pub stops_at_write : (left : List ℕ) (q : Option (List ℕ)) (e : FrameError) (handed : List MessageView) → AreAhead handed rest → FailsToWrite p q (told_as form reply) e → AreFrontsAnswered form answers a bytes c left o q n (Err e)
+    pub stops_at_write : (left : List ℕ) (q : Option (List ℕ)) (e : FrameError) (handed : List MessageView) → AreAhead kinds handed rest → FailsToWrite p q (told_as form reply) e → AreFrontsAnswered kinds form answers a bytes c left o q n (Err e)
     stops_at_write left q error.Write handed after f = record {
       exchanges = more;
       rest = rest;

@@ -8,7 +8,9 @@ use Rattle.std.specs.Option.{IfSome}
 use Rattle.session_core.specs.declared.list_request.ListRequest.{ListRequest}
 use Rattle.session_core.specs.declared.message.Message.TheVariants.{Register, Lookup, Purge, Remove}
 use Rattle.session_core.specs.declared.message.Message.TheVariants as message
-use Rattle.session_core.specs.Frames.{MessageView, message_kind, message_body, id_bytes, list_body, frame_encoding, length_at, frame_kind_at, IsFrameLength, IsMessageKind, IsListLength, IsLengthOf, FitsList, FitsFrame}
+use Rattle.session_core.specs.declared.message_kinds.Kinds.{Kinds}
+use Rattle.session_core.specs.declared.message_kinds.Kinds.TheVariants.{Base, WithLists}
+use Rattle.session_core.specs.Frames.{MessageView, message_kind, message_body, id_bytes, list_body, frame_encoding, length_at, frame_kind_at, greatest_kind, IsFrameLength, IsMessageKind, IsListLength, IsLengthOf, FitsList, FitsFrame}
 use Rattle.session_core.specs.Front.{BeginsWithFrame}
 
 abbrev pub AreBytes : List ℕ → Type 0
@@ -61,8 +63,8 @@ frame_at bytes len b is whole =
     ∙ take-append-drop 4 bytes)
 
 -- a message at the front
-pub begins : (bytes : List ℕ) (len : ℕ) (m : MessageView) → AreBytes bytes → len ≡ length_at bytes → 1 ≤ len → 4 + len ≤ length bytes
-    → message_kind m ≡ frame_kind_at bytes → message_body m ≡ slice_range bytes 5 (4 + len) → FitsFrame m → BeginsWithFrame bytes m (4 + len)
+pub begins : {kinds : Kinds} (bytes : List ℕ) (len : ℕ) (m : MessageView) → AreBytes bytes → len ≡ length_at bytes → 1 ≤ len → 4 + len ≤ length bytes
+    → message_kind m ≡ frame_kind_at bytes → message_body m ≡ slice_range bytes 5 (4 + len) → FitsFrame kinds m → BeginsWithFrame kinds bytes m (4 + len)
 begins bytes len m b is some whole kind body fits =
     let content : (message_kind m ∷ message_body m) ≡ take len (drop 4 bytes) =
     ap (λ k. k ∷ message_body m) kind ∙ ap (λ (t : List ℕ). get_or bytes 4 0 ∷ t) body ∙ content_at bytes len some whole in
@@ -157,16 +159,25 @@ message_with (suc (suc (suc zero))) body = Purge (from_be_bytes w64 body)
 message_with (suc (suc (suc (suc zero)))) body = Remove (get_or body 0 0) (drop 1 body)
 message_with _ body = message.List (list_with body)
 
-pub record IsMessageWith (kind : ℕ) (body : List ℕ) (m : MessageView) : Type 0 where
+pub record IsMessageWith (kinds : Kinds) (kind : ℕ) (body : List ℕ) (m : MessageView) : Type 0 where
   pub kind_is : message_kind m ≡ kind
   pub body_is : message_body m ≡ body
-  pub fits : FitsFrame m
+  pub fits : FitsFrame kinds m
 
 moment_fits : (body : List ℕ) → AreBytes body → from_be_bytes w64 body < 2 ^ 64
 moment_fits body b = omega (arith, b 0, b 1, b 2, b 3, b 4, b 5, b 6, b 7)
 
+-- kinds 1 to 4 are always there, and none is above 5
+pub base_kinds : (kinds : Kinds) → 4 ≤ greatest_kind kinds
+base_kinds Base = omega arith
+base_kinds WithLists = omega arith
+
+pub no_more_kinds : (kinds : Kinds) → greatest_kind kinds ≤ 5
+no_more_kinds Base = omega arith
+no_more_kinds WithLists = omega arith
+
 -- each kind has a message for each body that its frames can have
-pub message_with_is : (kind : ℕ) (body : List ℕ) → AreBytes body → IsMessageKind kind → IsFrameLength (1 + length body) → IsLengthOf kind (1 + length body) → IsMessageWith kind body (message_with kind body)
+pub message_with_is : {kinds : Kinds} (kind : ℕ) (body : List ℕ) → AreBytes body → IsMessageKind kinds kind → IsFrameLength (1 + length body) → IsLengthOf kind (1 + length body) → IsMessageWith kinds kind body (message_with kind body)
 message_with_is zero body b known sized of_kind = absurd (omega (arith, known.0))
 message_with_is (suc zero) body b known sized of_kind = record { kind_is = refl; body_is = refl; fits = sized }
 message_with_is (suc (suc zero)) body b known sized of_kind = record { kind_is = refl; body_is = refl; fits = sized }
@@ -182,11 +193,14 @@ message_with_is (suc (suc (suc (suc (suc zero))))) body b known sized of_kind =
     record {
       kind_is = refl;
       body_is = list_body-of body (list_with body) b long refl refl refl (id_bytes-from (drop 17 body));
-      fits = record {
-        kind_fits = b 0;
-        start_fits = moment_fits (take 8 (drop 1 body)) (take_below 8 (drop 1 body) (drop_below 1 body b));
-        end_fits = moment_fits (take 8 (drop 9 body)) (take_below 8 (drop 9 body) (drop_below 9 body b));
-        id_fits = id_from-fits (drop 17 body) (after_size body size);
-      };
+      fits = (
+        known,
+        record {
+          kind_fits = b 0;
+          start_fits = moment_fits (take 8 (drop 1 body)) (take_below 8 (drop 1 body) (drop_below 1 body b));
+          end_fits = moment_fits (take 8 (drop 9 body)) (take_below 8 (drop 9 body) (drop_below 9 body b));
+          id_fits = id_from-fits (drop 17 body) (after_size body size);
+        },
+      );
     }
-message_with_is (suc (suc (suc (suc (suc (suc k)))))) body b known sized of_kind = absurd (omega (arith, known.1))
+message_with_is {kinds} (suc (suc (suc (suc (suc (suc k)))))) body b known sized of_kind = absurd (omega (arith, known.1, no_more_kinds kinds))

@@ -9,6 +9,7 @@ use Rattle.std.specs.Io.KnownBytes.{Appends, Keeps}
 use Rattle.std.proofs.KnownBytes.{Appends-trans, Appends-kept}
 use Rattle.session_core.specs.declared.error.FrameError.{FrameError}
 use Rattle.session_core.specs.declared.error.FrameError.TheVariants as error
+use Rattle.session_core.specs.declared.message_kinds.Kinds.{Kinds}
 use Rattle.session_core.specs.declared.source.TheConstants.{MOST_PIECE}
 use Rattle.session_core.specs.Frames.{MessageView, IsPartial, AreWholeFrames}
 use Rattle.session_core.specs.Reply.{ReplyView, HasReplySize}
@@ -55,10 +56,10 @@ front_of form (Err error.NoMemory) written es told = record {
   written_is = told.written_is ∙ sym (append-nil (all_told form told.before));
 }
 
-module _ {S : Type 0} (form : Form) (answers : S → MessageView → ReplyView → S → Type 0) where
+module _ {kinds : Kinds} {S : Type 0} (form : Form) (answers : S → MessageView → ReplyView → S → Type 0) where
   -- a flush after the piece that failed
-  pub not_flushed : (a b : S) (bytes left : List ℕ) (o p q : Option (List ℕ)) (n : ℕ) (r : Result ℕ FrameError) → AreFrontsAnswered form answers a bytes b left o p n r → Keeps p q
-      → AreFrontsAnswered form answers a bytes b left o q n (Err error.Write)
+  pub not_flushed : (a b : S) (bytes left : List ℕ) (o p q : Option (List ℕ)) (n : ℕ) (r : Result ℕ FrameError) → AreFrontsAnswered kinds form answers a bytes b left o p n r → Keeps p q
+      → AreFrontsAnswered kinds form answers a bytes b left o q n (Err error.Write)
   not_flushed a b bytes left o p q n r x k = record {
     exchanges = x.exchanges;
     rest = x.rest;
@@ -91,18 +92,18 @@ pieces-append (p ∷ ps) qs a b = (a.0, pieces-append ps qs a.1 b)
 
 -- At most this number of reads were made, all whole frames of their pieces were answered, and all
 -- replies were written.
-pub record SoFar {S R : Type 0} (answers : S → MessageView → ReplyView → S → Type 0) (gives : R → List ℕ → R → Type 0) (service service_left : S) (source source_left : R) (inbox : List ℕ)
+pub record SoFar {S R : Type 0} (kinds : Kinds) (answers : S → MessageView → ReplyView → S → Type 0) (gives : R → List ℕ → R → Type 0) (service service_left : S) (source source_left : R) (inbox : List ℕ)
     (output output_left : Option (List ℕ)) (count turn : ℕ) : Type 0 where
   pub pieces : List (List ℕ)
   pub made : FoldsTo gives source pieces source_left
   pub turns_are : length pieces ≡ turn
   pub short : AllByRecursion (λ piece. length piece ≤ MOST_PIECE) pieces
-  pub done : HasAnswered Frames answers service (concat pieces) service_left inbox output output_left 0 count
-  pub partial : IsPartial inbox
+  pub done : HasAnswered kinds Frames answers service (concat pieces) service_left inbox output output_left 0 count
+  pub partial : IsPartial kinds inbox
 
-module _ {S R : Type 0} (answers : S → MessageView → ReplyView → S → Type 0) (gives : R → List ℕ → R → Type 0) where
-  pub so_far_none : (s : S) (r : R) (inbox : List ℕ) (o : Option (List ℕ)) → inbox ≡ [] → SoFar answers gives s s r r inbox o o 0 0
-  so_far_none s r inbox o none = subst (λ (bytes : List ℕ). SoFar answers gives s s r r bytes o o 0 0) (sym none) (record {
+module _ {kinds : Kinds} {S R : Type 0} (answers : S → MessageView → ReplyView → S → Type 0) (gives : R → List ℕ → R → Type 0) where
+  pub so_far_none : (s : S) (r : R) (inbox : List ℕ) (o : Option (List ℕ)) → inbox ≡ [] → SoFar kinds answers gives s s r r inbox o o 0 0
+  so_far_none s r inbox o none = subst (λ (bytes : List ℕ). SoFar kinds answers gives s s r r bytes o o 0 0) (sym none) (record {
     pieces = [];
     made = refl;
     turns_are = refl;
@@ -111,9 +112,9 @@ module _ {S R : Type 0} (answers : S → MessageView → ReplyView → S → Typ
     partial = nothing_is_partial;
   })
 
-  module _ (a b : S) (r s : R) (inbox : List ℕ) (o p : Option (List ℕ)) (count turn : ℕ) (h : SoFar answers gives a b r s inbox o p count turn) where
+  module _ (a b : S) (r s : R) (inbox : List ℕ) (o p : Option (List ℕ)) (count turn : ℕ) (h : SoFar kinds answers gives a b r s inbox o p count turn) where
     -- the replies that were written before the last piece
-    prompt_of : (last : List (List ℕ)) (others : List Exchange) (more : List ℕ) → length last ≤ 1 → IsPrompt (h.pieces ++ last) (h.done.exchanges ++ others) (reply_frames h.done.exchanges ++ more)
+    prompt_of : (last : List (List ℕ)) (others : List Exchange) (more : List ℕ) → length last ≤ 1 → IsPrompt kinds (h.pieces ++ last) (h.done.exchanges ++ others) (reply_frames h.done.exchanges ++ more)
     prompt_of last others more one = record {
       earlier = h.pieces;
       last = last;
@@ -146,15 +147,15 @@ module _ {S R : Type 0} (answers : S → MessageView → ReplyView → S → Typ
       same_frames : reply_frames h.done.exchanges ++ [] ≡ reply_frames h.done.exchanges
       same_frames = append-nil (reply_frames h.done.exchanges)
 
-      closed_prompt : IsPrompt (h.pieces ++ last) h.done.exchanges (reply_frames h.done.exchanges)
-      closed_prompt = subst (λ (es : List Exchange). IsPrompt (h.pieces ++ last) es (reply_frames h.done.exchanges)) same_exchanges
-          (subst (IsPrompt (h.pieces ++ last) (h.done.exchanges ++ [])) same_frames (prompt_of last [] [] one))
+      closed_prompt : IsPrompt kinds (h.pieces ++ last) h.done.exchanges (reply_frames h.done.exchanges)
+      closed_prompt = subst (λ (es : List Exchange). IsPrompt kinds (h.pieces ++ last) es (reply_frames h.done.exchanges)) same_exchanges
+          (subst (IsPrompt kinds (h.pieces ++ last) (h.done.exchanges ++ [])) same_frames (prompt_of last [] [] one))
 
-      closed_framed : AreWholeFrames (concat (h.pieces ++ last)) (messages_of h.done.exchanges) inbox
-      closed_framed = subst (λ (bytes : List ℕ). AreWholeFrames bytes (messages_of h.done.exchanges) inbox) (sym nothing) h.done.framed
+      closed_framed : AreWholeFrames kinds (concat (h.pieces ++ last)) (messages_of h.done.exchanges) inbox
+      closed_framed = subst (λ (bytes : List ℕ). AreWholeFrames kinds bytes (messages_of h.done.exchanges) inbox) (sym nothing) h.done.framed
 
-      ends_here : (result : Result ℕ FrameError) → WritesReplies Frames result (reply_frames h.done.exchanges) h.done.exchanges → LeavesAhead result [] inbox → EndsFor i turns (h.pieces ++ last) h.done.exchanges inbox result
-          → IsServed answers gives turns a b r t i o p result
+      ends_here : (result : Result ℕ FrameError) → WritesReplies Frames result (reply_frames h.done.exchanges) h.done.exchanges → LeavesAhead kinds result [] inbox → EndsFor kinds i turns (h.pieces ++ last) h.done.exchanges inbox result
+          → IsServed kinds answers gives turns a b r t i o p result
       ends_here result told none ended = record {
         pieces = h.pieces ++ last;
         exchanges = h.done.exchanges;
@@ -172,27 +173,27 @@ module _ {S R : Type 0} (answers : S → MessageView → ReplyView → S → Typ
         ended = ended;
       }
 
-      ends_well : i → inbox ≡ [] → IsServed answers gives turns a b r t i o p (Ok count)
+      ends_well : i → inbox ≡ [] → IsServed kinds answers gives turns a b r t i o p (Ok count)
       ends_well end none = ends_here (Ok count) refl refl (record { at_end = end; whole = none; counted = omega (arith, h.done.counted) })
 
-      ends_at_read : IsServed answers gives turns a b r t i o p (Err error.Read)
+      ends_at_read : IsServed kinds answers gives turns a b r t i o p (Err error.Read)
       ends_at_read = ends_here (Err error.Read) refl refl h.partial
 
-      ends_in_time : length (h.pieces ++ last) ≡ turns → IsServed answers gives turns a b r t i o p (Err error.Turns)
+      ends_in_time : length (h.pieces ++ last) ≡ turns → IsServed kinds answers gives turns a b r t i o p (Err error.Turns)
       ends_in_time all = ends_here (Err error.Turns) refl refl (h.partial, all)
 
     nothing_more : concat (h.pieces ++ [] ∷ []) ≡ concat h.pieces
     nothing_more = all_joined [] ∙ append-nil (concat h.pieces)
 
     -- a read that failed
-    fails_to_read : (turns : ℕ) (t : R) (i : Type 0) (e : FrameError) → turn < turns → gives s [] t → e ≡ error.Read → IsServed answers gives turns a b r t i o p (Err e)
-    fails_to_read turns t i e lt one is = subst (λ (x : FrameError). IsServed answers gives turns a b r t i o p (Err x)) (sym is)
+    fails_to_read : (turns : ℕ) (t : R) (i : Type 0) (e : FrameError) → turn < turns → gives s [] t → e ≡ error.Read → IsServed kinds answers gives turns a b r t i o p (Err e)
+    fails_to_read turns t i e lt one is = subst (λ (x : FrameError). IsServed kinds answers gives turns a b r t i o p (Err x)) (sym is)
         (ends_at_read turns t i ([] ∷ []) nothing_more (omega arith) (read_more turns t [] lt one (omega arith)))
 
     -- the end of the input
     ends_at_end : (turns : ℕ) (t : R) (i : Type 0) (result : Result ℕ FrameError) → turn < turns → gives s [] t → i
-        → IfOk result (λ n. n ≡ count) → IfOk result (λ _. inbox ≡ []) → IfErr result (λ e. e ≡ error.Read) → IsServed answers gives turns a b r t i o p result
-    ends_at_end turns t i (Ok n) lt one end same none err = subst (λ (k : ℕ). IsServed answers gives turns a b r t i o p (Ok k)) (sym same)
+        → IfOk result (λ n. n ≡ count) → IfOk result (λ _. inbox ≡ []) → IfErr result (λ e. e ≡ error.Read) → IsServed kinds answers gives turns a b r t i o p result
+    ends_at_end turns t i (Ok n) lt one end same none err = subst (λ (k : ℕ). IsServed kinds answers gives turns a b r t i o p (Ok k)) (sym same)
         (ends_well turns t i ([] ∷ []) nothing_more (omega arith) (read_more turns t [] lt one (omega arith)) end none)
     ends_at_end turns t i (Err e) lt one end same none err = fails_to_read turns t i e lt one err
 
@@ -203,20 +204,20 @@ module _ {S R : Type 0} (answers : S → MessageView → ReplyView → S → Typ
         record { made = subst (λ (ps : List (List ℕ)). FoldsTo gives r ps s) (sym same) h.made; few = omega (arith, le, h.turns_are, ap length same); short = pieces-append h.pieces [] h.short tt }
 
     -- the allowed number of reads was made
-    pub ends_at_turns : (i : Type 0) → IsServed answers gives turn a b r s i o p (Err error.Turns)
+    pub ends_at_turns : (i : Type 0) → IsServed kinds answers gives turn a b r s i o p (Err error.Turns)
     ends_at_turns i =
         let same : h.pieces ++ [] ≡ h.pieces = append-nil h.pieces in
         ends_in_time turn s i [] (ap concat same) (omega arith) (no_read turn (omega arith)) (ap length same ∙ h.turns_are)
 
     -- no memory for a read
-    ends_without_room : (turns : ℕ) (i : Type 0) → turn ≤ turns → IsServed answers gives turns a b r s i o p (Err error.NoMemory)
+    ends_without_room : (turns : ℕ) (i : Type 0) → turn ≤ turns → IsServed kinds answers gives turns a b r s i o p (Err error.NoMemory)
     ends_without_room turns i le =
         ends_here turns s i [] (ap concat (append-nil h.pieces)) (omega arith) (no_read turns le) (Err error.NoMemory)
         (record { before = h.done.exchanges; last = []; parts = sym (append-nil h.done.exchanges); one = omega arith; written_is = refl }) (none_ahead inbox) tt
 
     -- nothing was read
-    pub fails_to_take_in : (turns : ℕ) (t : R) (i : Type 0) (e : FrameError) → turn < turns → FailsToTakeIn gives s e t → IsServed answers gives turns a b r t i o p (Err e)
-    fails_to_take_in turns t i error.NoMemory lt same = subst (λ (u : R). IsServed answers gives turns a b r u i o p (Err error.NoMemory)) (sym same) (ends_without_room turns i (omega (arith, lt)))
+    pub fails_to_take_in : (turns : ℕ) (t : R) (i : Type 0) (e : FrameError) → turn < turns → FailsToTakeIn gives s e t → IsServed kinds answers gives turns a b r t i o p (Err e)
+    fails_to_take_in turns t i error.NoMemory lt same = subst (λ (u : R). IsServed kinds answers gives turns a b r u i o p (Err error.NoMemory)) (sym same) (ends_without_room turns i (omega (arith, lt)))
     fails_to_take_in turns t i error.Read lt one = fails_to_read turns t i error.Read lt one refl
     fails_to_take_in turns t i error.Length lt f = absurd f
     fails_to_take_in turns t i error.Kind lt f = absurd f
@@ -225,7 +226,7 @@ module _ {S R : Type 0} (answers : S → MessageView → ReplyView → S → Typ
 
     -- a read that gave no byte
     pub ends_after_read : (turns : ℕ) (t : R) (i : Type 0) (len : ℕ) (left : List ℕ) (result : Result ℕ FrameError) → turn < turns → TakesIn gives s inbox len t left → len ≡ 0 → i
-        → IfOk result (λ n. n ≡ count) → IfOk result (λ _. left ≡ []) → IfErr result (λ e. e ≡ error.Read) → IsServed answers gives turns a b r t i o p result
+        → IfOk result (λ n. n ≡ count) → IfOk result (λ _. left ≡ []) → IfErr result (λ e. e ≡ error.Read) → IsServed kinds answers gives turns a b r t i o p result
     ends_after_read turns t i len left result lt x zero end same none err =
         let nothing : x.piece ≡ [] = nil_from_length x.piece (x.len_is ∙ zero) in
         let one : gives s [] t = subst (λ (piece : List ℕ). gives s piece t) nothing x.gave in
@@ -234,10 +235,10 @@ module _ {S R : Type 0} (answers : S → MessageView → ReplyView → S → Typ
 
     -- ---- one more piece
 
-    module _ (c : S) (t : R) (piece left : List ℕ) (q : Option (List ℕ)) (result : Result ℕ FrameError) (x : AreFrontsAnswered Frames answers b (inbox ++ piece) c left p q count result) where
-      both_framed : AreWholeFrames (concat (h.pieces ++ piece ∷ [])) (messages_of (h.done.exchanges ++ x.exchanges)) x.rest
-      both_framed = subst (λ (bytes : List ℕ). AreWholeFrames bytes (messages_of (h.done.exchanges ++ x.exchanges)) x.rest) (sym (all_joined piece))
-          (subst (λ (ms : List MessageView). AreWholeFrames (concat h.pieces ++ piece) ms x.rest) (sym (messages-append h.done.exchanges x.exchanges))
+    module _ (c : S) (t : R) (piece left : List ℕ) (q : Option (List ℕ)) (result : Result ℕ FrameError) (x : AreFrontsAnswered kinds Frames answers b (inbox ++ piece) c left p q count result) where
+      both_framed : AreWholeFrames kinds (concat (h.pieces ++ piece ∷ [])) (messages_of (h.done.exchanges ++ x.exchanges)) x.rest
+      both_framed = subst (λ (bytes : List ℕ). AreWholeFrames kinds bytes (messages_of (h.done.exchanges ++ x.exchanges)) x.rest) (sym (all_joined piece))
+          (subst (λ (ms : List MessageView). AreWholeFrames kinds (concat h.pieces ++ piece) ms x.rest) (sym (messages-append h.done.exchanges x.exchanges))
           (AreWholeFrames-append (messages_of h.done.exchanges) (messages_of x.exchanges) (concat h.pieces ++ piece) (inbox ++ piece) x.rest
           (AreWholeFrames-more (messages_of h.done.exchanges) (concat h.pieces) inbox piece h.done.framed) x.framed))
 
@@ -251,7 +252,7 @@ module _ {S R : Type 0} (answers : S → MessageView → ReplyView → S → Typ
       both_frames = told-append Frames h.done.exchanges x.exchanges
 
     so_far_more : (c : S) (t : R) (piece left : List ℕ) (q : Option (List ℕ)) (sum k : ℕ) → gives s piece t → length piece ≤ MOST_PIECE → k ≡ turn + 1
-        → AreFrontsAnswered Frames answers b (inbox ++ piece) c left p q count (Ok sum) → SoFar answers gives a c r t left o q sum k
+        → AreFrontsAnswered kinds Frames answers b (inbox ++ piece) c left p q count (Ok sum) → SoFar kinds answers gives a c r t left o q sum k
     so_far_more c t piece left q sum k one short next x = record {
       pieces = h.pieces ++ piece ∷ [];
       made = FoldsTo-push gives r h.pieces s piece t h.made one;
@@ -259,14 +260,14 @@ module _ {S R : Type 0} (answers : S → MessageView → ReplyView → S → Typ
       short = pieces-append h.pieces (piece ∷ []) h.short (short, tt);
       done = record {
         exchanges = h.done.exchanges ++ x.exchanges;
-        framed = subst (AreWholeFrames (concat (h.pieces ++ piece ∷ [])) (messages_of (h.done.exchanges ++ x.exchanges))) (sym x.stops.left_is) (both_framed c t piece left q (Ok sum) x);
+        framed = subst (AreWholeFrames kinds (concat (h.pieces ++ piece ∷ [])) (messages_of (h.done.exchanges ++ x.exchanges))) (sym x.stops.left_is) (both_framed c t piece left q (Ok sum) x);
         answered = both_answered c t piece left q (Ok sum) x;
         sized = both_sized c t piece left q (Ok sum) x;
         appended = subst (Appends o q) (ap (λ (w : List ℕ). reply_frames h.done.exchanges ++ w) x.told ∙ sym (both_frames c t piece left q (Ok sum) x))
             (Appends-trans o p q (reply_frames h.done.exchanges) x.written h.done.appended x.appended);
         counted = omega (arith, h.done.counted, x.stops.counted, length-append h.done.exchanges x.exchanges);
       };
-      partial = subst IsPartial (sym x.stops.left_is) x.stops.partial;
+      partial = subst (IsPartial kinds) (sym x.stops.left_is) x.stops.partial;
     }
 
     -- what was written for two lists of exchanges is what was written for the last ones after all
@@ -299,8 +300,8 @@ module _ {S R : Type 0} (answers : S → MessageView → ReplyView → S → Typ
 
     -- the session ends within a piece, for this reason
     ends_within : (turns : ℕ) (c : S) (t : R) (i : Type 0) (piece left : List ℕ) (q : Option (List ℕ)) (result : Result ℕ FrameError) → turn < turns → gives s piece t → length piece ≤ MOST_PIECE
-        → (x : AreFrontsAnswered Frames answers b (inbox ++ piece) c left p q count result)
-        → EndsFor i turns (h.pieces ++ piece ∷ []) (h.done.exchanges ++ x.exchanges) x.rest result → IsServed answers gives turns a c r t i o q result
+        → (x : AreFrontsAnswered kinds Frames answers b (inbox ++ piece) c left p q count result)
+        → EndsFor kinds i turns (h.pieces ++ piece ∷ []) (h.done.exchanges ++ x.exchanges) x.rest result → IsServed kinds answers gives turns a c r t i o q result
     ends_within turns c t i piece left q result lt one short x ended = record {
       pieces = h.pieces ++ piece ∷ [];
       exchanges = h.done.exchanges ++ x.exchanges;
@@ -319,7 +320,7 @@ module _ {S R : Type 0} (answers : S → MessageView → ReplyView → S → Typ
     }
 
     ends_at_piece : (turns : ℕ) (c : S) (t : R) (i : Type 0) (piece left : List ℕ) (q : Option (List ℕ)) (e : FrameError) → turn < turns → gives s piece t → length piece ≤ MOST_PIECE
-        → AreFrontsAnswered Frames answers b (inbox ++ piece) c left p q count (Err e) → IsServed answers gives turns a c r t i o q (Err e)
+        → AreFrontsAnswered kinds Frames answers b (inbox ++ piece) c left p q count (Err e) → IsServed kinds answers gives turns a c r t i o q (Err e)
     ends_at_piece turns c t i piece left q error.Length lt one short x = ends_within turns c t i piece left q (Err error.Length) lt one short x x.stops
     ends_at_piece turns c t i piece left q error.Kind lt one short x = ends_within turns c t i piece left q (Err error.Kind) lt one short x x.stops
     ends_at_piece turns c t i piece left q error.NoMemory lt one short x = ends_within turns c t i piece left q (Err error.NoMemory) lt one short x tt
@@ -334,11 +335,11 @@ module _ {S R : Type 0} (answers : S → MessageView → ReplyView → S → Typ
       piece_is_short = omega (arith, x.len_is, x.short)
 
       pub ends_at_read_piece : (turns : ℕ) (c : S) (i : Type 0) (left : List ℕ) (q : Option (List ℕ)) (e : FrameError) → turn < turns
-          → AreFrontsAnswered Frames answers b mid c left p q count (Err e) → IsServed answers gives turns a c r t i o q (Err e)
+          → AreFrontsAnswered kinds Frames answers b mid c left p q count (Err e) → IsServed kinds answers gives turns a c r t i o q (Err e)
       ends_at_read_piece turns c i left q e lt fronts =
-          ends_at_piece turns c t i x.piece left q e lt x.gave piece_is_short (subst (λ (bytes : List ℕ). AreFrontsAnswered Frames answers b bytes c left p q count (Err e)) x.joined fronts)
+          ends_at_piece turns c t i x.piece left q e lt x.gave piece_is_short (subst (λ (bytes : List ℕ). AreFrontsAnswered kinds Frames answers b bytes c left p q count (Err e)) x.joined fronts)
 
       pub so_far_read : (c : S) (left : List ℕ) (q : Option (List ℕ)) (sum k : ℕ) → k ≡ turn + 1
-          → AreFrontsAnswered Frames answers b mid c left p q count (Ok sum) → SoFar answers gives a c r t left o q sum k
+          → AreFrontsAnswered kinds Frames answers b mid c left p q count (Ok sum) → SoFar kinds answers gives a c r t left o q sum k
       so_far_read c left q sum k next fronts =
-          so_far_more c t x.piece left q sum k x.gave piece_is_short next (subst (λ (bytes : List ℕ). AreFrontsAnswered Frames answers b bytes c left p q count (Ok sum)) x.joined fronts)
+          so_far_more c t x.piece left q sum k x.gave piece_is_short next (subst (λ (bytes : List ℕ). AreFrontsAnswered kinds Frames answers b bytes c left p q count (Ok sum)) x.joined fronts)

@@ -1,6 +1,7 @@
 -- Commands that were handed in and are not answered yet.
 use Rattle.std.specs.Prelude.{◌≡◌, ℕ, ◌+◌, List, [], ◌∷◌, Some, drop}
 use Rattle.session_core.specs.declared.ahead.Handed.{Handed}
+use Rattle.session_core.specs.declared.message_kinds.Kinds.{Kinds}
 use Rattle.session_core.specs.Commands.{command_kind}
 use Rattle.session_core.specs.Frames.{MessageView}
 use Rattle.session_core.specs.Front.{BeginsWithFrame}
@@ -10,13 +11,13 @@ abbrev pub frames_len : {U : Type 0} → List (Handed U) → ℕ
 frames_len [] = 0
 frames_len (h ∷ hs) = h.len + frames_len hs
 
-module _ {S U : Type 0} (is_for : S → U → MessageView → Type 0) where
+module _ (kinds : Kinds) {S U : Type 0} (is_for : S → U → MessageView → Type 0) where
   -- In this state, this is under way for the message at the front of the bytes, a command.
   pub record IsHandedIn (state : S) (handed : Handed U) (bytes : List ℕ) : Type 0 where
     -- The command.
     pub message : MessageView
     -- The bytes begin with its frame.
-    pub framed : BeginsWithFrame bytes message handed.len
+    pub framed : BeginsWithFrame kinds bytes message handed.len
     -- The kind of the command.
     pub of_kind : command_kind message ≡ Some handed.kind
     -- What is under way is known to be for the command.

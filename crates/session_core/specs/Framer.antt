@@ -5,6 +5,7 @@ use Rattle.session_core.specs.declared.error.FrameError.TheVariants as error
 use Rattle.session_core.specs.declared.message.Message.{Message}
 use Rattle.session_core.specs.declared.message.Message.TheVariants.{Register, Lookup, Purge, Remove}
 use Rattle.session_core.specs.declared.message.Message.TheVariants as message
+use Rattle.session_core.specs.declared.message_kinds.Kinds.{Kinds}
 use Rattle.session_core.specs.Frames.{MessageView, IsPartial, Ending, Rest, BadLength, BadKind, AreFrames}
 use Rattle.session_core.specs.Front.{IsFaultAt}
 
@@ -33,16 +34,21 @@ IsFaulty BadLength = Unit {0}
 IsFaulty BadKind = Unit {0}
 
 -- A stream with the old ending has these further messages with the piece, and then the new ending.
-abbrev pub Continues : Ending → List ℕ → List MessageView → Ending → Type 0
-Continues old piece messages new =
-    (stream : List ℕ) (before : List MessageView) → AreFrames stream before old → AreFrames (stream ++ piece) (before ++ messages) new
+abbrev pub Continues : Kinds → Ending → List ℕ → List MessageView → Ending → Type 0
+Continues kinds old piece messages new =
+    (stream : List ℕ) (before : List MessageView) → AreFrames kinds stream before old → AreFrames kinds (stream ++ piece) (before ++ messages) new
+
+-- What contracts see of a `Framer`: the kinds of its stream, and how the stream ends.
+pub record FramerView : Type 0 where
+  pub kinds : Kinds
+  pub ending : Ending
 
 -- ---- the fields of a `Framer`
 
 -- The fault, if any, of the bytes after the last whole frame.
-abbrev pub IsFaultOf : List ℕ → Option FrameError → Type 0
-IsFaultOf bytes None = IsPartial bytes
-IsFaultOf bytes (Some e) = IsFaultAt bytes e
+abbrev pub IsFaultOf : Kinds → List ℕ → Option FrameError → Type 0
+IsFaultOf kinds bytes None = IsPartial kinds bytes
+IsFaultOf kinds bytes (Some e) = IsFaultAt kinds bytes e
 
 -- The ending of a stream with these bytes after its last whole frame, and with this fault.
 abbrev pub ending_of : List ℕ → Option FrameError → Ending

@@ -5,6 +5,8 @@ use Rattle.std.specs.List.{flat_map, AllByRecursion}
 use Rattle.std.specs.Int.{w32, w64, to_be_bytes, from_be_bytes}
 use Rattle.session_core.specs.declared.message.Message.{Message}
 use Rattle.session_core.specs.declared.list_request.ListRequest.{ListRequest}
+use Rattle.session_core.specs.declared.message_kinds.Kinds.{Kinds}
+use Rattle.session_core.specs.declared.message_kinds.Kinds.TheVariants.{Base, WithLists}
 use Rattle.session_core.specs.declared.message.Message.TheVariants.{Register, Lookup, Purge, Remove}
 use Rattle.session_core.specs.declared.message.Message.TheVariants as message
 use Rattle.session_core.specs.declared.format.TheConstants.{MOST_LENGTH}
@@ -58,9 +60,14 @@ frame_kind_at bytes = slice_index bytes 4
 abbrev pub IsFrameLength : ℕ → Type 0
 IsFrameLength len = (1 ≤ len) × (len ≤ MOST_LENGTH)
 
+-- The greatest kind of a message: 5 is that of lists.
+abbrev pub greatest_kind : Kinds → ℕ
+greatest_kind Base = 4
+greatest_kind WithLists = 5
+
 -- The kind is one that a message may have.
-abbrev pub IsMessageKind : ℕ → Type 0
-IsMessageKind kind = (1 ≤ kind) × (kind ≤ 5)
+abbrev pub IsMessageKind : Kinds → ℕ → Type 0
+IsMessageKind kinds kind = (1 ≤ kind) × (kind ≤ greatest_kind kinds)
 
 -- The length is one that a list's frame may have: with an id, or without.
 abbrev pub IsListLength : ℕ → Type 0
@@ -78,60 +85,61 @@ pub record FitsList (request : ListRequest) : Type 0 where
   pub end_fits : request.end < 2 ^ 64
   pub id_fits : IfSome request.after (λ id. length id ≡ 32)
 
--- The frame of a message is not too long, and the message's numbers fit their bytes.
-abbrev pub FitsFrame : MessageView → Type 0
-FitsFrame (Register body) = IsFrameLength (1 + length body)
-FitsFrame (Lookup body) = IsFrameLength (1 + length body)
-FitsFrame (Purge moment) = moment < 2 ^ 64
-FitsFrame (Remove kind id) = (kind < 256) × (length id ≡ 32)
-FitsFrame (message.List request) = FitsList request
-
--- The bytes are the frames of these messages, one after the other, followed by the rest.
-pub record AreWholeFrames (bytes : List ℕ) (messages : List MessageView) (rest : List ℕ) : Type 0 where
-  pub joined : bytes ≡ flat_map message_frame messages ++ rest
-  pub sized : AllByRecursion FitsFrame messages
-
--- Four bytes or more begin with the length of a frame. Where the kind follows, it is the length of
--- a frame of that kind.
-pub record HasRightLength (bytes : List ℕ) : Type 0 where
-  pub in_range : IsFrameLength (length_at bytes)
-  pub of_kind : 5 ≤ length bytes → IsLengthOf (frame_kind_at bytes) (length_at bytes)
-
--- The bytes are less than a whole frame, without a fault. The length is checked once four bytes
--- have arrived, and again with the kind once five bytes have.
-pub record IsPartial (bytes : List ℕ) : Type 0 where
-  -- Four bytes or more begin with the right length of a frame.
-  pub length_is_right : 4 ≤ length bytes → HasRightLength bytes
-  -- Five bytes or more have the kind of a message.
-  pub kind_is_right : 5 ≤ length bytes → IsMessageKind (frame_kind_at bytes)
-  -- The bytes are less than the frame.
-  pub incomplete : 4 ≤ length bytes → length bytes < 4 + length_at bytes
-
--- The bytes begin with a length that no frame has, or that no frame of the kind after it has.
-pub record HasBadLength (bytes : List ℕ) : Type 0 where
-  pub long : 4 ≤ length bytes
-  pub bad : ¬ HasRightLength bytes
-
--- The bytes begin with the length of a frame, and a kind that no message has.
-pub record HasBadKind (bytes : List ℕ) : Type 0 where
-  pub long : 5 ≤ length bytes
-  pub length_is_right : HasRightLength bytes
-  pub bad : ¬ IsMessageKind (frame_kind_at bytes)
-
 -- How a stream ends after its last whole frame: with less than a frame, or with a fault.
 pub data Ending : Type 0 where
   Rest : (bytes : List ℕ) → Ending
   BadLength : Ending
   BadKind : Ending
 
--- The bytes after the last whole frame are those of this ending.
-abbrev pub FramesEndAs : List ℕ → Ending → Type 0
-FramesEndAs bytes (Rest rest) = (bytes ≡ rest) × IsPartial bytes
-FramesEndAs bytes BadLength = HasBadLength bytes
-FramesEndAs bytes BadKind = HasBadKind bytes
+module _ (kinds : Kinds) where
+  -- The message is of a kind that there is, its frame is not too long, and its numbers fit their bytes.
+  abbrev pub FitsFrame : MessageView → Type 0
+  FitsFrame (Register body) = IsFrameLength (1 + length body)
+  FitsFrame (Lookup body) = IsFrameLength (1 + length body)
+  FitsFrame (Purge moment) = moment < 2 ^ 64
+  FitsFrame (Remove kind id) = (kind < 256) × (length id ≡ 32)
+  FitsFrame (message.List request) = IsMessageKind kinds 5 × FitsList request
 
--- The stream is the frames of these messages, one after the other, followed by this ending.
-pub record AreFrames (bytes : List ℕ) (messages : List MessageView) (ending : Ending) : Type 0 where
-  pub rest : List ℕ
-  pub whole : AreWholeFrames bytes messages rest
-  pub ends : FramesEndAs rest ending
+  -- The bytes are the frames of these messages, one after the other, followed by the rest.
+  pub record AreWholeFrames (bytes : List ℕ) (messages : List MessageView) (rest : List ℕ) : Type 0 where
+    pub joined : bytes ≡ flat_map message_frame messages ++ rest
+    pub sized : AllByRecursion FitsFrame messages
+
+  -- Four bytes or more begin with the length of a frame. Where the kind of a message follows, it is
+  -- the length of a frame of that kind.
+  pub record HasRightLength (bytes : List ℕ) : Type 0 where
+    pub in_range : IsFrameLength (length_at bytes)
+    pub of_kind : 5 ≤ length bytes → IsMessageKind kinds (frame_kind_at bytes) → IsLengthOf (frame_kind_at bytes) (length_at bytes)
+
+  -- The bytes are less than a whole frame, without a fault. The length is checked once four bytes
+  -- have arrived, and again with the kind once five bytes have.
+  pub record IsPartial (bytes : List ℕ) : Type 0 where
+    -- Four bytes or more begin with the right length of a frame.
+    pub length_is_right : 4 ≤ length bytes → HasRightLength bytes
+    -- Five bytes or more have the kind of a message.
+    pub kind_is_right : 5 ≤ length bytes → IsMessageKind kinds (frame_kind_at bytes)
+    -- The bytes are less than the frame.
+    pub incomplete : 4 ≤ length bytes → length bytes < 4 + length_at bytes
+
+  -- The bytes begin with a length that no frame has, or that no frame of the kind after it has.
+  pub record HasBadLength (bytes : List ℕ) : Type 0 where
+    pub long : 4 ≤ length bytes
+    pub bad : ¬ HasRightLength bytes
+
+  -- The bytes begin with the length of a frame, and a kind that no message has.
+  pub record HasBadKind (bytes : List ℕ) : Type 0 where
+    pub long : 5 ≤ length bytes
+    pub length_is_right : HasRightLength bytes
+    pub bad : ¬ IsMessageKind kinds (frame_kind_at bytes)
+
+  -- The bytes after the last whole frame are those of this ending.
+  abbrev pub FramesEndAs : List ℕ → Ending → Type 0
+  FramesEndAs bytes (Rest rest) = (bytes ≡ rest) × IsPartial bytes
+  FramesEndAs bytes BadLength = HasBadLength bytes
+  FramesEndAs bytes BadKind = HasBadKind bytes
+
+  -- The stream is the frames of these messages, one after the other, followed by this ending.
+  pub record AreFrames (bytes : List ℕ) (messages : List MessageView) (ending : Ending) : Type 0 where
+    pub rest : List ℕ
+    pub whole : AreWholeFrames bytes messages rest
+    pub ends : FramesEndAs rest ending

@@ -3,6 +3,7 @@ use Rattle.std.specs.Prelude.{◌≡◌, ℕ, ◌-◌, ◌^◌, min, List, [], l
 use Rattle.std.specs.List.{AllByRecursion}
 use Rattle.std.specs.Io.KnownBytes.{Appends}
 use Rattle.session_core.specs.declared.error.FrameError.{FrameError}
+use Rattle.session_core.specs.declared.message_kinds.Kinds.{Kinds}
 use Rattle.session_core.specs.declared.reply.Form.TheVariants.{Lines}
 use Rattle.session_core.specs.Frames.{MessageView, IsPartial, AreWholeFrames}
 use Rattle.session_core.specs.Reply.{ReplyView, HasReplySize}
@@ -15,12 +16,12 @@ pub record IsWholeCount (exchanges : List Exchange) (rest : List ℕ) (count : �
   pub counted : count ≡ min (length exchanges) (2 ^ 64 - 1)
 
 -- The session ends at the end of the bytes, or early, within a frame.
-abbrev pub EndsInLines : List Exchange → List ℕ → Result ℕ FrameError → Type 0
-EndsInLines exchanges rest (Ok count) = IsWholeCount exchanges rest count
-EndsInLines exchanges rest (Err e) = SessionEndsEarly (IsPartial rest) ⊥ rest e
+abbrev pub EndsInLines : Kinds → List Exchange → List ℕ → Result ℕ FrameError → Type 0
+EndsInLines kinds exchanges rest (Ok count) = IsWholeCount exchanges rest count
+EndsInLines kinds exchanges rest (Err e) = SessionEndsEarly kinds (IsPartial kinds rest) ⊥ rest e
 
 -- A session over bytes in memory was served.
-pub record IsServedInLines {S : Type 0} (answers : S → MessageView → ReplyView → S → Type 0) (bytes : List ℕ) (service service_left : S)
+pub record IsServedInLines {S : Type 0} (kinds : Kinds) (answers : S → MessageView → ReplyView → S → Type 0) (bytes : List ℕ) (service service_left : S)
     (output output_left : Option (List ℕ)) (result : Result ℕ FrameError) : Type 0 where
   -- The messages that were answered, with their replies.
   pub exchanges : List Exchange
@@ -31,11 +32,11 @@ pub record IsServedInLines {S : Type 0} (answers : S → MessageView → ReplyVi
   -- The bytes that were written.
   pub written : List ℕ
   -- The bytes are the frames of the messages, and the rest.
-  pub framed : AreWholeFrames bytes (messages_of exchanges) rest
+  pub framed : AreWholeFrames kinds bytes (messages_of exchanges) rest
   -- The service answered the messages in order.
   pub answered : AreAnswered answers service exchanges service_left
   -- The messages that were handed in and not answered are the next ones.
-  pub ahead : LeavesAhead result handed rest
+  pub ahead : LeavesAhead kinds result handed rest
   -- Each reply fits into a frame.
   pub sized : AllByRecursion HasReplySize (replies_of exchanges)
   -- The output has the written bytes.
@@ -43,4 +44,4 @@ pub record IsServedInLines {S : Type 0} (answers : S → MessageView → ReplyVi
   -- The written bytes are the lines of the replies.
   pub told : WritesReplies Lines result written exchanges
   -- How the session ended.
-  pub ended : EndsInLines exchanges rest result
+  pub ended : EndsInLines kinds exchanges rest result

@@ -4,6 +4,7 @@ use Rattle.std.specs.List.{AllByRecursion, concat}
 use Rattle.std.specs.Io.KnownBytes.{Appends}
 use Rattle.session_core.specs.declared.error.FrameError.{FrameError}
 use Rattle.session_core.specs.declared.error.FrameError.TheVariants as error
+use Rattle.session_core.specs.declared.message_kinds.Kinds.{Kinds}
 use Rattle.session_core.specs.declared.ahead.TheConstants.{MOST_AHEAD}
 use Rattle.session_core.specs.Commands.{command_kind}
 use Rattle.session_core.specs.Frames.{MessageView, IsPartial, HasBadLength, HasBadKind, Rest, AreWholeFrames, AreFrames}
@@ -60,7 +61,7 @@ WritesReplies form _ written exchanges = written ≡ all_told form exchanges
 
 -- All whole frames of the pieces before the last one were answered, those pieces have no fault, and
 -- the replies to their messages were written.
-pub record IsPrompt (pieces : List (List ℕ)) (exchanges : List Exchange) (written : List ℕ) : Type 0 where
+pub record IsPrompt (kinds : Kinds) (pieces : List (List ℕ)) (exchanges : List Exchange) (written : List ℕ) : Type 0 where
   -- The pieces before the last one.
   pub earlier : List (List ℕ)
   -- The last piece, or none.
@@ -78,14 +79,14 @@ pub record IsPrompt (pieces : List (List ℕ)) (exchanges : List Exchange) (writ
   -- The bytes after the whole frames of the earlier pieces.
   pub rest : List ℕ
   -- The earlier pieces are the frames of those messages, and a rest without a fault.
-  pub framed : AreFrames (concat earlier) (messages_of told) (Rest rest)
+  pub framed : AreFrames kinds (concat earlier) (messages_of told) (Rest rest)
   -- The replies to those messages were written.
   pub kept : IsBeginningOf (reply_frames told) written
 
 -- ---- what was handed in
 
 -- These are commands at the front of the bytes, fewer than `MOST_AHEAD` of them.
-pub record AreAhead (messages : List MessageView) (bytes : List ℕ) : Type 0 where
+pub record AreAhead (kinds : Kinds) (messages : List MessageView) (bytes : List ℕ) : Type 0 where
   -- Each is a command.
   pub commands : AllByRecursion (λ message. IsSome (command_kind message)) messages
   -- At least one of those that were handed in with them was answered.
@@ -93,14 +94,14 @@ pub record AreAhead (messages : List MessageView) (bytes : List ℕ) : Type 0 wh
   -- The bytes after their frames.
   pub behind : List ℕ
   -- The bytes are their frames, and those bytes.
-  pub framed : AreWholeFrames bytes messages behind
+  pub framed : AreWholeFrames kinds bytes messages behind
 
 -- The messages that are handed in and not answered when a session ends, where these bytes are not
 -- answered: none, unless a write failed or memory was refused.
-abbrev pub LeavesAhead : Result ℕ FrameError → List MessageView → List ℕ → Type 0
-LeavesAhead (Err error.NoMemory) messages rest = AreAhead messages rest
-LeavesAhead (Err error.Write) messages rest = AreAhead messages rest
-LeavesAhead _ messages rest = messages ≡ []
+abbrev pub LeavesAhead : Kinds → Result ℕ FrameError → List MessageView → List ℕ → Type 0
+LeavesAhead kinds (Err error.NoMemory) messages rest = AreAhead kinds messages rest
+LeavesAhead kinds (Err error.Write) messages rest = AreAhead kinds messages rest
+LeavesAhead kinds _ messages rest = messages ≡ []
 
 -- ---- why a session ends
 
@@ -113,19 +114,19 @@ pub record EndsWell (input_ended : Type 0) (exchanges : List Exchange) (rest : L
 
 -- A session ends early for this error: the frame at the front of the rest has a fault, a write
 -- failed or memory was refused, or the input or the reads ended under these conditions.
-abbrev pub SessionEndsEarly : Type 0 → Type 0 → List ℕ → FrameError → Type 0
-SessionEndsEarly cut out_of_turns rest error.NoMemory = Unit {0}
-SessionEndsEarly cut out_of_turns rest error.Length = HasBadLength rest
-SessionEndsEarly cut out_of_turns rest error.Kind = HasBadKind rest
-SessionEndsEarly cut out_of_turns rest error.Read = cut
-SessionEndsEarly cut out_of_turns rest error.Write = Unit {0}
-SessionEndsEarly cut out_of_turns rest error.Turns = out_of_turns
+abbrev pub SessionEndsEarly : Kinds → Type 0 → Type 0 → List ℕ → FrameError → Type 0
+SessionEndsEarly kinds cut out_of_turns rest error.NoMemory = Unit {0}
+SessionEndsEarly kinds cut out_of_turns rest error.Length = HasBadLength kinds rest
+SessionEndsEarly kinds cut out_of_turns rest error.Kind = HasBadKind kinds rest
+SessionEndsEarly kinds cut out_of_turns rest error.Read = cut
+SessionEndsEarly kinds cut out_of_turns rest error.Write = Unit {0}
+SessionEndsEarly kinds cut out_of_turns rest error.Turns = out_of_turns
 
 -- The session ends at the end of the input, or early: at a failed read, within a frame, or when the
 -- allowed reads are made.
-abbrev pub EndsFor : Type 0 → ℕ → List (List ℕ) → List Exchange → List ℕ → Result ℕ FrameError → Type 0
-EndsFor input_ended turns pieces exchanges rest (Ok count) = EndsWell input_ended exchanges rest count
-EndsFor input_ended turns pieces exchanges rest (Err e) = SessionEndsEarly (IsPartial rest) (IsPartial rest × (length pieces ≡ turns)) rest e
+abbrev pub EndsFor : Kinds → Type 0 → ℕ → List (List ℕ) → List Exchange → List ℕ → Result ℕ FrameError → Type 0
+EndsFor kinds input_ended turns pieces exchanges rest (Ok count) = EndsWell input_ended exchanges rest count
+EndsFor kinds input_ended turns pieces exchanges rest (Err e) = SessionEndsEarly kinds (IsPartial kinds rest) (IsPartial kinds rest × (length pieces ≡ turns)) rest e
 
 -- ---- what is held back
 
@@ -138,7 +139,7 @@ IsSentFor sent _ = sent
 -- ---- a session
 
 -- A session was served.
-pub record IsServed {S R : Type 0} (answers : S → MessageView → ReplyView → S → Type 0) (gives : R → List ℕ → R → Type 0) (turns : ℕ)
+pub record IsServed {S R : Type 0} (kinds : Kinds) (answers : S → MessageView → ReplyView → S → Type 0) (gives : R → List ℕ → R → Type 0) (turns : ℕ)
     (service service_left : S) (source source_left : R) (input_ended : Type 0) (output output_left : Option (List ℕ)) (result : Result ℕ FrameError) : Type 0 where
   -- The pieces that at most `turns` reads gave.
   pub pieces : List (List ℕ)
@@ -153,11 +154,11 @@ pub record IsServed {S R : Type 0} (answers : S → MessageView → ReplyView �
   -- The source was read for the pieces.
   pub read : AreReads gives turns source pieces source_left
   -- The pieces, joined, are the frames of the messages, and the rest.
-  pub framed : AreWholeFrames (concat pieces) (messages_of exchanges) rest
+  pub framed : AreWholeFrames kinds (concat pieces) (messages_of exchanges) rest
   -- The service answered the messages in order, from its first state to its last.
   pub answered : AreAnswered answers service exchanges service_left
   -- The messages that were handed in and not answered are the next ones.
-  pub ahead : LeavesAhead result handed rest
+  pub ahead : LeavesAhead kinds result handed rest
   -- Each reply fits into a frame.
   pub sized : AllByRecursion HasReplySize (replies_of exchanges)
   -- The output has the written bytes.
@@ -165,6 +166,6 @@ pub record IsServed {S R : Type 0} (answers : S → MessageView → ReplyView �
   -- The written bytes are the frames of the replies.
   pub told : WritesReplies Frames result written exchanges
   -- The messages of earlier pieces were answered before the last piece was read.
-  pub prompt : IsPrompt pieces exchanges written
+  pub prompt : IsPrompt kinds pieces exchanges written
   -- How the session ended.
-  pub ended : EndsFor input_ended turns pieces exchanges rest result
+  pub ended : EndsFor kinds input_ended turns pieces exchanges rest result

@@ -3,11 +3,12 @@
 ghost use Rattle.std.specs.Prelude.{◌≡◌, ◌≤◌, [], length, drop, IsOk, IfOk, OnErr};
 ghost use Rattle.session_core.specs.Frames.{Rest, AreWholeFrames};
 ghost use Rattle.session_core.specs.Front.{message_at};
-ghost use Rattle.session_core.specs.Framer.{message_view, message_views, ending_error, IsFaulty, Continues, IsFaultOf};
+ghost use Rattle.session_core.specs.Framer.{message_view, message_views, ending_error, IsFaulty, Continues, FramerView, IsFaultOf};
 
 use crate::error::FrameError;
 use crate::frames::next_frame;
 use crate::message::Message;
+use crate::message_kinds::Kinds;
 use byte_lists::drop_front;
 use std::alloc::{AllocError, Global};
 use std::marker::Model;
@@ -20,6 +21,8 @@ use std::marker::Model;
 /// piece is the same fault.
 #[derive(Drop)]
 pub struct Framer {
+    /// Which kinds of messages the stream has.
+    kinds: Kinds,
     /// The bytes after the last whole frame.
     kept: Vec<u8>,
     /// The fault of these bytes: `Length` or `Kind`.
@@ -36,22 +39,22 @@ pub struct Fed {
 }
 
 impl Model for Framer {
-    ghost use Rattle.session_core.specs.Frames.{Ending};
-    ghost use Rattle.session_core.specs.Framer.{IsFaultOf, ending_of};
+    ghost use Rattle.session_core.specs.Framer.{FramerView, IsFaultOf, ending_of};
 
-    ghost Value = { Ending };
+    ghost Value = { FramerView };
 
-    ghost view = { λ f. ending_of f.kept.items f.fault };
+    ghost view = { λ f. record { kinds = f.kinds; ending = ending_of f.kept.items f.fault } };
 
-    ghost invariant = { λ f. IsFaultOf f.kept.items f.fault };
+    ghost invariant = { λ f. IsFaultOf f.kinds f.kept.items f.fault };
 }
 
 impl Framer {
-    /// A framer at the start of a stream.
-    pub fn new(alloc: Global) -> Framer
-        ensures { result ≡ Rest [] }
+    /// A framer at the start of a stream of messages of these kinds.
+    pub fn new(alloc: Global, kinds: Kinds) -> Framer
+        ensures { result ≡ record { kinds = kinds; ending = Rest [] } }
     {
         Framer {
+            kinds,
             kept: Vec::new(alloc),
             fault: None,
         }
@@ -60,11 +63,12 @@ impl Framer {
     /// Takes the next piece of the stream. Where memory is refused, nothing changes, and the piece
     /// can be fed again.
     pub fn feed(&mut self, piece: &[u8]) -> Result<Fed, AllocError>
-        ensures stream { IfOk result (λ fed. Continues self.old piece.now (message_views fed.messages.items) self.new) }
-        ensures fault { IfOk result (λ fed. fed.fault ≡ ending_error self.new) }
-        ensures silent { IsFaulty self.old → IfOk result (λ fed. fed.messages.items ≡ []) }
-        ensures stopped { IsFaulty self.old → self.new ≡ self.old }
-        ensures ready { IsFaulty self.old → IsOk result }
+        ensures stream { IfOk result (λ fed. Continues self.old.kinds self.old.ending piece.now (message_views fed.messages.items) self.new.ending) }
+        ensures fault { IfOk result (λ fed. fed.fault ≡ ending_error self.new.ending) }
+        ensures kinds { self.new.kinds ≡ self.old.kinds }
+        ensures silent { IsFaulty self.old.ending → IfOk result (λ fed. fed.messages.items ≡ []) }
+        ensures stopped { IsFaulty self.old.ending → self.new ≡ self.old }
+        ensures ready { IsFaulty self.old.ending → IsOk result }
         ensures err { OnErr result (self.new ≡ self.old) }
     {
         let alloc = *self.kept.allocator();
@@ -76,7 +80,7 @@ impl Framer {
         }
         let len = self.kept.len();
         self.kept.extend_from_slice(piece)?;
-        match whole_frames(alloc, self.kept.as_slice()) {
+        match whole_frames(alloc, self.kinds, self.kept.as_slice()) {
             Ok((fed, used)) => {
                 drop_front(&mut self.kept, used);
                 self.fault = fed.fault;
@@ -92,15 +96,15 @@ impl Framer {
 
 /// The messages of the whole frames at the front, the fault after them, and how many bytes the
 /// frames have.
-fn whole_frames(alloc: Global, bytes: &[u8]) -> Result<(Fed, usize), AllocError>
+fn whole_frames(alloc: Global, kinds: Kinds, bytes: &[u8]) -> Result<(Fed, usize), AllocError>
     ensures within { IfOk result (λ r. r.1 ≤ length bytes.now) }
-    ensures messages { IfOk result (λ r. AreWholeFrames bytes.now (message_views r.0.messages.items) (drop r.1 bytes.now)) }
-    ensures fault { IfOk result (λ r. IsFaultOf (drop r.1 bytes.now) r.0.fault) }
+    ensures messages { IfOk result (λ r. AreWholeFrames kinds bytes.now (message_views r.0.messages.items) (drop r.1 bytes.now)) }
+    ensures fault { IfOk result (λ r. IsFaultOf kinds (drop r.1 bytes.now) r.0.fault) }
 {
     let mut messages = Vec::new(alloc);
     let mut used = 0;
     let fault = loop {
-        match next_frame(bytes.split_at(used).1) {
+        match next_frame(kinds, bytes.split_at(used).1) {
             Ok(Some((message, len))) => {
                 messages.push(message_copy(alloc, message)?)?;
                 used += len;

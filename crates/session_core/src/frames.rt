@@ -12,15 +12,19 @@ use crate::format::{
 use crate::kinds::{LIST, LOOKUP, PURGE, REGISTER, REMOVE};
 use crate::list_request::ListRequest;
 use crate::message::Message;
+use crate::message_kinds::Kinds;
 use byteorder::{BigEndian, ByteOrder};
 
 /// The message at the front of the bytes, and how many bytes its frame has. `None` means that the
 /// bytes are less than a frame.
 ///
 /// The length is checked once four bytes are there. Once five bytes are there, the kind is checked,
-/// and the length of a purge, a removal or a list.
-pub(crate) fn next_frame(bytes: &[u8]) -> Result<Option<(Message<&[u8]>, usize)>, FrameError>
-    ensures { IsFrontReading bytes.now result }
+/// and then the length of a purge, a removal or a list.
+pub(crate) fn next_frame(
+    kinds: Kinds,
+    bytes: &[u8],
+) -> Result<Option<(Message<&[u8]>, usize)>, FrameError>
+    ensures { IsFrontReading kinds bytes.now result }
 {
     if bytes.len() < LENGTH_SIZE {
         return Ok(None);
@@ -33,7 +37,7 @@ pub(crate) fn next_frame(bytes: &[u8]) -> Result<Option<(Message<&[u8]>, usize)>
         return Ok(None);
     }
     let kind = bytes[LENGTH_SIZE];
-    if kind < REGISTER || kind > LIST {
+    if kind < REGISTER || kind > kinds.greatest() {
         return Err(FrameError::Kind);
     }
     if !is_length_of(kind, len) {
@@ -43,7 +47,7 @@ pub(crate) fn next_frame(bytes: &[u8]) -> Result<Option<(Message<&[u8]>, usize)>
         return Ok(None);
     }
     let body = &bytes[LENGTH_SIZE + 1..LENGTH_SIZE + len];
-    Ok(Some((message_of(kind, body), LENGTH_SIZE + len)))
+    Ok(Some((message_of(kinds, kind, body), LENGTH_SIZE + len)))
 }
 
 /// Whether frames of this kind can have this length. Only purges, removals and lists have lengths of
@@ -60,13 +64,13 @@ fn is_length_of(kind: u8, len: usize) -> bool
 }
 
 /// The message of a known kind with this body.
-fn message_of(kind: u8, body: &[u8]) -> Message<&[u8]>
-    requires known { IsMessageKind kind }
+fn message_of(kinds: Kinds, kind: u8, body: &[u8]) -> Message<&[u8]>
+    requires known { IsMessageKind kinds kind }
     requires in_range { IsFrameLength (1 + length body.now) }
     requires of_kind { IsLengthOf kind (1 + length body.now) }
     ensures kind { message_kind (message_at result) ≡ kind }
     ensures body { message_body (message_at result) ≡ body.now }
-    ensures fits { FitsFrame (message_at result) }
+    ensures fits { FitsFrame kinds (message_at result) }
 {
     match kind {
         REGISTER => Message::Register(body),

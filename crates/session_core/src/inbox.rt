@@ -7,6 +7,7 @@ ghost use Rattle.session_core.specs.Source.{TakesIn, FailsToTakeIn};
 use crate::error::FrameError;
 use crate::frames::next_frame;
 use crate::message::Message;
+use crate::message_kinds::Kinds;
 use crate::source::{MOST_PIECE, Source, read_once};
 use std::alloc::{AllocError, Global};
 use std::marker::Model;
@@ -87,23 +88,27 @@ impl Inbox {
 
     /// The message whose frame is at the front, and how many bytes the frame has. `None` means that
     /// the bytes are less than a frame.
-    pub(crate) fn front(&self) -> Result<Option<(Message<&[u8]>, usize)>, FrameError>
-        ensures { IsFrontReading self.now result }
+    pub(crate) fn front(&self, kinds: Kinds) -> Result<Option<(Message<&[u8]>, usize)>, FrameError>
+        ensures { IsFrontReading kinds self.now result }
     {
-        next_frame(self.bytes.split_at(self.end).0.split_at(self.used).1)
+        next_frame(kinds, self.bytes.split_at(self.end).0.split_at(self.used).1)
     }
 
     /// The message whose frame begins after this number of bytes, and how many bytes the frame has.
     /// `None` means that the bytes from there on are less than a frame.
     pub(crate) fn front_after(
         &self,
+        kinds: Kinds,
         at: usize,
     ) -> Result<Option<(Message<&[u8]>, usize)>, FrameError>
         requires { at ≤ length self.now }
-        ensures front { IsFrontReading (drop at self.now) result }
+        ensures front { IsFrontReading kinds (drop at self.now) result }
         ensures fits { IfOk result (λ front. IfSome front (λ next. at + next.1 < 2 ^ 64)) }
     {
-        next_frame(self.bytes.split_at(self.end).0.split_at(self.used + at).1)
+        next_frame(
+            kinds,
+            self.bytes.split_at(self.end).0.split_at(self.used + at).1,
+        )
     }
 
     /// Removes this number of bytes from the front.

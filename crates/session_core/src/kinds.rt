@@ -8,7 +8,7 @@ pub const LOOKUP: u8 = 2;
 pub const PURGE: u8 = 3;
 /// The kind of a removal.
 pub const REMOVE: u8 = 4;
-/// The kind of a list.
+/// The kind of a list, which sessions have where `Kinds` says so.
 pub const LIST: u8 = 5;
 
 /// The kind of a reply to a registration.

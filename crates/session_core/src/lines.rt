@@ -6,6 +6,7 @@ ghost use Rattle.session_core.specs.Lines.{IsServedInLines};
 use crate::ahead::Ahead;
 use crate::error::FrameError;
 use crate::inbox::Inbox;
+use crate::message_kinds::Kinds;
 use crate::reply::Form;
 use crate::service::Service;
 use crate::serving::{answer_and_flush, end};
@@ -13,7 +14,7 @@ use crate::session::Session;
 use std::alloc::Global;
 use std::io::Write;
 
-/// Answers the messages whose frames are these bytes, and writes each reply as a line: the
+/// Answers the messages of these kinds whose frames are these bytes, and writes each reply as a line: the
 /// hexadecimal digits of its frame in lower case. The result is the number of replies that were
 /// written, capped at 2^64 - 1. Bytes that end within a frame are `Read`. Commands are handed in
 /// ahead as by `serve`.
@@ -22,11 +23,12 @@ pub fn serve_in_lines<W: Write, S: Service>(
     bytes: Vec<u8>,
     writer: &mut W,
     service: &mut S,
+    kinds: Kinds,
 ) -> Result<u64, FrameError>
-    ensures { IsServedInLines S.answers bytes.items (S.state service.old) (S.state service.new) (W.contents writer.old) (W.contents writer.new) result }
+    ensures { IsServedInLines kinds S.answers bytes.items (S.state service.old) (S.state service.new) (W.contents writer.old) (W.contents writer.new) result }
 {
     let ahead = Ahead::new(alloc)?;
-    let mut session = Session::new(service, Inbox::holding(bytes), ahead);
+    let mut session = Session::new(service, kinds, Inbox::holding(bytes), ahead);
     let served = serve_whole(alloc, writer, &mut session);
     let _service = session.into_service();
     served
@@ -39,7 +41,7 @@ fn serve_whole<W: Write, S: Service>(
     session: &mut Session<S>,
 ) -> Result<u64, FrameError>
     requires { session.old.ahead.queue.items ≡ [] }
-    ensures { IsServedInLines S.answers session.old.inbox (S.state session.old.service) (S.state session.new.service)
+    ensures { IsServedInLines session.old.kinds S.answers session.old.inbox (S.state session.old.service) (S.state session.new.service)
         (W.contents writer.old) (W.contents writer.new) result }
 {
     let count = answer_and_flush(alloc, writer, session, Form::Lines, 0)?;

@@ -9,6 +9,7 @@ ghost use Rattle.session_core.specs.Session.{IsServed, IsSentFor};
 use crate::ahead::Ahead;
 use crate::error::FrameError;
 use crate::inbox::Inbox;
+use crate::message_kinds::Kinds;
 use crate::reply::Form;
 use crate::service::Service;
 use crate::session::Session;
@@ -17,7 +18,7 @@ use crate::source::Source;
 use crate::writing::write_reply;
 use std::alloc::Global;
 
-/// Answers the messages of a reader, in at most `turns` reads. The result is the number of replies
+/// Answers the messages of a reader, which are of these kinds, in at most `turns` reads. The result is the number of replies
 /// that were written, capped at 2^64 - 1.
 ///
 /// The commands whose frames are whole in the input, up to `MOST_AHEAD` in a row, are handed in
@@ -36,15 +37,16 @@ pub fn serve<R: Source, W: Sink, S: Service>(
     reader: &mut R,
     writer: &mut W,
     service: &mut S,
+    kinds: Kinds,
     turns: u64,
 ) -> Result<u64, FrameError>
-    ensures served { IsServed S.answers R.gives turns (S.state service.old) (S.state service.new) reader.old reader.new
+    ensures served { IsServed kinds S.answers R.gives turns (S.state service.old) (S.state service.new) reader.old reader.new
         (R.is_at_end reader.new) (W.contents writer.old) (W.contents writer.new) result }
     ensures sent { W.is_sent writer.old → IsSentFor (W.is_sent writer.new) result }
-    ensures handed_in { HandsInFromSource S.hands_in R.gives turns reader.old reader.new (S.sent service.old) (S.sent service.new) }
+    ensures handed_in { HandsInFromSource kinds S.hands_in R.gives turns reader.old reader.new (S.sent service.old) (S.sent service.new) }
 {
     let ahead = Ahead::new(alloc)?;
-    let mut session = Session::new(service, Inbox::new(alloc), ahead);
+    let mut session = Session::new(service, kinds, Inbox::new(alloc), ahead);
     let served = serve_session(alloc, reader, writer, &mut session, turns);
     let _service = session.into_service();
     served
@@ -60,10 +62,10 @@ fn serve_session<R: Source, W: Sink, S: Service>(
 ) -> Result<u64, FrameError>
     requires fresh { session.old.inbox ≡ [] }
     requires none { session.old.ahead.queue.items ≡ [] }
-    ensures served { IsServed S.answers R.gives turns (S.state session.old.service) (S.state session.new.service) reader.old reader.new
+    ensures served { IsServed session.old.kinds S.answers R.gives turns (S.state session.old.service) (S.state session.new.service) reader.old reader.new
         (R.is_at_end reader.new) (W.contents writer.old) (W.contents writer.new) result }
     ensures sent { W.is_sent writer.old → IsSentFor (W.is_sent writer.new) result }
-    ensures handed_in { HandsInFromSource S.hands_in R.gives turns reader.old reader.new (S.sent session.old.service) (S.sent session.new.service) }
+    ensures handed_in { HandsInFromSource session.old.kinds S.hands_in R.gives turns reader.old reader.new (S.sent session.old.service) (S.sent session.new.service) }
 {
     let mut count = 0;
     for _turn in 0..turns {
@@ -97,11 +99,12 @@ pub(crate) fn answer_and_flush<W: Sink, S: Service>(
     count: u64,
 ) -> Result<u64, FrameError>
     requires { session.old.ahead.queue.items ≡ [] }
-    ensures fronts { AreFrontsAnswered form S.answers (S.state session.old.service) session.old.inbox (S.state session.new.service)
+    ensures fronts { AreFrontsAnswered session.old.kinds form S.answers (S.state session.old.service) session.old.inbox (S.state session.new.service)
         session.new.inbox (W.contents writer.old) (W.contents writer.new) count result }
     ensures none { OnOk result (session.new.ahead.queue.items ≡ []) }
+    ensures kinds { session.new.kinds ≡ session.old.kinds }
     ensures sent { IsSentFor (W.is_sent writer.new) result }
-    ensures handed_in { HandsInFrontOf S.hands_in session.old.inbox (drop (frames_len session.new.ahead.queue.items) session.new.inbox)
+    ensures handed_in { HandsInFrontOf session.old.kinds S.hands_in session.old.inbox (drop (frames_len session.new.ahead.queue.items) session.new.inbox)
         (S.sent session.old.service) (S.sent session.new.service) }
 {
     match answer_all(alloc, writer, session, form, count) {
@@ -125,10 +128,11 @@ fn answer_all<W: Sink, S: Service>(
     count: u64,
 ) -> Result<u64, FrameError>
     requires { session.old.ahead.queue.items ≡ [] }
-    ensures fronts { AreFrontsAnswered form S.answers (S.state session.old.service) session.old.inbox (S.state session.new.service)
+    ensures fronts { AreFrontsAnswered session.old.kinds form S.answers (S.state session.old.service) session.old.inbox (S.state session.new.service)
         session.new.inbox (W.contents writer.old) (W.contents writer.new) count result }
     ensures none { OnOk result (session.new.ahead.queue.items ≡ []) }
-    ensures handed_in { HandsInFrontOf S.hands_in session.old.inbox (drop (frames_len session.new.ahead.queue.items) session.new.inbox)
+    ensures kinds { session.new.kinds ≡ session.old.kinds }
+    ensures handed_in { HandsInFrontOf session.old.kinds S.hands_in session.old.inbox (drop (frames_len session.new.ahead.queue.items) session.new.inbox)
         (S.sent session.old.service) (S.sent session.new.service) }
 {
     let mut sum = count;

@@ -15,6 +15,7 @@ use crate::command_kind::CommandKind;
 use crate::error::FrameError;
 use crate::inbox::Inbox;
 use crate::message::Message;
+use crate::message_kinds::Kinds;
 use crate::reply::{Reply, reply_to};
 use crate::service::Service;
 use crate::source::Source;
@@ -24,6 +25,8 @@ use std::alloc::Global;
 /// is taken out again.
 pub(crate) struct Session<S: Service> {
     service: S,
+    /// Which kinds of messages the session has.
+    kinds: Kinds,
     /// The input, from the first message on that is not answered.
     inbox: Inbox,
     /// The commands at the front of the input that were handed in.
@@ -32,13 +35,20 @@ pub(crate) struct Session<S: Service> {
 
 impl<S: Service> Session<S> {
     /// A session with these bytes as its input, and with room for commands that are handed in.
-    pub(crate) fn new(service: S, inbox: Inbox, ahead: Ahead<S::UnderWay>) -> Session<S>
+    pub(crate) fn new(
+        service: S,
+        kinds: Kinds,
+        inbox: Inbox,
+        ahead: Ahead<S::UnderWay>,
+    ) -> Session<S>
         ensures service { result.service ≡ service }
+        ensures kinds { result.kinds ≡ kinds }
         ensures inbox { result.inbox ≡ inbox }
         ensures ahead { result.ahead ≡ ahead }
     {
         Session {
             service,
+            kinds,
             inbox,
             ahead,
         }
@@ -48,6 +58,7 @@ impl<S: Service> Session<S> {
     /// bytes that were read. The number is 0 at the end of the source only.
     pub(crate) fn read_from<R: Source>(&mut self, reader: &mut R) -> Result<usize, FrameError>
         ensures service { self.new.service ≡ self.old.service }
+        ensures kinds { self.new.kinds ≡ self.old.kinds }
         ensures ahead { self.new.ahead ≡ self.old.ahead }
         ensures ok { IfOk result (λ n. TakesIn R.gives reader.old self.old.inbox n reader.new self.new.inbox) }
         ensures end { IfOk result (λ n. n ≡ 0 → R.is_at_end reader.new) }
@@ -63,18 +74,19 @@ impl<S: Service> Session<S> {
     /// `None` means that the input is less than a frame, an error that the frame is faulty; in both
     /// cases nothing changes.
     pub(crate) fn next_reply(&mut self, alloc: Global) -> Result<Option<Reply>, FrameError>
-        requires ahead { AreHandedIn S.is_for (S.state self.old.service) self.old.ahead.queue.items self.old.inbox }
+        requires ahead { AreHandedIn self.old.kinds S.is_for (S.state self.old.service) self.old.ahead.queue.items self.old.inbox }
         requires few { length self.old.ahead.queue.items ≤ MOST_AHEAD }
-        ensures next { IsNextReply S.answers (S.state self.old.service) self.old.inbox (S.state self.new.service) self.new.inbox result }
-        ensures ahead { AreHandedIn S.is_for (S.state self.new.service) self.new.ahead.queue.items self.new.inbox }
+        ensures next { IsNextReply self.old.kinds S.answers (S.state self.old.service) self.old.inbox (S.state self.new.service) self.new.inbox result }
+        ensures kinds { self.new.kinds ≡ self.old.kinds }
+        ensures ahead { AreHandedIn self.old.kinds S.is_for (S.state self.new.service) self.new.ahead.queue.items self.new.inbox }
         ensures few { LeavesFewAhead result self.new.ahead.queue.items }
-        ensures handed_in { HandsInFrontOf S.hands_in (drop (frames_len self.old.ahead.queue.items) self.old.inbox)
+        ensures handed_in { HandsInFrontOf self.old.kinds S.hands_in (drop (frames_len self.old.ahead.queue.items) self.old.inbox)
             (drop (frames_len self.new.ahead.queue.items) self.new.inbox) (S.sent self.old.service) (S.sent self.new.service) }
     {
         if let Some(first) = self.ahead.pop() {
             return Ok(Some(self.settle(first)));
         }
-        let Some((message, len)) = self.inbox.front()? else {
+        let Some((message, len)) = self.inbox.front(self.kinds)? else {
             return Ok(None);
         };
         if let Some(first) = hand_in(alloc, &mut self.service, message, len) {
@@ -93,10 +105,11 @@ impl<S: Service> Session<S> {
         requires within { len ≤ length self.old.inbox }
         requires none { self.old.ahead.queue.items ≡ [] }
         ensures state { S.state self.new.service ≡ S.state self.old.service }
+        ensures kinds { self.new.kinds ≡ self.old.kinds }
         ensures inbox { self.new.inbox ≡ self.old.inbox }
-        ensures ahead { AreHandedIn S.is_for (S.state self.new.service) self.new.ahead.queue.items (drop len self.new.inbox) }
+        ensures ahead { AreHandedIn self.old.kinds S.is_for (S.state self.new.service) self.new.ahead.queue.items (drop len self.new.inbox) }
         ensures few { length self.new.ahead.queue.items < MOST_AHEAD }
-        ensures handed_in { HandsInFrontOf S.hands_in (drop len self.new.inbox) (drop (frames_len self.new.ahead.queue.items) (drop len self.new.inbox))
+        ensures handed_in { HandsInFrontOf self.old.kinds S.hands_in (drop len self.new.inbox) (drop (frames_len self.new.ahead.queue.items) (drop len self.new.inbox))
             (S.sent self.old.service) (S.sent self.new.service) }
     {
         let mut at = len;
@@ -112,15 +125,16 @@ impl<S: Service> Session<S> {
     /// Hands in the command whose frame is whole after this number of bytes.
     fn hand_in_at(&mut self, alloc: Global, at: usize) -> Option<Handed<S::UnderWay>>
         requires { at ≤ length self.old.inbox }
-        ensures handed { IfSome result (λ handed. IsHandedIn S.is_for (S.state self.new.service) handed (drop at self.new.inbox)) }
+        ensures handed { IfSome result (λ handed. IsHandedIn self.old.kinds S.is_for (S.state self.new.service) handed (drop at self.new.inbox)) }
         ensures fits { IfSome result (λ handed. at + handed.len < 2 ^ 64) }
         ensures state { S.state self.new.service ≡ S.state self.old.service }
+        ensures kinds { self.new.kinds ≡ self.old.kinds }
         ensures inbox { self.new.inbox ≡ self.old.inbox }
         ensures ahead { self.new.ahead ≡ self.old.ahead }
         ensures handed_in { MatchOption result (S.sent self.new.service ≡ S.sent self.old.service)
-            (λ handed. HandsInFirst S.hands_in (drop at self.new.inbox) handed.len (S.sent self.old.service) (S.sent self.new.service)) }
+            (λ handed. HandsInFirst self.old.kinds S.hands_in (drop at self.new.inbox) handed.len (S.sent self.old.service) (S.sent self.new.service)) }
     {
-        let Ok(Some((message, len))) = self.inbox.front_after(at) else {
+        let Ok(Some((message, len))) = self.inbox.front_after(self.kinds, at) else {
             return None;
         };
         hand_in(alloc, &mut self.service, message, len)
@@ -128,10 +142,11 @@ impl<S: Service> Session<S> {
 
     /// Answers the first command that was handed in. The others are still ahead.
     fn settle(&mut self, first: Handed<S::UnderWay>) -> Reply
-        requires first { IsHandedIn S.is_for (S.state self.old.service) first self.old.inbox }
-        requires others { AreHandedIn S.is_for (S.state self.old.service) self.old.ahead.queue.items (drop first.len self.old.inbox) }
-        ensures answered { IsFirstAnswered S.answers (S.state self.old.service) self.old.inbox (reply_view result) (S.state self.new.service) self.new.inbox }
-        ensures others { AreHandedIn S.is_for (S.state self.new.service) self.new.ahead.queue.items self.new.inbox }
+        requires first { IsHandedIn self.old.kinds S.is_for (S.state self.old.service) first self.old.inbox }
+        requires others { AreHandedIn self.old.kinds S.is_for (S.state self.old.service) self.old.ahead.queue.items (drop first.len self.old.inbox) }
+        ensures answered { IsFirstAnswered self.old.kinds S.answers (S.state self.old.service) self.old.inbox (reply_view result) (S.state self.new.service) self.new.inbox }
+        ensures kinds { self.new.kinds ≡ self.old.kinds }
+        ensures others { AreHandedIn self.old.kinds S.is_for (S.state self.new.service) self.new.ahead.queue.items self.new.inbox }
         ensures left { self.new.inbox ≡ drop first.len self.old.inbox }
         ensures same { self.new.ahead ≡ self.old.ahead }
         ensures handed_in { S.sent self.new.service ≡ S.sent self.old.service }
@@ -159,6 +174,7 @@ impl<S: Service> Session<S> {
     {
         let Session {
             service,
+            kinds: _kinds,
             inbox: _inbox,
             ahead: _ahead,
         } = self;

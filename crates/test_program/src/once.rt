@@ -156,6 +156,8 @@ const PARTS: &[Part] = &[
         lines: &[
             (ONCE, &[REGISTER, "00000011020890"]),
             (ONCE, &[REGISTER, "00000000"]),
+            (ONCE, &[REGISTER, "0000000105"]),
+            (ONCE, &[REGISTER, "000000020500"]),
             (ONCE, &[REGISTER, "0000000106"]),
         ],
     },

@@ -3,8 +3,8 @@
 use crate::parts::{Before, NO_PEERS, Part, Peers};
 use test_support::digits::{LOOKUP, REGISTER_2096, REMOVE};
 
-/// A frame of no kind.
-const NO_KIND: &str = "0000000106";
+/// A frame of a kind that a server without lists does not know.
+const NO_KIND: &str = "0000000105";
 
 /// Three purges.
 const PURGES: &str =

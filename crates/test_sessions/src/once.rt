@@ -6,7 +6,6 @@ mod digits;
 mod frames;
 mod full_store;
 mod many_commands;
-mod pages;
 mod refused_memory;
 mod sessions;
 mod streams;

@@ -5,7 +5,7 @@
 use crate::server::checks::{assert_same, assert_true};
 use crate::server::stores::{LEAST, assert_opens_to, formatted};
 use crate::server::worlds::{Counts, World, serve};
-use path_server::{Options, RunError};
+use path_server::{Kinds, Options, RunError};
 use seg_lookup::Roster;
 use server_listeners::{Listener, Listeners};
 use std::alloc::Global;
@@ -33,6 +33,7 @@ fn no_cores(alloc: Global) -> Options {
     Options {
         cores: Roster::new(Vec::new(alloc)),
         key: None,
+        kinds: Kinds::Base,
         sessions: 0,
         peer_sessions: 0,
         idle: None,

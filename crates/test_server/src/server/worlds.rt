@@ -3,7 +3,7 @@
 use crate::server::checks::assert_same;
 use crate::server::stores::{LEAST, assert_opens_to, failing, formatted, opened};
 use isd_as::IsdAs;
-use path_server::{Options, Report, Reports, RunError, serve_store};
+use path_server::{Kinds, Options, Report, Reports, RunError, serve_store};
 use sector_dev::Device;
 use seg_lookup::Roster;
 use server_listeners::{Listener, Listeners, set_accept_timeout};
@@ -138,7 +138,7 @@ impl Reports for Counts {
     }
 }
 
-/// The options of a server for this number of sessions, whose peers may be silent for ten seconds.
+/// The options of a server for this number of sessions, whose peers may be silent for ten seconds and may list.
 pub(crate) fn options(rt: &impl Abort, alloc: Global, sessions: u64) -> Options {
     let mut cores = Vec::new(alloc);
     cores
@@ -147,6 +147,7 @@ pub(crate) fn options(rt: &impl Abort, alloc: Global, sessions: u64) -> Options 
     Options {
         cores: Roster::new(cores),
         key: None,
+        kinds: Kinds::WithLists,
         sessions,
         peer_sessions: 0,
         idle: Some(Duration::from_secs(10)),

@@ -6,7 +6,7 @@ use cli_once::{OnceService, cores_of};
 use paced_stream::{Ended, serve_connection};
 use seg_check::TrustAll;
 use seg_lookup::Roster;
-use session_core::FrameError;
+use session_core::{FrameError, Kinds};
 use std::alloc::Global;
 use std::fmt::Debug;
 use std::process::Abort;
@@ -44,7 +44,7 @@ fn served<'a, R: Abort + Clock>(
 ) -> Ended<MemStream<'a>> {
     let cores = Roster::new(cores_of(alloc, "1-ff00:0:110").expect(rt, "no list of ASes"));
     let mut service = OnceService::new(alloc, &cores, &TrustAll, 0).expect(rt, "no memory");
-    let ended = serve_connection(rt, alloc, input, output, &mut service, idle);
+    let ended = serve_connection(rt, alloc, input, output, &mut service, Kinds::Base, idle);
     service.end();
     ended
 }

@@ -9,7 +9,7 @@ use cli_once::{OnceService, cores_of};
 use paced_stream::{Ended, serve_connection};
 use seg_check::TrustAll;
 use seg_lookup::Roster;
-use session_core::FrameError;
+use session_core::{FrameError, Kinds};
 use std::alloc::Global;
 use std::process::Abort;
 use std::sync::atomic::Ordering;
@@ -59,7 +59,7 @@ fn served<'a>(
         clock,
         takes,
     };
-    let ended = serve_connection(clock, alloc, input, output, &mut busy, idle);
+    let ended = serve_connection(clock, alloc, input, output, &mut busy, Kinds::Base, idle);
     let Busy {
         service,
         clock: _,

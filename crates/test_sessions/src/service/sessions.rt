@@ -13,6 +13,7 @@ use path_session::{HubService, Service, serve};
 use sector_dev::Device;
 use seg_check::TrustAll;
 use seg_lookup::Roster;
+use session_core::Kinds;
 use std::alloc::Global;
 use std::io;
 use std::io::Read;
@@ -40,10 +41,10 @@ impl Read for Cut<'_> {
 
 /// One session, whose input is cut once.
 #[derive(Drop)]
-struct Frames {
-    alloc: Global,
-    frames: Vec<u8>,
-    cut: usize,
+pub(crate) struct Frames {
+    pub(crate) alloc: Global,
+    pub(crate) frames: Vec<u8>,
+    pub(crate) cut: usize,
 }
 
 impl Talk for Frames {
@@ -140,7 +141,7 @@ fn seventeen_segments(rt: HostRuntime) {
 /// Serves a session of one frame. The result says whether it was replied to.
 fn served<S: Service>(alloc: Global, frame: &[u8], replies: &mut Vec<u8>, service: &mut S) -> bool {
     let mut input = frame;
-    serve(alloc, &mut input, replies, service, TURNS) == Ok(1)
+    serve(alloc, &mut input, replies, service, Kinds::Base, TURNS) == Ok(1)
 }
 
 /// Serves a registration by the one service, a lookup and a removal by the other, and a lookup by

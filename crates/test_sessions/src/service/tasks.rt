@@ -10,6 +10,7 @@ use path_session::{FrameError, HubService, Service, serve};
 use sector_dev::Device;
 use seg_check::TrustAll;
 use seg_lookup::Roster;
+use session_core::Kinds;
 use std::alloc::Global;
 use std::io::{Read, Write};
 use std::process::Abort;
@@ -130,7 +131,7 @@ pub(crate) fn served<S: Service, I: Read, W: Write>(
     input: &mut I,
     writer: &mut W,
 ) -> Result<u64, FrameError> {
-    serve(alloc, input, writer, service, TURNS)
+    serve(alloc, input, writer, service, Kinds::WithLists, TURNS)
 }
 
 /// Serves the frames of an input, and adds what is written to `replies`. The result says whether the

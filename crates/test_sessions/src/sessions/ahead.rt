@@ -4,7 +4,7 @@ use crate::bytes::joined;
 use crate::checks::assert_same;
 use seg_core::{SegType, Segment};
 use session_core::{
-    Ack, Code, CommandKind, FrameError, ListRequest, Listing, MOST_AHEAD, Message, Outcome,
+    Ack, Code, CommandKind, FrameError, Kinds, ListRequest, Listing, MOST_AHEAD, Message, Outcome,
     Service, serve, serve_in_lines,
 };
 use std::alloc::Global;
@@ -213,7 +213,7 @@ fn assert_served(
         taken: Vec::new(alloc),
         room,
     };
-    let ended = serve(alloc, &mut input, &mut writer, &mut desk, 9);
+    let ended = serve(alloc, &mut input, &mut writer, &mut desk, Kinds::Base, 9);
     assert_same(rt, &ended, &wanted.ended, &wanted.calls);
     assert_same(rt, &desk.calls.as_slice(), &wanted.calls, &wanted.calls);
     assert_same(rt, &writer.taken.as_slice(), &wanted.written, &wanted.calls);
@@ -347,7 +347,7 @@ fn commands_in_lines(rt: HostRuntime) {
     let input = joined(&rt, rt.alloc(), &[&removal(), &removal(), &LOOKUP]);
     let mut desk = Desk::new(rt.alloc(), true);
     let mut written = Vec::new(rt.alloc());
-    let ended = serve_in_lines(rt.alloc(), input, &mut written, &mut desk);
+    let ended = serve_in_lines(rt.alloc(), input, &mut written, &mut desk, Kinds::Base);
     assert_same(&rt, &ended, &Ok(3), &"lines");
     assert_same(&rt, &desk.calls.as_slice(), &b"hhssl".as_slice(), &"lines");
     let wanted = b"00000002ff29\n00000002ff29\n00000002ff26\n";

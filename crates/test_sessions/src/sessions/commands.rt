@@ -3,7 +3,9 @@
 use crate::bytes::joined;
 use crate::checks::assert_same;
 use seg_core::{SegType, Segment};
-use session_core::{Ack, Code, FrameError, ListRequest, Listing, Message, Outcome, Service, serve};
+use session_core::{
+    Ack, Code, FrameError, Kinds, ListRequest, Listing, Message, Outcome, Service, serve,
+};
 use std::alloc::Global;
 use std::io::Read;
 use std::process::Abort;
@@ -134,7 +136,8 @@ fn served(
     output: &mut Vec<u8>,
 ) -> Result<u64, FrameError> {
     let mut service = Counter { place: 0 };
-    serve(alloc, &mut front.chain(rest), output, &mut service, 9)
+    let mut input = front.chain(rest);
+    serve(alloc, &mut input, output, &mut service, Kinds::Base, 9)
 }
 
 /// Checks the replies to an input that comes in two parts.

@@ -3,7 +3,7 @@
 use crate::bytes::joined;
 use crate::checks::{assert_same, assert_true};
 use crate::sessions::worked::{LOOKUP, REGISTER, stream};
-use session_core::{Fed, FrameError, Framer, Message};
+use session_core::{Fed, FrameError, Framer, Kinds, Message};
 use std::alloc::{AllocError, Global};
 use std::fmt::Debug;
 use std::process::Abort;
@@ -17,9 +17,9 @@ struct Taker {
 }
 
 impl Taker {
-    fn new(alloc: Global) -> Taker {
+    fn new(alloc: Global, kinds: Kinds) -> Taker {
         Taker {
-            framer: Framer::new(alloc),
+            framer: Framer::new(alloc, kinds),
             messages: Vec::new(alloc),
         }
     }
@@ -81,7 +81,7 @@ fn any_cut(rt: HostRuntime) {
     let bytes = stream();
     let wanted = both(&rt, rt.alloc());
     for cut in 0..=bytes.len() {
-        let mut taker = Taker::new(rt.alloc());
+        let mut taker = Taker::new(rt.alloc(), Kinds::Base);
         assert_cut(&rt, &mut taker, bytes.split_at(cut), &wanted);
     }
 }
@@ -96,13 +96,13 @@ fn assert_bytes_taken(rt: &impl Abort, taker: &mut Taker, bytes: &[u8]) {
 #[test]
 fn byte_by_byte(rt: HostRuntime) {
     let wanted = both(&rt, rt.alloc());
-    let mut taker = Taker::new(rt.alloc());
+    let mut taker = Taker::new(rt.alloc(), Kinds::Base);
     assert_bytes_taken(&rt, &mut taker, &stream());
     assert_messages(&rt, &taker.messages, &wanted, &"byte by byte");
 }
 
-/// Frames with a fault that their last byte shows, and no earlier byte.
-const FAULTS: [(&[u8], FrameError); 20] = [
+/// Frames with a fault that their last byte shows, and no earlier byte, whichever kinds there are.
+const FAULTS: [(&[u8], FrameError); 13] = [
     (b"\0\0\0\0", FrameError::Length),
     (b"\0\x02\0\x02", FrameError::Length),
     (b"\xff\xff\xff\xff", FrameError::Length),
@@ -116,18 +116,26 @@ const FAULTS: [(&[u8], FrameError); 20] = [
     (b"\0\0\0\x21\x04", FrameError::Length),
     (b"\0\0\0\x23\x04", FrameError::Length),
     (b"\0\x02\0\x01\x04", FrameError::Length),
-    (b"\0\0\0\x01\x05", FrameError::Length),
-    (b"\0\0\0\x11\x05", FrameError::Length),
-    (b"\0\0\0\x13\x05", FrameError::Length),
-    (b"\0\0\0\x22\x05", FrameError::Length),
-    (b"\0\0\0\x31\x05", FrameError::Length),
-    (b"\0\0\0\x33\x05", FrameError::Length),
-    (b"\0\x02\0\x01\x05", FrameError::Length),
 ];
+
+/// The first bytes of frames of kind 5 whose length no list has.
+const BAD_LISTS: [&[u8]; 8] = [
+    b"\0\0\0\x01\x05",
+    b"\0\0\0\x02\x05",
+    b"\0\0\0\x11\x05",
+    b"\0\0\0\x13\x05",
+    b"\0\0\0\x22\x05",
+    b"\0\0\0\x31\x05",
+    b"\0\0\0\x33\x05",
+    b"\0\x02\0\x01\x05",
+];
+
+/// The first bytes of the frames of lists, without an id and with one.
+const LISTS: [&[u8]; 2] = [b"\0\0\0\x12\x05", b"\0\0\0\x32\x05"];
 
 /// Takes a frame byte by byte and two more pieces, and checks where the fault is reported, and that
 /// there is no message.
-fn assert_fault(rt: &impl Abort, taker: &mut Taker, frame: &[u8], fault: FrameError) {
+fn assert_fault_by(rt: &impl Abort, taker: &mut Taker, frame: &[u8], fault: FrameError) {
     for (at, byte) in frame.iter().enumerate() {
         let shown = if at + 1 == frame.len() {
             Some(fault)
@@ -141,13 +149,32 @@ fn assert_fault(rt: &impl Abort, taker: &mut Taker, frame: &[u8], fault: FrameEr
     assert_same(rt, &taker.messages.is_empty(), &true, &frame);
 }
 
+/// Checks the same by a framer for messages of these kinds.
+fn assert_fault(rt: &impl Abort, alloc: Global, kinds: Kinds, frame: &[u8], fault: FrameError) {
+    let mut taker = Taker::new(alloc, kinds);
+    assert_fault_by(rt, &mut taker, frame, fault);
+}
+
 // A fault is reported at the byte that shows it, and again for each piece from then on, without a
 // message.
 #[test]
 fn frame_faults(rt: HostRuntime) {
     for (frame, fault) in &FAULTS {
-        let mut taker = Taker::new(rt.alloc());
-        assert_fault(&rt, &mut taker, frame, *fault);
+        assert_fault(&rt, rt.alloc(), Kinds::Base, frame, *fault);
+        assert_fault(&rt, rt.alloc(), Kinds::WithLists, frame, *fault);
+    }
+}
+
+// A frame of kind 5 with a wrong length has a fault of the length where there are lists. Where there
+// are none, each frame of kind 5 has a fault of the kind.
+#[test]
+fn faults_of_lists(rt: HostRuntime) {
+    for frame in BAD_LISTS {
+        assert_fault(&rt, rt.alloc(), Kinds::WithLists, frame, FrameError::Length);
+        assert_fault(&rt, rt.alloc(), Kinds::Base, frame, FrameError::Kind);
+    }
+    for frame in LISTS {
+        assert_fault(&rt, rt.alloc(), Kinds::Base, frame, FrameError::Kind);
     }
 }
 
@@ -158,7 +185,7 @@ fn with_fault(rt: &impl Abort, alloc: Global, frame: &[u8]) -> Vec<u8> {
 
 /// The result of one piece.
 fn fed(alloc: Global, piece: &[u8]) -> Result<Fed, AllocError> {
-    Framer::new(alloc).feed(piece)
+    Framer::new(alloc, Kinds::WithLists).feed(piece)
 }
 
 /// Checks that the result of a piece with this frame is these messages and this fault.
@@ -220,7 +247,7 @@ fn assert_lookup(rt: &impl Abort, alloc: Global, messages: &[Message]) {
 fn greatest_frame(rt: HostRuntime) {
     let frame = greatest(&rt, rt.alloc());
     for size in [999, 65_536, 131_076, 200_000] {
-        let mut taker = Taker::new(rt.alloc());
+        let mut taker = Taker::new(rt.alloc(), Kinds::Base);
         assert_pieces(&rt, &mut taker, &frame, size);
         assert_lookup(&rt, rt.alloc(), &taker.messages);
     }
@@ -280,7 +307,7 @@ fn feed_stream(rt: &impl Abort, framer: &mut Framer) -> Result<u8, AllocError> {
 // comes once.
 #[test]
 fn refused_memory_keeps_the_stream(rt: HostRuntime) -> Result<(), Fail> {
-    let place = feed_stream(&rt, &mut Framer::new(rt.alloc()))?;
+    let place = feed_stream(&rt, &mut Framer::new(rt.alloc(), Kinds::Base))?;
     assert_same(&rt, &place, &2, &"messages");
     Ok(())
 }

@@ -7,7 +7,9 @@ ghost use Rattle.seg_core.specs.Encoding.{IsSegment};
 use crate::bytes::{joined, push};
 use crate::checks::assert_same;
 use seg_core::{SegType, Segment, read_segment};
-use session_core::{Ack, Code, FrameError, Framer, ListRequest, Listing, Message, Service, serve};
+use session_core::{
+    Ack, Code, FrameError, Framer, Kinds, ListRequest, Listing, Message, Service, serve,
+};
 use std::alloc::Global;
 use std::process::Abort;
 use test_support::{ID, REGISTER, SEGMENT};
@@ -130,7 +132,7 @@ fn assert_message(
 /// Checks that bytes which come in two pieces are the frame of this list.
 fn assert_list(rt: &impl Abort, alloc: Global, (front, rest): (&[u8], &[u8]), wanted: ListRequest) {
     let cut = front.len();
-    let mut framer = Framer::new(alloc);
+    let mut framer = Framer::new(alloc, Kinds::WithLists);
     let first = framer.feed(front).expect(rt, "the front has memory");
     let second = framer.feed(rest).expect(rt, "the rest has memory");
     let messages = (first.messages.as_slice(), second.messages.as_slice());
@@ -160,10 +162,15 @@ fn frames_of_lists(rt: HostRuntime) {
     }
 }
 
-/// What a session of these bytes ends with. Adds what it writes.
-fn served(alloc: Global, input: &[u8], output: &mut Vec<u8>) -> Result<u64, FrameError> {
+/// What a session of these bytes, with messages of these kinds, ends with. Adds what it writes.
+fn served(
+    alloc: Global,
+    input: &[u8],
+    kinds: Kinds,
+    output: &mut Vec<u8>,
+) -> Result<u64, FrameError> {
     let mut reader = input;
-    serve(alloc, &mut reader, output, &mut Shelf, 9)
+    serve(alloc, &mut reader, output, &mut Shelf, kinds, 9)
 }
 
 /// The reply with the worked segment, that without one, and the refusal of a type. The first one
@@ -196,17 +203,23 @@ fn replies_to_lists(rt: HostRuntime) {
     let alloc = rt.alloc();
     let input = three_lists(&rt, alloc);
     let mut output = Vec::new(alloc);
-    let served = served(alloc, input.as_slice(), &mut output);
+    let served = served(alloc, input.as_slice(), Kinds::WithLists, &mut output);
     assert_same(&rt, &served, &Ok(3), &"three lists");
     assert_same(&rt, &output, &replies(&rt, alloc), &"three lists");
 }
 
-/// Checks that a session of the first bytes of a list's frame has answered nothing.
-fn assert_unanswered(rt: &impl Abort, alloc: Global, front: &[u8]) {
+/// Checks that a session of the first bytes of a list's frame ends so, and has answered nothing.
+fn assert_unanswered(
+    rt: &impl Abort,
+    alloc: Global,
+    front: &[u8],
+    kinds: Kinds,
+    ended: FrameError,
+) {
     let mut output = Vec::new(alloc);
-    let served = served(alloc, front, &mut output);
+    let served = served(alloc, front, kinds, &mut output);
     let cut = front.len();
-    assert_same(rt, &served, &Err(FrameError::Read), &cut);
+    assert_same(rt, &served, &Err(ended), &cut);
     assert_same(rt, &output.is_empty(), &true, &cut);
 }
 
@@ -217,7 +230,31 @@ fn cut_lists(rt: HostRuntime) {
     for id in [&[][..], &ID[..]] {
         let bytes = frame(&rt, alloc, 2, id);
         for cut in 1..bytes.len() {
-            assert_unanswered(&rt, alloc, bytes.as_slice().split_at(cut).0);
+            let front = bytes.as_slice().split_at(cut).0;
+            assert_unanswered(&rt, alloc, front, Kinds::WithLists, FrameError::Read);
+        }
+    }
+}
+
+/// What a session without lists ends with after this many bytes of the frame of a list: its kind is
+/// the fifth byte.
+fn ending_at(cut: usize) -> FrameError {
+    if cut < 5 {
+        FrameError::Read
+    } else {
+        FrameError::Kind
+    }
+}
+
+// In a session without lists the frame of a list has an unknown kind, which its fifth byte shows.
+#[test]
+fn no_lists(rt: HostRuntime) {
+    let alloc = rt.alloc();
+    for id in [&[][..], &ID[..]] {
+        let bytes = frame(&rt, alloc, 2, id);
+        for cut in 1..=bytes.len() {
+            let front = bytes.as_slice().split_at(cut).0;
+            assert_unanswered(&rt, alloc, front, Kinds::Base, ending_at(cut));
         }
     }
 }

@@ -21,8 +21,8 @@ returns g c =
     let left = c.into_paced-output.ensures in
     let last = ap (λ stream. taken stream ++ left.0) c.into_stream-2.ensures ∙ left.1 in
     record {
-      served = served_through g.S.Service.answers g.T.StreamCalls.given taken g.T.StreamCalls.is_at_end (λ paced. paced.stream) _ _ _ _ _ _ _ _ _ _ left.0 _ _
+      served = served_through c.args.kinds g.S.Service.answers g.T.StreamCalls.given taken g.T.StreamCalls.is_at_end (λ paced. paced.stream) _ _ _ _ _ _ _ _ _ _ left.0 _ _
           c.serve-replies.ensures.served (c.serve-replies.ensures.sent nothing) c.new-input.ensures c.into_stream.ensures first last left.2;
-      handed_in = handed_in_through g.S.Service.answers g.T.StreamCalls.given taken g.T.StreamCalls.is_at_end (λ paced. paced.stream) g.S.Service.hands_in _ _ _ _ _ _
+      handed_in = handed_in_through c.args.kinds g.S.Service.answers g.T.StreamCalls.given taken g.T.StreamCalls.is_at_end (λ paced. paced.stream) g.S.Service.hands_in _ _ _ _ _ _
           c.serve-replies.ensures.handed_in c.new-input.ensures c.into_stream.ensures;
     }

@@ -6,7 +6,7 @@ use Rattle.session_core.proofs.framer.whole_frames.Given as goal
 abbrev pub invariant-loop-message : goal.invariant-loop-message
 invariant-loop-message l = record {
   within : l.used ≤ length l.bytes;
-  so_far : AreWholeFrames l.bytes (message_views l.messages.items) (drop l.used l.bytes);
+  so_far : AreWholeFrames l.kinds l.bytes (message_views l.messages.items) (drop l.used l.bytes);
 }
 
 abbrev pub decreases-loop-message : goal.decreases-loop-message

@@ -3,6 +3,6 @@ use Rattle.session_core.proofs.laws.any_cut.Goals as goal
 
 pub returns : goal.returns
 returns c = record {
-  joined = continues-append;
-  whole = continues-whole;
+  joined = λ kinds. continues-append;
+  whole = λ kinds. continues-whole;
 }

@@ -3,6 +3,6 @@ use Rattle.session_core.proofs.laws.lasting_fault.Goals as goal
 
 pub returns : goal.returns
 returns c = record {
-  length = AreFrames-bad_length;
-  kind = AreFrames-bad_kind;
+  length = λ kinds. AreFrames-bad_length;
+  kind = λ kinds. AreFrames-bad_kind;
 }

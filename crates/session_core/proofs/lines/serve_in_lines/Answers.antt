@@ -11,5 +11,5 @@ returns-in_err-ahead g c =
 
 pub returns : goal.returns
 returns g c =
-    let served = rw (c.new-session.ensures.service, c.new-session.ensures.inbox, c.holding.ensures, ← c.into_service-service.ensures) at c.serve_whole-served.ensures in
+    let served = rw (c.new-session.ensures.service, c.new-session.ensures.kinds, c.new-session.ensures.inbox, c.holding.ensures, ← c.into_service-service.ensures) at c.serve_whole-served.ensures in
     served_in_lines_behind _ _ _ _ _ _ _ _ (λ same. ap g.S.Service.state (search rules)) served

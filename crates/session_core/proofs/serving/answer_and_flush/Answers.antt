@@ -5,6 +5,7 @@ pub returns-then-is_err : goal.returns-then-is_err
 returns-then-is_err g c = record {
   fronts = not_flushed c.args.form g.S.Service.answers _ _ _ _ (g.W.Sink.contents c.args.writer.now) (g.W.Sink.contents c.answer_all.new.writer) (g.W.Sink.contents c.send.new.self) _ c.answer_all.result c.answer_all.ensures.fronts c.send.ensures.bytes;
   none = tt;
+  kinds = c.answer_all.ensures.kinds;
   sent = tt;
   handed_in = c.answer_all.ensures.handed_in;
 }

@@ -13,7 +13,7 @@ returns-in_err-ahead-clause-served g c =
 
 pub returns-clause-served : goal.returns-clause-served
 returns-clause-served g c =
-    let served = rw (c.new-session.ensures.service, ← c.into_service-service.ensures) at c.serve_session-served.ensures.served in
+    let served = rw (c.new-session.ensures.service, c.new-session.ensures.kinds, ← c.into_service-service.ensures) at c.serve_session-served.ensures.served in
     served_behind _ _ _ _ _ _ _ _ _ _ _ _ (λ same. ap g.S.Service.state (search rules)) served
 
 pub returns-in_err-ahead-clause-sent : goal.returns-in_err-ahead-clause-sent
@@ -24,6 +24,6 @@ returns-in_err-ahead-clause-handed_in g c = hands_in_at_once _ _ _ _ _
 
 pub returns-clause-handed_in : goal.returns-clause-handed_in
 returns-clause-handed_in g c =
-    let served = rw (c.new-session.ensures.service, ← c.into_service-service.ensures) at c.serve_session-served.ensures.served in
-    let handed = rw (c.new-session.ensures.service, ← c.into_service-service.ensures) at c.serve_session-served.ensures.handed_in in
+    let served = rw (c.new-session.ensures.service, c.new-session.ensures.kinds, ← c.into_service-service.ensures) at c.serve_session-served.ensures.served in
+    let handed = rw (c.new-session.ensures.service, c.new-session.ensures.kinds, ← c.into_service-service.ensures) at c.serve_session-served.ensures.handed_in in
     handed_in_behind _ _ _ _ _ _ _ _ _ _ _ _ _ _ _ (λ same. ap g.S.Service.sent (search rules)) served handed

@@ -1,4 +1,4 @@
-use Rattle.std.proofs.Common.{◌≡◌, ℕ, Err, arith, refl, subst}
+use Rattle.std.proofs.Common.{◌≡◌, ℕ, Err, arith, refl, subst, ◌∙◌}
 use Rattle.std.proofs.lemmas.Result.{err_from_is_err_and}
 use Rattle.session_core.specs.declared.error.FrameError.TheVariants as error
 use Rattle.session_core.specs.Session.{IsServed}
@@ -8,6 +8,7 @@ use Rattle.session_core.proofs.serving.serve_session.Goals as goal
 
 pub loop-turn-init : goal.loop-turn-init
 loop-turn-init g c = record {
+  kinds = refl;
   none = c.requires.none;
   so_far = so_far_none _ _ _ _ _ _ c.requires.fresh;
   sent = λ before. before;
@@ -27,14 +28,15 @@ returns-then-branch-eq0-clause-served g c =
 pub returns-in_err-count-clause-served : goal.returns-in_err-count-clause-served
 returns-in_err-count-clause-served g c =
     let p = err_from_is_err_and c.from_residual-in_err-count.result c.from_residual-in_err-count.ensures.1 in
-    let fronts = rw c.read_from.ensures.service at c.in_err-count.ensures.fronts in
+    let fronts = rw (c.read_from.ensures.service, c.read_from.ensures.kinds, c.loop-turn.invariant.kinds) at c.in_err-count.ensures.fronts in
     rw (p.1, p.2) (ends_at_read_piece _ _ _ _ _ _ _ _ _ _ _ c.loop-turn.invariant.so_far _ _ _ c.in_ok-read_from.ensures.ok _ _ _ _ _ _ c.loop-turn-test.true fronts)
 
 pub loop-turn-preserved : goal.loop-turn-preserved
 loop-turn-preserved g c =
-    let fronts = rw c.read_from.ensures.service at c.in_ok-count.ensures.fronts in
-    let taken = rw (c.read_from.ensures.service, c.in_ok-count.ensures.none) at c.in_ok-count.ensures.handed_in in
+    let fronts = rw (c.read_from.ensures.service, c.read_from.ensures.kinds, c.loop-turn.invariant.kinds) at c.in_ok-count.ensures.fronts in
+    let taken = rw (c.read_from.ensures.service, c.read_from.ensures.kinds, c.loop-turn.invariant.kinds, c.in_ok-count.ensures.none) at c.in_ok-count.ensures.handed_in in
     record {
+      kinds = c.in_ok-count.ensures.kinds ∙ (c.read_from.ensures.kinds ∙ c.loop-turn.invariant.kinds);
       none = c.in_ok-count.ensures.none;
       so_far = so_far_read _ _ _ _ _ _ _ _ _ _ _ c.loop-turn.invariant.so_far _ _ _ c.in_ok-read_from.ensures.ok _ _ _ _ _ refl fronts;
       sent = λ before. c.in_ok-count.ensures.sent;
@@ -44,7 +46,7 @@ loop-turn-preserved g c =
 pub returns-clause-served : goal.returns-clause-served
 returns-clause-served g c =
     let all : c.loop-turn._turn ≡ c.args.turns = omega arith in
-    subst (λ (turns : ℕ). IsServed g.S.Service.answers g.R.Source.gives turns (g.S.Service.state c.args.session.now.service) (g.S.Service.state c.loop-turn.session.service) c.args.reader.now c.loop-turn.reader (g.R.Source.is_at_end c.loop-turn.reader)
+    subst (λ (turns : ℕ). IsServed c.args.session.now.kinds g.S.Service.answers g.R.Source.gives turns (g.S.Service.state c.args.session.now.service) (g.S.Service.state c.loop-turn.session.service) c.args.reader.now c.loop-turn.reader (g.R.Source.is_at_end c.loop-turn.reader)
     (g.W.Sink.contents c.args.writer.now) (g.W.Sink.contents c.loop-turn.writer) (Err error.Turns)) all
     (ends_at_turns _ _ _ _ _ _ _ _ _ _ _ c.loop-turn.invariant.so_far _)
 
@@ -59,7 +61,7 @@ returns-then-branch-eq0-clause-handed_in g c =
 
 pub returns-in_err-count-clause-handed_in : goal.returns-in_err-count-clause-handed_in
 returns-in_err-count-clause-handed_in g c =
-    let taken = rw c.read_from.ensures.service at c.in_err-count.ensures.handed_in in
+    let taken = rw (c.read_from.ensures.service, c.read_from.ensures.kinds, c.loop-turn.invariant.kinds) at c.in_err-count.ensures.handed_in in
     let after = hands_in_more _ _ _ _ _ _ _ _ c.loop-turn.invariant.handed_in _ _ _ _ _ _ c.in_ok-read_from.ensures.ok refl taken in
     hands_in_all _ _ _ _ _ _ _ _ after _ (omega (arith, c.loop-turn-test.true))
 

@@ -19,7 +19,7 @@ returns-clause-served g c =
     let ended = c.serve_connection-ended in
     let last = limited state ended.new.service.service in
     let begins = ap (λ service. limited state service) c.new-counted.ensures ∙ c.new-limited.ensures.view ∙ begins_so _ _ _ _ _ _ _ _ c.limits-limits.ensures.future c.limits-limits.ensures.rooms c.limits-limits.ensures.commands c.new-service.ensures.begins in
-    let connection = subst (λ (start : LimitedView Serving). IsConnectionServed (LimitedAnswers (HubAnswers opening refused)) g.T.StreamCalls.given g.T.StreamCalls.taken g.T.StreamCalls.is_at_end
+    let connection = subst (λ (start : LimitedView Serving). IsConnectionServed c.args.self.now.options.now.kinds (LimitedAnswers (HubAnswers opening refused)) g.T.StreamCalls.given g.T.StreamCalls.taken g.T.StreamCalls.is_at_end
     start last c.args.input ended.result.input c.args.output ended.result.output ended.result.replies) begins ended.ensures.served in record {
       reader = c.in_ok-reader.reader;
       last = last;
@@ -38,7 +38,7 @@ returns-clause-nothing g c off =
     let ended = c.serve_connection-ended in
     let last = limited state ended.new.service.service in
     let begins = ap (λ service. limited state service) c.new-counted.ensures ∙ c.new-limited.ensures.view ∙ begins_so _ _ _ _ _ _ _ _ c.limits-limits.ensures.future c.limits-limits.ensures.rooms c.limits-limits.ensures.commands c.new-service.ensures.begins in
-    let connection = subst (λ (start : LimitedView Serving). IsConnectionServed (LimitedAnswers (HubAnswers opening refused)) g.T.StreamCalls.given g.T.StreamCalls.taken g.T.StreamCalls.is_at_end
+    let connection = subst (λ (start : LimitedView Serving). IsConnectionServed c.args.self.now.options.now.kinds (LimitedAnswers (HubAnswers opening refused)) g.T.StreamCalls.given g.T.StreamCalls.taken g.T.StreamCalls.is_at_end
     start last c.args.input ended.result.input c.args.output ended.result.output ended.result.replies) begins ended.ensures.served in
     let handed = ap (λ limits. (state limits.inner).acknowledged) (sym c.into_service.ensures) ∙ ap (λ service. (state service).acknowledged) (sym c.into_service-2.ensures) ∙ sym c.into_parts-reader.ensures.acknowledged in
     sym handed ∙ claims_stay opening refused _ connection.served.exchanges last off connection.served.answered

@@ -1,13 +1,18 @@
 //! Pages of more segments than one reply has.
 
 use crate::bytes::push;
-use crate::checks::{assert_same, assert_true};
-use crate::once::worked::{cores, session};
+use crate::checks::assert_true;
 use crate::service::frames::register_by;
+use crate::service::sessions::Frames;
+use crate::service::stores::new_store;
+use crate::service::tasks::talked;
 use seg_check::seg_id;
 use seg_core::{SegType, Segment, read_segment, write_response_of};
 use std::alloc::Global;
 use std::process::Abort;
+use std::sync::Wait;
+use std::thread::Threads;
+use std::time::Clock;
 use test_support::leaving_by;
 
 /// How many segments are registered, each left by another interface.
@@ -75,12 +80,12 @@ fn registrations(rt: &impl Abort, alloc: Global) -> Vec<u8> {
 
 /// What a session is sent, and the pages that it is replied.
 #[derive(Drop)]
-struct Talk {
+struct Lists {
     frames: Vec<u8>,
     pages: Vec<u8>,
 }
 
-impl Talk {
+impl Lists {
     /// Adds a list after an id if there is one, and its page of these segments.
     fn push(&mut self, rt: &impl Abort, alloc: Global, id: &[u8], page: &[Row], more: u8) {
         push_list(rt, &mut self.frames, id);
@@ -98,31 +103,38 @@ impl Talk {
 
 /// Lists all segments: the first page has 64 segments, and the one after the last of them the
 /// others. The page after the first segment but five has 64, too, and none follows.
-fn push_lists(rt: &impl Abort, alloc: Global, talk: &mut Talk, rows: &[Row]) {
+fn push_lists(rt: &impl Abort, alloc: Global, lists: &mut Lists, rows: &[Row]) {
     let first = rows.split_at(PAGE.min(rows.len())).0;
-    talk.push(rt, alloc, &[], first, 1);
-    talk.push_after(rt, alloc, rows, PAGE);
-    talk.push_after(rt, alloc, rows, 6);
+    lists.push(rt, alloc, &[], first, 1);
+    lists.push_after(rt, alloc, rows, PAGE);
+    lists.push_after(rt, alloc, rows, 6);
 }
 
 /// Sees that a session is replied these pages after the registrations.
-fn assert_pages(rt: &impl Abort, alloc: Global, talk: &Talk) {
-    let mut output = Vec::new(alloc);
-    let mut reader = talk.frames.as_slice();
-    let ended = session(alloc, &mut reader, &mut output, &cores(rt, alloc), 1_000);
-    assert_same(rt, &ended, &Ok(u64::from(SEGMENTS) + 3), &"replies");
-    let has_pages = output.as_slice().ends_with(talk.pages.as_slice());
-    assert_true(rt, has_pages, "the replies end with the pages");
+fn assert_pages<R: Wait + Clock + Threads + Abort + Copy + Drop + Send + Sync>(
+    rt: R,
+    alloc: Global,
+    lists: Lists,
+) {
+    let Lists { frames, pages } = lists;
+    let talk = Frames {
+        alloc,
+        frames,
+        cut: 0,
+    };
+    let (_device, written) = talked(rt, alloc, new_store(&rt, alloc), talk);
+    let has_pages = written.is_some_and(|written| written.as_slice().ends_with(pages.as_slice()));
+    assert_true(&rt, has_pages, "the replies end with the pages");
 }
 
 #[test]
 fn pages_of_seventy_segments(rt: HostRuntime) {
     let alloc = rt.alloc();
     let rows = rows(&rt, alloc);
-    let mut talk = Talk {
+    let mut lists = Lists {
         frames: registrations(&rt, alloc),
         pages: Vec::new(alloc),
     };
-    push_lists(&rt, alloc, &mut talk, rows.as_slice());
-    assert_pages(&rt, alloc, &talk);
+    push_lists(&rt, alloc, &mut lists, rows.as_slice());
+    assert_pages(&rt, alloc, lists);
 }
