@@ -18,14 +18,12 @@ use Rattle.seg_lookup.specs.Roster.{RosterView}
 use Rattle.seg_lookup.specs.Query.{QueryView}
 use Rattle.seg_lookup.specs.Classification.{query_of}
 use Rattle.seg_lookup.specs.Answer.{answer_to}
-use Rattle.seg_lookup.specs.Page.{answer_after, has_more}
-use Rattle.session_core.specs.declared.list_request.ListRequest.{ListRequest}
 use Rattle.session_core.specs.declared.message.Message.TheVariants.{Register, Lookup, Purge, Remove}
 use Rattle.session_core.specs.declared.message.Message.TheVariants as message
 use Rattle.session_core.specs.declared.service.Ack.{Ack}
 use Rattle.session_core.specs.Frames.{MessageView}
-use Rattle.session_core.specs.Reply.{ReplyView, Registered, Found, Purged, Removed, Listed, Refused}
-use Rattle.reply_codes.specs.Codes.{memory_code, seg_code, check_code, lookup_code, submit_code}
+use Rattle.session_core.specs.Reply.{ReplyView, Registered, Found, Purged, Removed, Refused}
+use Rattle.reply_codes.specs.Codes.{memory_code, stopped_code, seg_code, check_code, lookup_code, submit_code}
 use Rattle.store_layout.specs.declared.format.TheConstants.{BEFORE_ROWS}
 
 -- A service over a store in memory.
@@ -100,23 +98,14 @@ abbrev pub lookup_step : Served → Result (ℕ × ℕ) SegError → Step
 lookup_step served (Ok ends) = query_step served (query_of served.roster ends.0 ends.1)
 lookup_step served (Err e) = refused_step served (seg_code e)
 
--- A page of what a query shows, after an id or from the first row on.
-abbrev pub page_step : Served → QueryView → Option (List ℕ) → Step
-page_step served query after =
-    (Listed (has_more served.rows query after served.now) query.kind (segments_of (answer_after served.rows query after served.now)), served)
-
--- The step of a list, once its type is read.
-abbrev pub list_step : Served → ListRequest → Result SegType SegError → Step
-list_step served request (Ok kind) = page_step served (record { kind = kind; start = request.start; end = request.end }) request.after
-list_step served request (Err e) = refused_step served (seg_code e)
-
--- One message is read, checked or classified, and applied. The first refusal is the reply.
+-- One message is read, checked or classified, and applied. The first refusal is the reply. A list
+-- is refused: no session without lists has one.
 unfoldable pub message_step : Served → MessageView → Step
 message_step served (Register body) = registration_step served (registration_decoding body)
 message_step served (Lookup body) = lookup_step served (request_decoding body)
 message_step served (Purge moment) = command_step Purged served (command.Purge moment)
 message_step served (Remove kind id) = removal_step served id (type_of kind)
-message_step served (message.List request) = list_step served request (type_of request.kind)
+message_step served (message.List request) = refused_step served stopped_code
 
 -- ---- refused memory
 
@@ -125,14 +114,14 @@ abbrev pub ShowsLookup : ReplyView → Type 0
 ShowsLookup (Found kind segments) = Unit {0}
 ShowsLookup _ = ⊥
 
--- Memory may be refused for a message. A registration whose outline is refused, a removal or a list
--- whose type is none, and a lookup that asks for no segments take no memory.
+-- Memory may be refused for a message. A registration whose outline is refused, a removal whose
+-- type is none, a lookup that asks for no segments, and a list take no memory.
 abbrev pub MayRunOut : Served → MessageView → Type 0
 MayRunOut served (Register body) = IsOk (registration_outline body)
 MayRunOut served (Lookup body) = ShowsLookup (message_step served (Lookup body)).0
 MayRunOut served (Purge moment) = Unit {0}
 MayRunOut served (Remove kind id) = IsOk (type_of kind)
-MayRunOut served (message.List request) = IsOk (type_of request.kind)
+MayRunOut served (message.List request) = ⊥
 
 -- The message was refused memory. Nothing changed, or its command was taken and the outcome is not
 -- reported.

@@ -6,20 +6,20 @@ ghost use Rattle.seg_core.specs.Encoding.{IsSegment};
 ghost use Rattle.path_records.specs.CommandRecord.{IsWithinLimits};
 ghost use Rattle.session_core.specs.declared.message.Message.TheVariants.{Register, Lookup, Purge, Remove, List};
 ghost use Rattle.session_core.specs.declared.service.TheConstants.{MOST_SEGMENTS};
-ghost use Rattle.session_core.specs.Reply.{Registered, Purged, Removed};
-ghost use Rattle.reply_codes.specs.Replies.{reply_to_command, reply_to_query, reply_to_page};
+ghost use Rattle.session_core.specs.Reply.{Registered, Purged, Removed, Refused};
+ghost use Rattle.reply_codes.specs.Refusal.{refusal_code};
+ghost use Rattle.reply_codes.specs.Replies.{reply_to_command, reply_to_query};
 ghost use Rattle.cli_once.specs.Kept.{served_by};
 ghost use Rattle.cli_once.specs.Memory.{Answers, opening};
 ghost use Rattle.cli_once.specs.Taking.{take_refusal, MayAcknowledge};
 
 use group_core::SubmitError;
-use isd_as::IsdAs;
 use once_store::{OnceStore, TakeError, Taken};
 use path_db::{Command, Registration};
 use reply_codes::Refusal;
 use seg_check::{Verifier, check_all};
 use seg_core::{SegType, Segment, read_registration, read_registrations_are_whole, read_request};
-use seg_lookup::{Query, Roster, classify};
+use seg_lookup::{Roster, classify};
 use session_core::{Ack, Code, ListRequest, Listing, Message, Service};
 use std::alloc::{AllocError, Global};
 
@@ -116,27 +116,12 @@ impl<'a, V: Verifier> OnceService<'a, V> {
         Ok((query.kind, found))
     }
 
-    /// The page that a list asks for, of segments of one type.
+    /// The refusal of a list. No session without lists asks for it.
     #[tactic(auto, unfolding(crate::specs::Memory::message_step))]
-    fn find_page(&mut self, request: &ListRequest) -> Result<Listing, Refusal>
-        ensures answers { Answers (served_by V.verifies self.old) (List request.now) (reply_to_page result) (served_by V.verifies self.new) }
-        ensures few { IfOk result (λ listing. length listing.segments.items ≤ MOST_SEGMENTS) }
-        ensures whole { IfOk result (λ listing. AllByRecursion IsSegment listing.segments.items) }
+    fn refuse_list(&self, request: &ListRequest) -> Refusal
+        ensures { Answers (served_by V.verifies self.now) (List request.now) (Refused (refusal_code result)) (served_by V.verifies self.now) }
     {
-        let kind = SegType::from_number(u64::from(request.kind))?;
-        let query = Query {
-            kind,
-            start: IsdAs::from_u64(request.start),
-            end: IsdAs::from_u64(request.end),
-        };
-        let page = self
-            .store
-            .page(&query, request.after.as_ref(), self.moment)?;
-        Ok(Listing {
-            kind,
-            segments: page.segments,
-            more: page.more,
-        })
+        Refusal::Stopped
     }
 }
 
@@ -181,7 +166,7 @@ impl<V: Verifier> Service for OnceService<'_, V> {
     }
 
     fn list(&mut self, _alloc: Global, request: &ListRequest) -> Result<Listing, Code> {
-        Ok(self.find_page(request)?)
+        Err(Code::from(self.refuse_list(request)))
     }
 
     fn purge(&mut self, moment: u64) -> Result<Ack, Code> {

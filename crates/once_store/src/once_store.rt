@@ -2,15 +2,12 @@
 
 ghost use Rattle.std.specs.Prelude.{◌≡◌, ◌≤◌, length, IfOk};
 ghost use Rattle.std.specs.List.{AllByRecursion};
-ghost use Rattle.std.specs.Option.{option_copied};
 ghost use Rattle.seg_core.specs.Encoding.{IsSegment};
 ghost use Rattle.path_db.specs.Answer.{segments_of};
 ghost use Rattle.path_records.specs.CommandRecord.{IsWithinLimits};
 ghost use Rattle.seg_lookup.specs.Answer.{answer_to};
-ghost use Rattle.seg_lookup.specs.Page.{has_more};
 ghost use Rattle.seg_lookup.specs.Query.{query_view};
 ghost use Rattle.seg_lookup.specs.declared.answers.TheConstants.{ANSWER_LIMIT};
-ghost use Rattle.group_core.specs.Reading.{IsPageOf};
 ghost use Rattle.once_store.specs.OnceView.{no_rows};
 ghost use Rattle.once_store.specs.Taking.{MayTake};
 
@@ -23,7 +20,7 @@ use crate::starting::start;
 use group_core::SubmitError;
 use path_db::Command;
 use seg_core::Segment;
-use seg_lookup::{Page, Query};
+use seg_lookup::Query;
 use std::alloc::{AllocError, Global};
 use std::marker::Model;
 
@@ -92,26 +89,6 @@ impl OnceStore {
     {
         settle(&mut self.state, &mut self.held)?;
         self.state.look_up(query, now)
-    }
-
-    /// A page of what a query shows at a moment, in half seconds since 1970: of the rows after an
-    /// id, or of all rows. Memory is refused only where there are segments to show, or where it was
-    /// refused for an earlier command.
-    pub fn page(
-        &mut self,
-        query: &Query,
-        after: Option<&[u8; 32]>,
-        now: u64,
-    ) -> Result<Page, AllocError>
-        ensures answer { IfOk result (IsPageOf self.old.rows (query_view query.now) (option_copied after.entry) now) }
-        ensures more { IfOk result (λ page. page.more ≡ has_more self.old.rows (query_view query.now) (option_copied after.entry) now) }
-        ensures few { IfOk result (λ page. length page.segments.items ≤ ANSWER_LIMIT) }
-        ensures whole { IfOk result (λ page. AllByRecursion IsSegment page.segments.items) }
-        ensures same { self.new ≡ self.old }
-    {
-        let state = &mut self.state;
-        settle(state, &mut self.held)?;
-        state.page(query, after, now)
     }
 
     /// Ends the store, and drops its device. The call takes no memory.

@@ -77,7 +77,6 @@ def valid_bodies(seed: str) -> list[tuple[int, bytes]]:
         bodies.append((frame[4], frame[5:]))
     bodies += [(model.LOOKUP, messages.lookup_frame(*query)[5:]) for query in runs.QUERIES]
     bodies += [(model.REGISTER, full_registration(number)) for number in range(6)]
-    bodies += [(model.LIST, messages.list_frame(*page)[5:]) for page in runs.PAGES]
     bodies.append((model.LOOKUP, b""))
     bodies.append((model.REGISTER, b""))
     return bodies
@@ -181,15 +180,12 @@ class Wide:
         return self.chance.choice((isd_as, isd_as, isd_as >> 48 << 48, 0, isd_as & (1 << 48) - 1))
 
     def next(self) -> tuple[int, bytes]:
-        """A lookup, a page, a registration, a removal or a purge."""
+        """A lookup, a registration, a removal or a purge."""
         fate = self.chance.random()
         kind, hops = self.chance.choice(self.rows)
-        if fate < 0.2:
+        if fate < 0.6:
             sides = self.chance.choice(((self._side(), self._side()), (runs.CORE_A, self._side()), (hops[-1].isd_as, runs.CORE_A)))
             return model.LOOKUP, messages.lookup_frame(*sides)[5:]
-        if fate < 0.6:
-            after = self.chance.choice((b"", messages.path_id(hops), self.chance.randbytes(32)))
-            return model.LIST, messages.list_frame(self.chance.randrange(1, 4), self._side(), self._side(), after)[5:]
         if fate < 0.75:
             return self._registration(self.chance.sample(self.rows, 3))
         if fate < 0.95:
@@ -283,9 +279,6 @@ def mutated_request(bodies: list[tuple[int, bytes]], chance: random.Random) -> t
     if kind == model.REMOVE:
         at = chance.randrange(33)
         return kind, body[:at] + bytes([chance.randrange(5)]) + body[at + 1 :] if chance.random() < 0.5 else body
-    if kind == model.LIST:
-        at = chance.choice((0, chance.randrange(len(body))))
-        return kind, body[:at] + bytes([chance.randrange(256) if at else chance.randrange(5)]) + body[at + 1 :] if chance.random() < 0.5 else body
     if chance.random() < (0.5 if is_greatest else 0.1):
         return kind, body
     for _ in range(chance.choice((1, 1, 2))):
@@ -302,13 +295,13 @@ def broken_frame(bodies: list[tuple[int, bytes]], chance: random.Random) -> tupl
     if how == 0:
         return struct.pack(">I", chance.choice((0, 131_074, 1 << 31, (1 << 32) - 1))) + chance.randbytes(chance.randrange(9)), b"error: frame 1\n"
     if how == 1:
-        return struct.pack(">IB", 1 + len(body), chance.choice((0, 6, 0x81, 0xFF))) + body, b"error: frame 2\n"
+        return struct.pack(">IB", 1 + len(body), chance.choice((0, model.LIST, 6, 0x81, 0xFF))) + body, b"error: frame 2\n"
     if how == 2:
         return struct.pack(">IB", chance.choice((1, 8, 10, 131_073)), 3) + chance.randbytes(8), b"error: frame 1\n"
     if how == 3:
         return struct.pack(">IB", chance.choice((1, 33, 35, 131_073)), 4) + chance.randbytes(33), b"error: frame 1\n"
     if how == 4:
-        return struct.pack(">IB", chance.choice((1, 17, 19, 49, 51, 131_073)), 5) + chance.randbytes(49), b"error: frame 1\n"
+        return struct.pack(">IB", chance.choice((1, 17, 18, 50, 51, 131_073)), model.LIST) + chance.randbytes(49), b"error: frame 2\n"
     frame = messages.frame(kind, body)
     return frame[: chance.randrange(1, len(frame))], b"error: frame 3\n"
 
@@ -328,8 +321,6 @@ class Session:
         try:
             if kind == model.LOOKUP:
                 return self._found(*reading.read_request(body))
-            if kind == model.LIST:
-                return self._listed(*model.list_of(bytes([kind]) + body))
             if kind == model.REGISTER:
                 command = reading.read_registration(body)
                 if any(model.row_of(segment).expiry <= self.now for _, segment in command[1]):
@@ -364,11 +355,6 @@ class Session:
         if isinstance(query, int):
             return bytes([model.REFUSED, query])
         return b"\x82" + model.found_body(query[0], model.matching(self.db, query, self.now))
-
-    def _listed(self, kind: int, start: int, end: int, after: bytes) -> bytes:
-        if kind not in model.TYPE_NAMES:
-            return bytes([model.REFUSED, reading.BAD_TYPE])
-        return b"\x85" + model.listed_body(kind, *model.page(self.db, (kind, start, end), after, self.now))
 
 
 def try_frames(given: tuple) -> tuple[Counter, list[str]]:
