@@ -6,6 +6,14 @@ use Rattle.std.specs.Cmp.Lexicographic.{slice_cmp}
 use Rattle.seg_core.specs.Digest.{segment_digest}
 use Rattle.seg_core.specs.declared.seg_type.SegType.{SegType}
 use Rattle.session_core.specs.declared.service.Listing.{Listing}
+use Rattle.cli_ask.specs.declared.error.AskError.{AskError}
+use Rattle.cli_ask.specs.declared.error.AskError.TheVariants as error
+
+-- Why a page after this id has no reply. A server without lists ends the connection instead of
+-- replying to the first one.
+abbrev pub unlisted : Option (List ℕ) → AskError → AskError
+unlisted None error.Ended = error.NoLists
+unlisted after e = e
 
 -- A page has no segments, or segments of this type.
 abbrev pub IsOfType : SegType → Listing → Type 0

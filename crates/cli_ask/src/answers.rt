@@ -12,11 +12,13 @@ use std::alloc::Global;
 /// The most bytes that are read at one time.
 pub(crate) const PIECE: usize = 16_384;
 
-/// The next reply. A length that no reply has is `Faulty`, before anything is read of it.
+/// The next reply. A length that no reply has is `Faulty`, before anything is read of it. A
+/// connection that ends before the first byte is `Ended`, and one that ends later is `Cut`.
 pub(crate) fn next_reply<L: Link>(alloc: Global, link: &mut L) -> Result<Reply, AskError> {
     link.begin()?;
     let mut head = [0; LENGTH_SIZE];
-    fill(link, &mut head)?;
+    let begun = some_of(link, &mut head, AskError::Ended)?;
+    fill(link, &mut head[begun..])?;
     let len = BigEndian::read_u32(&head) as usize;
     if len == 0 || len > MOST_REPLY {
         return Err(AskError::Faulty);
@@ -33,7 +35,7 @@ fn content_of<L: Link>(alloc: Global, link: &mut L, len: usize) -> Result<Vec<u8
     let mut piece = [0; PIECE];
     let mut left = len;
     while left > 0 {
-        let count = some_of(link, &mut piece[..left.min(PIECE)])?;
+        let count = some_of(link, &mut piece[..left.min(PIECE)], AskError::Cut)?;
         content.extend_from_slice(&piece[..count])?;
         left -= count;
     }
@@ -44,18 +46,18 @@ fn content_of<L: Link>(alloc: Global, link: &mut L, len: usize) -> Result<Vec<u8
 fn fill<L: Link>(link: &mut L, into: &mut [u8]) -> Result<(), AskError> {
     let mut at = 0;
     while at < into.len() {
-        at += some_of(link, &mut into[at..])?;
+        at += some_of(link, &mut into[at..], AskError::Cut)?;
     }
     Ok(())
 }
 
-/// Reads once, at least one byte.
-fn some_of<L: Link>(link: &mut L, into: &mut [u8]) -> Result<usize, AskError>
+/// Reads once, at least one byte. The end of the connection is this error.
+fn some_of<L: Link>(link: &mut L, into: &mut [u8], ended: AskError) -> Result<usize, AskError>
     ensures most { IfOk result (λ n. n ≤ length into.new) }
     ensures least { IfOk result (λ n. 1 ≤ n) }
 {
     match link.receive(into)? {
-        0 => Err(AskError::Cut),
+        0 => Err(ended),
         count => Ok(count),
     }
 }

@@ -20,8 +20,12 @@ pub enum AskError {
     Connect(io::Error),
     /// The connection failed, or a call of it.
     Broken(io::Error),
-    /// The server has ended the connection before a whole reply.
+    /// The server has ended the connection before the first byte of a reply.
+    Ended,
+    /// The server has ended the connection before a whole reply, or takes no bytes.
     Cut,
+    /// The server has ended the connection before the first byte of the first page of a list.
+    NoLists,
     /// A reply, or the way to the server, took too long.
     Timeout,
     /// A reply is none that a server sends.
@@ -49,7 +53,9 @@ impl AskError {
             AskError::NoMemory => AskFault::Memory,
             AskError::Output => AskFault::Output,
             AskError::Connect(_) => AskFault::Connect,
-            AskError::Broken(_) | AskError::Cut => AskFault::Cut,
+            AskError::Broken(_) | AskError::Ended | AskError::Cut | AskError::NoLists => {
+                AskFault::Cut
+            }
             AskError::Timeout => AskFault::Timeout,
             AskError::Faulty | AskError::Unasked => AskFault::Reply,
             AskError::Input(_) => AskFault::Input,
@@ -66,7 +72,10 @@ impl fmt::Display for AskError {
             AskError::Output => write!(f, "cannot write standard output"),
             AskError::Connect(error) => write!(f, "cannot connect: {error}"),
             AskError::Broken(error) => write!(f, "the connection failed: {error}"),
-            AskError::Cut => write!(f, "the server ended the connection before its reply"),
+            AskError::Ended | AskError::Cut => {
+                write!(f, "the server ended the connection before its reply")
+            }
+            AskError::NoLists => write!(f, "the server does not list: run it with --lists"),
             AskError::Timeout => write!(f, "no reply within the time of --timeout"),
             AskError::Faulty => write!(f, "the reply is not well formed"),
             AskError::Unasked => write!(f, "the reply is one to another request"),

@@ -2,7 +2,7 @@
 
 ghost use Rattle.std.specs.Prelude.{◌≡◌, ◌≢◌, Some, false, IfErr, IfOk, IfSome, IsTrue, OnOk};
 ghost use Rattle.cli_ask.specs.declared.error.AskError.TheVariants as error;
-ghost use Rattle.cli_ask.specs.Pages.{IsOfType, is_above, last_id};
+ghost use Rattle.cli_ask.specs.Pages.{IsOfType, is_above, last_id, unlisted};
 
 use crate::asking::exchange;
 use crate::error::AskError;
@@ -68,9 +68,21 @@ fn page_of<L: Link>(
     kind: SegType,
     request: ListRequest,
 ) -> Result<Listing, AskError> {
-    match exchange(alloc, link, &Message::List(request))? {
-        Reply::Listed(page) => of_type(kind, page),
-        _ => Err(AskError::Unasked),
+    match exchange(alloc, link, &Message::List(request)) {
+        Ok(Reply::Listed(page)) => of_type(kind, page),
+        Ok(_) => Err(AskError::Unasked),
+        Err(error) => Err(unlisted(request.after, error)),
+    }
+}
+
+/// Why a page after this id has no reply. A server without lists ends the connection instead of
+/// replying to the first one.
+fn unlisted(after: Option<[u8; 32]>, error: AskError) -> AskError
+    ensures { result ≡ unlisted after error }
+{
+    match (after, error) {
+        (None, AskError::Ended) => AskError::NoLists,
+        (_, error) => error,
     }
 }
 

@@ -379,6 +379,10 @@ const FAULTY: &str = "the reply is not well formed";
 
 const UNASKED: &str = "the reply is one to another request";
 
+const CUT: &str = "the server ended the connection before its reply";
+
+const NO_LISTS: &str = "the server does not list: run it with --lists";
+
 #[rattlefmt::skip]
 const LISTS: &[Listed] = &[
     Listed { replies: &[LAST_OF_NOTHING], sent: &[FIRST], printed: &[], error: "" },
@@ -391,6 +395,9 @@ const LISTS: &[Listed] = &[
     Listed { replies: &[MORE, digits::SEGMENT_FIELD, MORE_OF_NOTHING], sent: &[FIRST, AFTER], printed: &[LINE], error: FAULTY },
     Listed { replies: &[MORE_UP, digits::SEGMENT_FIELD], sent: &[FIRST], printed: &[], error: UNASKED },
     Listed { replies: &[digits::FOUND], sent: &[FIRST], printed: &[], error: UNASKED },
+    Listed { replies: &[], sent: &[FIRST], printed: &[], error: NO_LISTS },
+    Listed { replies: &["00"], sent: &[FIRST], printed: &[], error: CUT },
+    Listed { replies: &[MORE, digits::SEGMENT_FIELD], sent: &[FIRST, AFTER], printed: &[LINE], error: CUT },
 ];
 
 /// These lists.
