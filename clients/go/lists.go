@@ -3,7 +3,9 @@ package pathd
 import (
 	"bytes"
 	"context"
+	"errors"
 	"fmt"
+	"io"
 
 	"google.golang.org/protobuf/proto"
 	pb "pathd/segmentspb"
@@ -57,9 +59,18 @@ type ask func(ctx context.Context, kind Kind, body []byte) ([]byte, error)
 func (f ask) page(ctx context.Context, kind pb.SegmentType, start, end IsdAs, after *[32]byte) (Page, error) {
 	reply, err := f(ctx, KindList, ListBody(kind, start, end, after))
 	if err != nil {
-		return Page{}, err
+		return Page{}, unlisted(err, after)
 	}
 	return ReadPage(kind, after, reply)
+}
+
+// unlisted answers the error of a page after an id. A server without lists ends the connection where the
+// reply to a first page would begin.
+func unlisted(err error, after *[32]byte) error {
+	if after == nil && errors.Is(err, io.EOF) {
+		return fmt.Errorf("%w: the server does not list: run it with --lists", err)
+	}
+	return err
 }
 
 func (f ask) all(ctx context.Context, kind pb.SegmentType, start, end IsdAs) func(func(*pb.PathSegment, error) bool) {

@@ -7,6 +7,7 @@ import (
 	"errors"
 	"fmt"
 	"sort"
+	"strings"
 	"testing"
 	"time"
 
@@ -191,6 +192,32 @@ func TestListsThatFail(t *testing.T) {
 		client, ctx := clientOf(t, store, ClientOptions{})
 		if found, err := listed(client.List(ctx, Down, 0, 0)); !errors.Is(err, c.wanted) || !areEqual(found, segments[:2]) {
 			t.Errorf("%s: %d segments, %v", name, len(found), err)
+		}
+	}
+}
+
+func TestAServerWithoutLists(t *testing.T) {
+	const said = "the server does not list: run it with --lists"
+	for _, c := range []struct {
+		after *[32]byte
+		begun []byte // what comes before the connection ends
+		is    bool
+	}{
+		{nil, nil, true},
+		{nil, []byte{0}, false},
+		{&[32]byte{}, nil, false},
+	} {
+		client, server, ctx := open(t)
+		go func() {
+			server.next()
+			server.conn.Write(c.begun)
+			server.conn.Close()
+		}()
+		once := ask(func(ctx context.Context, kind Kind, body []byte) ([]byte, error) {
+			return client.session().ask(ctx, byte(kind), body)
+		})
+		if _, err := once.page(ctx, Down, 0, 0, c.after); err == nil || strings.Contains(err.Error(), said) != c.is {
+			t.Errorf("%v, %v: %v", c.after, c.begun, err)
 		}
 	}
 }

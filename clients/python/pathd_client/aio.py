@@ -17,7 +17,7 @@ from .frames import FrameBuffer, frame
 from .replies import Refused, Reply, read_reply
 from .requests import Request
 from .retries import DEFAULT_RETRY, Retry
-from .sessions import Session
+from .sessions import Session, end_text
 
 
 # The seconds that the end of a context waits for the end of its connection at most.
@@ -86,7 +86,7 @@ class Line:
         is_lost = isinstance(fault, ConnectionEnded) and not isinstance(fault, TurnedAway)
         if is_lost and not request.is_repeatable:
             return OutcomeUnknown(f"'{request}' may have been carried out: {fault}")
-        return type(fault)(str(fault))
+        return type(fault)(end_text(fault, request))
 
     def _settle(self, outcome: Reply | SessionError) -> None:
         """Gives the first request its reply, or the reason why there is none."""
@@ -115,7 +115,7 @@ class Line:
                 self._received.feed(data)
                 while (content := self._received.take()) is not None:
                     self._answer(content)
-            self.end(ConnectionEnded("the server ended the connection"))
+            self.end(self._received.end())
         except SessionError as fault:
             self.end(fault)
         except OSError as fault:

@@ -126,5 +126,5 @@ class Connection:
         except OSError as fault:
             raise ConnectionEnded(f"the connection broke: {fault}") from fault
         if not data:
-            raise ConnectionEnded("the server ended the connection")
+            raise self._received.end()
         self._received.feed(data)

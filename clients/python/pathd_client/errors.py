@@ -26,6 +26,10 @@ class ConnectionEnded(SessionError):
     """The connection ended before the reply came, or none could be made."""
 
 
+class Unanswered(ConnectionEnded):
+    """The server ended the connection where a reply would begin."""
+
+
 class TurnedAway(ConnectionEnded):
     """The server has no room for the session, and ended the connection. It has read no request."""
 

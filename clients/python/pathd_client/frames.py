@@ -5,7 +5,7 @@ import struct
 from collections.abc import Iterator
 from typing import BinaryIO
 
-from .errors import FrameError
+from .errors import ConnectionEnded, FrameError, Unanswered
 from .requests import Request
 
 # The most bytes of a content: of a request's frame, and of a reply's.
@@ -50,6 +50,13 @@ class FrameBuffer:
         content = bytes(self._bytes[LENGTH.size : end])
         del self._bytes[:end]
         return content
+
+
+    def end(self) -> ConnectionEnded:
+        """The fault where the server ends the connection after these bytes: Unanswered where no frame
+        has begun."""
+        ended = ConnectionEnded if self._bytes else Unanswered
+        return ended("the server ended the connection")
 
 
 def read_frames(stream: BinaryIO) -> Iterator[bytes]:

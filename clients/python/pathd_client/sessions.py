@@ -14,11 +14,11 @@ from .calls import Calls
 from .connection import Connection
 from .deadlines import Deadline
 from .errors import (
-    ConnectionEnded, FrameError, OutcomeUnknown, ReplyTimeout, SessionError, TurnedAway,
+    ConnectionEnded, FrameError, OutcomeUnknown, ReplyTimeout, SessionError, TurnedAway, Unanswered,
 )
 from .frames import frame, read_frames
 from .replies import Refused, Reply, read_reply
-from .requests import Request
+from .requests import List, Request
 from .retries import DEFAULT_RETRY, Retry
 from .tls import TlsConnection
 
@@ -256,7 +256,8 @@ class Session(Calls):
                 self._answer_from(connection, queue)
                 if queue.is_done():
                     return
-                raise type(fault)(f"{self._address}: {fault}") from fault
+                said = end_text(fault, queue.under_way()[0].request)
+                raise type(fault)(f"{self._address}: {said}") from fault
             if self._answer_from(connection, queue):
                 reply = Deadline.after(self._reply_timeout)
 
@@ -269,6 +270,15 @@ class Session(Calls):
         except TurnedAway as fault:
             raise TurnedAway(f"{self._address}: {fault}") from fault
         return queue.answered > before
+
+
+def end_text(ended: SessionError, request: Request) -> str:
+    """What is said of a request that has no reply. A server without lists ends the connection where
+    the reply to one would begin."""
+    is_first_page = isinstance(request, List) and request.after is None
+    if is_first_page and isinstance(ended, Unanswered):
+        return f"{ended}: the server does not list: run it with --lists"
+    return str(ended)
 
 
 def check_repeatable(under_way: Iterable[Asked], sent: int, ended: ConnectionEnded) -> None:

@@ -72,4 +72,4 @@ class TlsConnection(Connection):
             return
         except OSError as fault:
             raise ConnectionEnded(f"the connection broke: {fault}") from fault
-        raise ConnectionEnded("the server ended the connection")
+        raise self._received.end()

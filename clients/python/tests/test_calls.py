@@ -13,6 +13,7 @@ import unittest
 from collections.abc import Callable
 from contextlib import suppress
 from datetime import datetime, timedelta, timezone
+from functools import partial
 from pathlib import Path
 
 from pathd_client import (
@@ -102,6 +103,47 @@ class Calls(unittest.TestCase):
         with Session(*address, retry=NO_RETRY) as session:
             with self.assertRaisesRegex(ConnectionEnded, f"no connection with {address}: "):
                 session.purge()
+
+
+class NoLists(unittest.TestCase):
+    """Lists of a server that ends the connection."""
+
+    SAID = "the server does not list: run it with --lists"
+
+    def said(self, script: Script, call: Callable[[Session], object]) -> str:
+        """The text of the error of a call."""
+        with FakeServer(script) as server:
+            with Session(*server.address, retry=NO_RETRY) as session:
+                with self.assertRaises(ConnectionEnded) as caught:
+                    call(session)
+        return str(caught.exception)
+
+    def test_no_reply_to_the_first_page(self) -> None:
+        self.assertIn(self.SAID, self.said(closes, lambda session: session.list_page(SegmentType.UP)))
+        said = self.said(closes, lambda session: list(session.list(SegmentType.UP)))
+        self.assertIn(self.SAID, said)
+
+    def test_other_ends(self) -> None:
+        def cuts(peer: Peer) -> None:
+            peer.read()
+            peer.send_bytes(b"\0")
+
+        page = partial(Session.list_page, kind=SegmentType.UP)
+        for script, call in [
+            (cuts, page),
+            (closes, partial(page, after=bytes(32))),
+            (closes, lambda session: session.look_up("1-0", "2-0")),
+        ]:
+            self.assertNotIn(self.SAID, self.said(script, call))
+
+    def test_of_a_task(self) -> None:
+        async def page(address: tuple[str, int]) -> None:
+            async with AsyncSession(*address, retry=NO_RETRY) as session:
+                await session.list_page(SegmentType.UP)
+
+        with FakeServer(closes) as server:
+            with self.assertRaisesRegex(ConnectionEnded, self.SAID):
+                asyncio.run(page(server.address))
 
 
 class Steps(unittest.TestCase):
