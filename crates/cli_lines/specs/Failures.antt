@@ -2,7 +2,7 @@
 use Rattle.std.specs.Prelude.{Bool, true, false}
 use Rattle.std.specs.IoError.{error_kind}
 use Rattle.std.specs.declared.io.ErrorKind.{ErrorKind}
-use Rattle.std.specs.declared.io.ErrorKind.TheVariants.{OutOfMemory, NotFound, PermissionDenied, InvalidInput}
+use Rattle.std.specs.declared.io.ErrorKind.TheVariants.{OutOfMemory, NotFound, PermissionDenied, ReadOnlyFilesystem, FileTooLarge, InvalidInput}
 use Rattle.cli_once.specs.declared.error.SessionFault.TheVariants as session_fault
 use Rattle.store_open.specs.declared.error.OpenError.TheVariants as opening
 use Rattle.cli_store.specs.declared.error.Fault.{Fault}
@@ -47,10 +47,13 @@ is_lasting_fault (store_fault.Open (opening.Journal error)) = true
 is_lasting_fault _ = false
 
 -- The system refuses a file or an address by an error of this kind until an operator has changed
--- something: there is none, or the program may not have it.
+-- something: there is none, the program may not have it, its file system is read-only, or it is
+-- longer than the program may write.
 abbrev pub is_lasting_kind : ErrorKind → Bool
 is_lasting_kind NotFound = true
 is_lasting_kind PermissionDenied = true
+is_lasting_kind ReadOnlyFilesystem = true
+is_lasting_kind FileTooLarge = true
 is_lasting_kind InvalidInput = true
 is_lasting_kind _ = false
 

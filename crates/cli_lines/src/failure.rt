@@ -93,13 +93,18 @@ fn is_lasting_fault(fault: StoreFault) -> bool
 }
 
 /// Whether the system refuses a file or an address by an error of this kind until an operator has
-/// changed something: there is none, or the program may not have it.
+/// changed something: there is none, the program may not have it, its file system is read-only, or
+/// it is longer than the program may write.
 fn is_lasting_kind(kind: ErrorKind) -> bool
     ensures { result ≡ is_lasting_kind kind }
 {
     matches!(
         kind,
-        ErrorKind::NotFound | ErrorKind::PermissionDenied | ErrorKind::InvalidInput
+        ErrorKind::NotFound
+            | ErrorKind::PermissionDenied
+            | ErrorKind::ReadOnlyFilesystem
+            | ErrorKind::FileTooLarge
+            | ErrorKind::InvalidInput
     )
 }
 

@@ -13,6 +13,7 @@ mod descriptor;
 mod holder;
 mod kind;
 mod locked;
+mod longest;
 mod opening;
 mod writable;
 mod zeros;

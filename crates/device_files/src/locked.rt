@@ -7,6 +7,7 @@ ghost use Rattle.device_files.specs.Descriptor.{IsAboveStandard};
 use crate::cache::forget_cached;
 use crate::descriptor::above_standard;
 use crate::kind::{DeviceKind, check_path, device_kind};
+use crate::longest::check_len;
 use crate::writable::check_writable;
 use crate::zeros::{Room, set_zeros};
 use sector_dev::SystemFile;
@@ -62,8 +63,9 @@ impl LockedFile {
 
     /// The file, cut to nothing and then of `len` zero bytes, which have room as `room` says. The
     /// file, its length and its name in its folder are synced before the call returns `Ok`. Where
-    /// there is no room now, the file is left with no bytes. A block device is unchanged, whatever
-    /// `len` is.
+    /// there is no room now, the file is left with no bytes. Where the process may not write as long
+    /// a file, the error is `FileTooLarge`, and the file is unchanged. A block device is unchanged,
+    /// whatever `len` is.
     pub fn into_zeros<R: AllocGlobal + Files<File = File>>(
         self,
         rt: &R,
@@ -77,6 +79,7 @@ impl LockedFile {
         let LockedFile { file, kind } = self;
         match kind {
             DeviceKind::File => {
+                check_len(rt, len)?;
                 set_zeros(&file, len, room)?;
                 sync_folder(rt, path)?;
             }

@@ -7,6 +7,7 @@ ghost use Rattle.device_files.specs.Descriptor.{IsAboveStandard};
 use crate::cache::forget_cached;
 use crate::descriptor::above_standard;
 use crate::kind::{DeviceKind, check_path, device_kind};
+use crate::longest::check_len;
 use crate::writable::check_writable;
 use sector_dev::SystemFile;
 use std::fs::{File, OpenOptions};
@@ -15,7 +16,8 @@ use std::rt::Files;
 
 /// Opens a file or a block device, which this process alone may read and write. Where another
 /// process has it open by a function of this library, the error is `WouldBlock`. A block device that
-/// the system does not let anybody write, though it opens it, is refused by the system's error.
+/// the system does not let anybody write, though it opens it, is refused by the system's error. A
+/// file that is longer than the process may write is refused by `FileTooLarge`.
 pub fn open<R: AllocGlobal + Files<File = File>>(rt: &R, path: &str) -> io::Result<SystemFile>
     ensures failures { IfOk result (λ file. failures_of file ≡ 0) }
     ensures above { IfOk result (λ file. IsAboveStandard (calls_of file)) }
@@ -24,8 +26,9 @@ pub fn open<R: AllocGlobal + Files<File = File>>(rt: &R, path: &str) -> io::Resu
     let file = OpenOptions::new().read(true).write(true).open(rt, path)?;
     let file = above_standard(file)?;
     file.try_lock()?;
-    if let DeviceKind::Block = device_kind(&file)? {
-        check_writable(&file)?;
+    match device_kind(&file)? {
+        DeviceKind::File => check_len(rt, file.metadata()?.len())?,
+        DeviceKind::Block => check_writable(&file)?,
     }
     forget_cached(&file);
     SystemFile::new(rt.alloc(), file)
