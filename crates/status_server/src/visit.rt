@@ -21,12 +21,12 @@ use std::time::{Clock, Duration};
 /// The most bytes of the head of a request, rounded up to a whole read.
 const MOST_HEAD: usize = 4_096;
 
-/// The longest time until the first byte, in milliseconds. A peer that asks for the numbers sends
-/// its request at once.
-const SILENCE: u64 = 250;
+/// The longest time until the first byte, in milliseconds. A request is sent at once, and may be
+/// lost and sent again, after a second by TCP's first estimate.
+const SILENCE: u64 = 2_000;
 
-/// The longest time of a visit, in milliseconds.
-const LONGEST: u64 = 1_000;
+/// The longest time of a visit, in milliseconds: a second beside the time until its first byte.
+const LONGEST: u64 = SILENCE + 1_000;
 
 /// What is done in a visit.
 #[derive(Clone, Copy, Debug, PartialEq, Eq)]
