@@ -2,8 +2,8 @@
 //!
 //! To the layer above, `serve_connection` serves a session over the calls of a connection
 //! (`StreamCalls`): what the connection took are the frames of the replies to the messages that its
-//! reads gave. `SystemStream` has the calls of a socket. A `Deadline` is a moment by which all has
-//! to be done.
+//! reads gave. `SystemStream` has the calls of a socket, after what a `ReadAhead` has read of it. A
+//! `Deadline` is a moment by which all has to be done.
 #![tactic(auto)]
 
 mod buffered;
@@ -13,11 +13,13 @@ mod ghosts;
 pub mod laws;
 mod pace;
 mod paced;
+mod read_ahead;
 mod stream_calls;
 mod system_stream;
 mod tracker;
 
 pub use connection::{Ended, serve_connection};
 pub use deadline::Deadline;
+pub use read_ahead::{MOST_READ_AHEAD, ReadAhead, ReadOn};
 pub use stream_calls::StreamCalls;
 pub use system_stream::SystemStream;

@@ -1,10 +1,11 @@
 //! The calls of the system on a connection. No contract states what the system does: here alone the
 //! bytes are noted that a call is taken to have moved. Each method is one call, and then a note of
-//! its result.
+//! its result. A read gives what was read ahead first, by no call.
 
 ghost use Rattle.std.specs.Prelude.{◌≡◌, [], ⊤};
 
 use crate::ghosts::bytes_note::{BytesNote, bytes_after, no_bytes};
+use crate::read_ahead::ReadAhead;
 use crate::stream_calls::StreamCalls;
 use std::io;
 use std::io::{Read, Write};
@@ -15,18 +16,20 @@ use std::time::Duration;
 #[derive(Drop)]
 pub struct SystemStream<'a> {
     stream: &'a TcpStream,
+    ahead: &'a ReadAhead,
     given: BytesNote,
     taken: BytesNote,
 }
 
 impl<'a> SystemStream<'a> {
-    /// A connection by which nothing has been read and written yet.
-    pub fn new(stream: &'a TcpStream) -> SystemStream<'a>
+    /// A connection by which nothing has been read and written yet, and what is read ahead of it.
+    pub fn new(stream: &'a TcpStream, ahead: &'a ReadAhead) -> SystemStream<'a>
         ensures given { result.given.value ≡ [] }
         ensures taken { result.taken.value ≡ [] }
     {
         SystemStream {
             stream,
+            ahead,
             given: no_bytes(),
             taken: no_bytes(),
         }
@@ -54,7 +57,10 @@ impl StreamCalls for SystemStream<'_> {
 
     fn read_once(&mut self, into: &mut [u8]) -> io::Result<usize> {
         let mut stream = self.stream;
-        let read = stream.read(into);
+        let read = match self.ahead.take(into) {
+            0 => stream.read(into),
+            len => Ok(len),
+        };
         self.given = bytes_after(&self.given, &read, into);
         read
     }

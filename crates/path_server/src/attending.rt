@@ -5,13 +5,13 @@ ghost use Rattle.server_seats.specs.Roles.{takes_commands};
 ghost use Rattle.path_server.specs.Attending.{IsHubServed, shares_room};
 
 use crate::parting::end_early;
-use crate::peer_socket::PeerSocket;
+use crate::peer_socket::{Limits, PeerSocket};
 use crate::reports::{Report, Reports};
 use crate::server::Server;
 use crate::task::Seat;
 use hub_claims::{HubName, Waiter};
 use hub_readers::Look;
-use paced_stream::{Ended, StreamCalls, SystemStream, serve_connection};
+use paced_stream::{Ended, ReadAhead, StreamCalls, SystemStream, serve_connection};
 use path_hub::{Hub, LoggedList, Sender};
 use path_session::{HubService, SystemNow};
 use sector_dev::Device;
@@ -45,9 +45,14 @@ impl<L: Listener + Drop, V: Verifier, O: Reports> Server<'_, L, V, O> {
             seats.leave(rt, number);
             return;
         };
-        let input = SystemStream::new(&peer.stream);
-        let output = SystemStream::new(&peer.stream);
-        let waiter = PeerSocket::new(rt, &peer.stream, self.options.leave);
+        let ahead = ReadAhead::new(self.alloc);
+        let input = SystemStream::new(&peer.stream, &ahead);
+        let output = SystemStream::new(&peer.stream, &ahead);
+        let limits = Limits {
+            leave: self.options.leave,
+            idle: self.options.idle,
+        };
+        let waiter = PeerSocket::new(rt, &peer.stream, &ahead, limits);
         match self.serve(hub, sender, role, waiter, input, output) {
             Some((ended, claims, look)) => {
                 hub.keep_acknowledged(claims);

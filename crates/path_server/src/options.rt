@@ -19,7 +19,8 @@ pub struct Options {
     /// The most sessions at one time with peers of one IP address, or 0 for no limit.
     pub peer_sessions: u64,
     /// How long a session waits for its peer, or `None` for no limit: for the first byte of a
-    /// frame, for the rest of the frame, and until the peer has taken a reply.
+    /// frame, for the rest of the frame, and until the peer has taken a reply. It is also how long
+    /// commits are awaited for a peer that has sent more than is read ahead.
     pub idle: Option<Duration>,
     /// How long commits are awaited for a peer that has ended its side of the connection, or `None`
     /// for no limit. A peer that has closed its connection cannot be distinguished from it.
