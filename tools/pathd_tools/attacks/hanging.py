@@ -26,8 +26,12 @@ order of the commands explains all replies, what `show` prints, and what a libra
 (tools/native/recorded_calls.c). So each command that was acknowledged is there, and none that was
 not sent or was refused by 0x51. One that has no reply, or 0x63, may be there.
 
-At last the device hangs while clients send registrations of the greatest size and reset. Seats have
-to be as said, and so has memory, with each of these registrations as one that waits.
+Then the device hangs while clients send registrations of the greatest size and reset. Seats have to
+be as said, and so has memory, with each of these registrations as one that waits.
+
+At last it hangs while 24 clients come again and again. Each sends far more than a session takes
+ahead (1, 128, 600 or 5,000 commands, or 8 of the greatest size), and closes. Lookups at the listener
+for them have to be answered, and seats have to be free, as said.
 
 A process that naps counts these seconds, so that the time is left out in which a busy machine gives
 it no processor. The figures that are printed are by the machine's clock. It needs Python 3, gcc and
@@ -73,6 +77,8 @@ BEFORE = 40
 UNTIL_RESET = 0.1
 # How many commands wait in a server's queue at the most, and the KiB of the greatest.
 MOST_WAITING, OF_GREATEST = 8_448, 128
+# How many clients come again, with how many small commands or how many of the greatest size at one time.
+COMING, FAR_AHEAD, OF_THE_GREATEST = 24, (1, 128, 600, 5_000), 8
 # Sessions, as many connections that are drained after theirs, and the server's own threads. Beside them visits of the page.
 MOST_THREADS, MOST_DESCRIPTORS = 2 * peers.MOST_SESSIONS + 16, 3 * peers.MOST_SESSIONS + 32
 
@@ -330,6 +336,31 @@ class Trial:
             self.faults.append(f"{self.figures['KiB']} KiB after registrations of the greatest size, and at most {most} are expected")
         print("  the greatest registrations: " + ", ".join(f"{value} {it}" for it, value in (resets | self.figures).items()), flush=True)
 
+    def far_ahead(self, name: str, data: bytes) -> None:
+        """Clients that send all of these bytes, close, and come again, which prints a line."""
+        store, sent = self.folder / f"far-{len(data)}", Counter()
+        runs.format_store(self.program, store, peers.LAYOUT)
+        self.figures, self.device = Counter(), Device(self.hanging)
+        with runs.Server(self.program, store, WORDS, {**self.env, "STORE": str(store)}) as server:
+            self.device.hang(KINDS["syncs"])
+            until = time.monotonic() + self.options.seconds
+
+            def come() -> None:
+                while time.monotonic() < until:
+                    with suppress(OSError), server.connect(AT_ONCE) as connection:
+                        connection.sendall(data)
+                        sent["times"] += 1
+                    time.sleep(UNTIL_RESET)
+
+            threads = [threading.Thread(target=come) for _ in range(COMING)]
+            for thread in threads:
+                thread.start()
+            while any(it.is_alive() for it in threads):
+                self._watch(server)
+                time.sleep(UNTIL_RESET)
+            self._await_seats(server, 0, f"while the device hangs after {name}")
+        print(f"  {name}: " + ", ".join(f"{value} {it}" for it, value in (sent | self.figures).items()), flush=True)
+
 
 def main(words: list[str]) -> int:
     """Makes the rounds, and prints what was found."""
@@ -352,6 +383,10 @@ def main(words: list[str]) -> int:
             if trial.checker.faults:
                 break
         trial.greatest()
+        small = messages.registration([(model.DOWN, messages.make_segment([messages.Hop(runs.CORE_A, 0, 1), messages.Hop(runs.LEAVES[0], 1, 0)], runs.MADE))])
+        for count in FAR_AHEAD:
+            trial.far_ahead(f"{count} commands ahead", count * small)
+        trial.far_ahead(f"{OF_THE_GREATEST} of the greatest size ahead", OF_THE_GREATEST * peers.registration(runs.LEAVES[0], 0, 16, 8_180))
     for name, count in sorted(trial.checker.counts.items()):
         print(f"  {name}: {count}")
     faults = trial.checker.faults + trial.faults

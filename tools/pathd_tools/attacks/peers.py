@@ -42,7 +42,7 @@ TURNED_AWAY = bytes.fromhex("00000002ff61")
 LATEST = 10.0
 # What docs/RELIABILITY.md names, in KiB: for the program, for a journal, for the rows that are
 # registered here, and for each of 64 sessions.
-OF_PROGRAM, OF_JOURNAL, OF_SESSION = 16 * 1024, LAYOUT.journal // 2, 3 * 1024
+OF_PROGRAM, OF_JOURNAL, OF_SESSION = 16 * 1024, LAYOUT.journal // 2, 4 * 1024
 OF_ROWS = 4 * ((MOST_SESSIONS - 1) * 16 * 8_185 + 64 * 16_375) // 1024
 BOUND = OF_PROGRAM + OF_JOURNAL + OF_ROWS + MOST_SESSIONS * OF_SESSION
 # A lookup that finds nothing, as neither side is core, and its reply.

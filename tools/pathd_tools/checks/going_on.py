@@ -6,13 +6,18 @@ A server that is stopped and continued (SIGSTOP, SIGCONT) keeps an idle session 
 whose standard error is a full pipe that nobody reads turns peers away, and serves the next peer once
 others have left. One that is given no more threads (RLIMIT_NPROC, as the user nobody) turns peers
 away as it does where all places are taken, and reports it. A peer that drips a frame loses its
-session. It needs Python 3 and the loopback, and root for the third part, which is left out else. It
-ends with the status 1 where something else comes.
+session. A request of the numbers that comes late is answered. Where the process may not write a
+file as long as the store (RLIMIT_FSIZE), `run`, `format` and `copy` say so, and end with the status
+1. While the device hangs (tools/native/hanging_calls.c), peers that have sent far more than a session
+takes ahead, and have closed, give their seats back. It needs Python 3, gcc and the loopback, and
+root for the part without threads, which is left out else. It ends with the status 1 where something
+else comes.
 """
 from __future__ import annotations
 
 import fcntl
 import os
+import re
 import resource
 import signal
 import socket
@@ -21,17 +26,24 @@ import time
 from pathlib import Path
 
 from pathd_model import model
-from pathd_tools import runs, toolbox
+from pathd_tools import messages, need, runs, toolbox
+from pathd_tools.attacks.hanging import KINDS, Device
 
 SMALL = model.Layout(2, 516)
 # A lookup with an empty message, and its refusal; and the refusal of a peer without a place.
 PROBE = bytes.fromhex("0000000102")
 PROBED = bytes.fromhex("00000002ff41")
 NO_PLACE = bytes.fromhex("00000002ff61")
+# The beginning of an answer with the numbers.
+ANSWERED = b"HTTP/1.1 200 "
 # How long anything may take, in seconds.
 PATIENCE = 20
 # Linux's number of the call that sets the size of a pipe, and the size in bytes.
 SET_PIPE_SIZE, PIPE_SIZE = 1031, 4096
+# How late a request of the numbers comes, in seconds, which is answered.
+LATE = 1.5
+# How many peers send how many registrations, of 101 bytes each, and close.
+FAR_PEERS, FAR_AHEAD = 8, 5_000
 # The user nobody, and how many processes and threads it may have.
 NOBODY, FEW_THREADS = 65534, 16
 
@@ -189,14 +201,96 @@ def drip(program: str, store: Path) -> None:
         process.wait()
 
 
+def late_request(program: str, store: Path) -> None:
+    """A request of the numbers that comes late is answered."""
+    with socket.socket() as free:
+        free.bind(("127.0.0.1", 0))
+        at = free.getsockname()[1]
+    process, _ = started(program, store, ["--status", f"127.0.0.1:{at}", "--quiet"])
+    try:
+        with connected(at) as peer:
+            time.sleep(LATE)
+            peer.sendall(b"GET /livez HTTP/1.1\r\nHost: localhost\r\n\r\n")
+            found = peer.recv(len(ANSWERED))
+            if found != ANSWERED:
+                raise Wrong(f"a late request is answered by {found!r}")
+    finally:
+        process.kill()
+        process.wait()
+
+
+def short_files(program: str, store: Path) -> None:
+    """Commands whose files are longer than the process may write say so, and change nothing."""
+    longest = store.stat().st_size - 1
+    before = store.read_bytes()
+    new = store.with_suffix(".new")
+    for words in (
+        ["run", str(store), "--listen", "127.0.0.1:0"],
+        ["format", str(new), "--checkpoint", "2", "--journal", "516"],
+        ["copy", str(store), str(new)],
+    ):
+        done = subprocess.run(
+            [program, *words],
+            stdin=subprocess.DEVNULL,
+            capture_output=True,
+            timeout=PATIENCE,
+            check=False,
+            preexec_fn=lambda: resource.setrlimit(resource.RLIMIT_FSIZE, (longest, longest)),
+        )
+        if done.returncode != 1 or b"ulimit -f" not in done.stderr or not done.stderr.endswith(b"error: device 1\n"):
+            raise Wrong(f"{words[0]} ends with {done.returncode}: {done.stderr!r}")
+    if store.read_bytes() != before or new.stat().st_size:
+        raise Wrong("a file was changed")
+
+
+def far_ahead(program: str, store: Path) -> None:
+    """While the device hangs, peers that have sent far ahead and have closed give their seats back."""
+    hops = [messages.Hop(runs.CORE_A, 0, 1), messages.Hop(runs.LEAVES[0], 1, 0)]
+    data = FAR_AHEAD * messages.registration([(model.DOWN, messages.make_segment(hops, runs.MADE))])
+    hanging = store.with_suffix(".hanging")
+    device = Device(hanging)
+    env = {**os.environ, "LD_PRELOAD": runs.compiled("hanging_calls.c", store.parent), "HANGING": str(hanging), "STORE": str(store)}
+    with socket.socket() as free:
+        free.bind(("127.0.0.1", 0))
+        at = free.getsockname()[1]
+    process, port = started(program, store, ["--leave", "1", "--status", f"127.0.0.1:{at}", "--quiet"], env=env)
+    try:
+        device.hang(KINDS["syncs"])
+        for _ in range(FAR_PEERS):
+            with connected(port) as peer:
+                peer.sendall(data)
+        deadline = time.monotonic() + PATIENCE
+        while (seats := number_at(at, "pathd_sessions")) != 0:
+            if time.monotonic() > deadline:
+                raise Wrong(f"{seats} seats are taken by peers that have closed")
+            time.sleep(0.1)
+    finally:
+        process.kill()
+        process.wait()
+
+
+def number_at(port: int, name: str) -> int:
+    """A number of the page at a port."""
+    with connected(port) as peer:
+        peer.sendall(b"GET /metrics HTTP/1.1\r\nHost: localhost\r\n\r\n")
+        page = b""
+        while piece := peer.recv(1 << 16):
+            page += piece
+    found = re.search(rf"^{name} (\d+)$", page.decode(), re.M)
+    if found is None:
+        raise Wrong(f"the page has no {name}")
+    return int(found[1])
+
+
 def main(words: list[str]) -> int:
     """Runs each part."""
     parser = toolbox.parser(__doc__)
     parser.add_argument("program", nargs="?", metavar="PROGRAM", help="crates/pathd/out/pathd if left out")
     options = parser.parse_args(words)
+    need.require("gcc")
     program = runs.program_of(options.program)
     print(runs.commit_name(program), flush=True)
-    parts = [stop_and_continue, full_pipe, drip]
+    parts = [stop_and_continue, full_pipe, drip, late_request, short_files, far_ahead]
     if os.geteuid() == 0:
         parts.append(refused_thread)
     faults = 0
@@ -206,7 +300,7 @@ def main(words: list[str]) -> int:
             runs.format_store(program, store, SMALL)
             try:
                 part(program, store)
-            except (Wrong, OSError) as fault:
+            except (Wrong, OSError, subprocess.TimeoutExpired) as fault:
                 faults += 1
                 print(f"  {part.__name__}: {fault}", flush=True)
     print(f"{len(parts)} parts, {faults} went wrong")
