@@ -4,12 +4,14 @@ ghost use Rattle.std.specs.Prelude.{◌≡◌, ℕ, ◌*◌, codes, option_map, 
 ghost use Rattle.std.specs.Duration.{as_nanos};
 ghost use Rattle.clap.specs.Words.{first_value, found_of};
 ghost use Rattle.cli_commands.specs.Options.{IsKeyOf, IsNumberOf};
-ghost use Rattle.cli_program.specs.Options.{IsRosterOf, limit_of, bound_of};
+ghost use Rattle.cli_program.specs.Options.{AreKindsOf, IsRosterOf, limit_of, bound_of};
 
 use clap::ArgMatches;
 use cli_commands::{cores_in, key_in, u32_in};
 use cli_lines::Failure;
-use cli_words::{FUTURE, GRACE, IDLE, LEAVE, LOOKUP_SEATS, PEER_SESSIONS, PURGE, SESSIONS, SPARE};
+use cli_words::{
+    FUTURE, GRACE, IDLE, LEAVE, LISTS, LOOKUP_SEATS, PEER_SESSIONS, PURGE, SESSIONS, SPARE,
+};
 use path_server::{Kinds, Options};
 use seg_lookup::Roster;
 use std::alloc::Global;
@@ -29,7 +31,7 @@ const GRACE_SECONDS: u32 = 10;
 pub(crate) fn options_of<'a>(alloc: Global, words: &ArgMatches<'a>) -> Result<Options, Failure<'a>>
     ensures cores { IfOk result (λ options. IsRosterOf (first_value (found_of words.now) (codes "cores")) options.cores) }
     ensures key { IfOk result (λ options. IsKeyOf (first_value (found_of words.now) (codes "key")) options.key) }
-    ensures kinds { IfOk result (λ options. options.kinds ≡ Kinds.Base) }
+    ensures kinds { IfOk result (λ options. AreKindsOf (found_of words.now) options.kinds) }
     ensures sessions { IfOk result (λ options. IsNumberOf (found_of words.now) (codes "sessions") 64 0 options.sessions) }
     ensures peers { IfOk result (λ options. IsNumberOf (found_of words.now) (codes "peer-sessions") 64 0 options.peer_sessions) }
     ensures idle { IfOk result (λ options. (count : ℕ) × IsNumberOf (found_of words.now) (codes "idle") 32 300 count
@@ -50,7 +52,7 @@ pub(crate) fn options_of<'a>(alloc: Global, words: &ArgMatches<'a>) -> Result<Op
     Ok(Options {
         cores,
         key,
-        kinds: Kinds::Base,
+        kinds: kinds_in(words),
         sessions: u64_in(words, SESSIONS),
         peer_sessions: u64_in(words, PEER_SESSIONS),
         idle: limit(u32_in(words, IDLE, IDLE_SECONDS)),
@@ -61,6 +63,17 @@ pub(crate) fn options_of<'a>(alloc: Global, words: &ArgMatches<'a>) -> Result<Op
         purge: limit(u32_in(words, PURGE, 0)),
         grace: seconds(u32_in(words, GRACE, GRACE_SECONDS)),
     })
+}
+
+/// The kinds of messages that sessions have: lists are among them where the words say so.
+fn kinds_in(words: &ArgMatches<'_>) -> Kinds
+    ensures { AreKindsOf (found_of words.now) result }
+{
+    if words.get_flag(LISTS) {
+        Kinds::WithLists
+    } else {
+        Kinds::Base
+    }
 }
 
 /// The number of an option, or 0 where the option is left out.

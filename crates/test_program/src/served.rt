@@ -10,6 +10,9 @@ const NO_KIND: &str = "0000000105";
 const PURGES: &str =
     "000000090300000000000000000000000903000000000000000000000009030000000000000000";
 
+/// All segments of the type 2, down.
+const LIST: &str = "00000012050200000000000000000000000000000000";
+
 /// A purge of all that ever expires, and one of nothing.
 const PURGE_ALL: &str = "0000000903ffffffffffffffff";
 
@@ -111,6 +114,19 @@ const PARTS: &[Part] = &[
         },
         lines: &[(
             "pathd run other --listen 127.0.0.1:0 --lookups ADDR --cores 1-ff00:0:110 --sessions 17 --idle 60 --quiet",
+            &[],
+        )],
+    },
+    Part {
+        what: "lists",
+        before: Before::Nothing,
+        peers: Peers {
+            sessions: &[REGISTER_2096, LIST],
+            together: 0,
+            silent: 0,
+        },
+        lines: &[(
+            "pathd run other --listen ADDR --cores 1-ff00:0:110 --sessions 2 --idle 60 --lists --quiet",
             &[],
         )],
     },
