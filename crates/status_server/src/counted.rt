@@ -8,7 +8,7 @@ use std::alloc::Global;
 use std::time::{Clock, Instant};
 
 /// Answers as another service does, and counts each reply, what commands did, and how long lookups
-/// took.
+/// took. It notes the moments of purges that are acknowledged.
 pub struct Counted<'a, S, K> {
     service: S,
     replies: &'a Replies,
@@ -41,11 +41,14 @@ impl<'a, S: Service, K: Clock> Counted<'a, S, K> {
         service
     }
 
-    /// Counts the reply to a command, and what the command did.
-    fn count_command(&self, kind: CommandKind, answered: &Result<Ack, Code>) {
+    /// Counts the reply to a command, and what the command did. The moment is that of a purge.
+    fn count_command(&self, kind: CommandKind, moment: Option<u64>, answered: &Result<Ack, Code>) {
         self.replies.count(kind_to_command(kind, answered));
         if let Ok(ack) = answered {
             self.replies.count_outcome(ack.outcome);
+            if let Some(until) = moment {
+                self.replies.note_purge(until);
+            }
         }
     }
 
@@ -65,6 +68,8 @@ impl<'a, S: Service, K: Clock> Counted<'a, S, K> {
 #[derive(Drop)]
 pub struct CountedCommand<U> {
     kind: CommandKind,
+    /// The moment of a purge, in half seconds since 1970.
+    moment: Option<u64>,
     under_way: U,
 }
 
@@ -88,7 +93,7 @@ impl<S: Service, K: Clock> Service for Counted<'_, S, K> {
 
     fn register(&mut self, alloc: Global, message: &[u8]) -> Result<Ack, Code> {
         let answered = self.service.register(alloc, message);
-        self.count_command(CommandKind::Register, &answered);
+        self.count_command(CommandKind::Register, None, &answered);
         answered
     }
 
@@ -110,13 +115,13 @@ impl<S: Service, K: Clock> Service for Counted<'_, S, K> {
 
     fn purge(&mut self, moment: u64) -> Result<Ack, Code> {
         let answered = self.service.purge(moment);
-        self.count_command(CommandKind::Purge, &answered);
+        self.count_command(CommandKind::Purge, Some(moment), &answered);
         answered
     }
 
     fn remove(&mut self, kind: u8, id: &[u8; 32]) -> Result<Ack, Code> {
         let answered = self.service.remove(kind, id);
-        self.count_command(CommandKind::Remove, &answered);
+        self.count_command(CommandKind::Remove, None, &answered);
         answered
     }
 
@@ -126,14 +131,26 @@ impl<S: Service, K: Clock> Service for Counted<'_, S, K> {
         message: Message<&[u8]>,
     ) -> Option<CountedCommand<S::UnderWay>> {
         let kind = CommandKind::of(&message)?;
+        let moment = match &message {
+            Message::Purge(moment) => Some(*moment),
+            _ => None,
+        };
         let under_way = self.service.hand_in(alloc, message)?;
-        Some(CountedCommand { kind, under_way })
+        Some(CountedCommand {
+            kind,
+            moment,
+            under_way,
+        })
     }
 
     fn settle(&mut self, counted: CountedCommand<S::UnderWay>) -> Result<Ack, Code> {
-        let CountedCommand { kind, under_way } = counted;
+        let CountedCommand {
+            kind,
+            moment,
+            under_way,
+        } = counted;
         let answered = self.service.settle(under_way);
-        self.count_command(kind, &answered);
+        self.count_command(kind, moment, &answered);
         answered
     }
 }

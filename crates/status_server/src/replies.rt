@@ -28,6 +28,8 @@ pub struct Replies {
     refused: [AtomicU64; CODES],
     outcomes: OutcomeCounters,
     lookups: LookupCounters,
+    /// The greatest moment of the purges that were acknowledged since it was taken, or 0.
+    purged_by: AtomicU64,
 }
 
 impl Replies {
@@ -42,6 +44,7 @@ impl Replies {
             refused: array::from_fn(|_code| AtomicU64::new(0)),
             outcomes: OutcomeCounters::new(),
             lookups: LookupCounters::new(),
+            purged_by: AtomicU64::new(0),
         }
     }
 
@@ -53,6 +56,21 @@ impl Replies {
     /// Counts what a command did.
     pub fn count_outcome(&self, outcome: Outcome) {
         self.outcomes.count(outcome);
+    }
+
+    /// Notes the moment of a purge that was acknowledged, in half seconds since 1970.
+    pub(crate) fn note_purge(&self, until: u64) {
+        self.purged_by.fetch_max(until, Ordering::SeqCst);
+    }
+
+    /// Takes the greatest moment of the purges that sessions asked for and that were acknowledged
+    /// since it was taken last, in half seconds since 1970. It is `None` where there was none after
+    /// 1970. No clause says which moment that is.
+    pub fn take_purged_by(&self) -> Option<u64> {
+        match self.purged_by.swap(0, Ordering::SeqCst) {
+            0 => None,
+            until => Some(until),
+        }
     }
 
     /// Counts how long a lookup took, in nanoseconds.
