@@ -59,9 +59,12 @@ fn report_priority(report: &Report) -> Priority
         | Report::NotAccepted { .. }
         | Report::Faulted { .. }
         | Report::NotPurged(_)
+        | Report::PurgesRest(_)
+        | Report::PurgedMost { .. }
         | Report::NoMemory(_) => Priority::Warning,
         Report::Ready
         | Report::PurgedAgain
+        | Report::PurgesGoOn
         | Report::MemoryGiven(_)
         | Report::CheckpointBegun
         | Report::CheckpointDone { .. } => Priority::Info,

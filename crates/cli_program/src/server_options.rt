@@ -61,6 +61,7 @@ pub(crate) fn options_of<'a>(alloc: Global, words: &ArgMatches<'a>) -> Result<Op
         spare: u64::from(u32_in(words, SPARE, 0)),
         lookup_seats: u64::from(u32_in(words, LOOKUP_SEATS, LOOKUP_SEATS_LEFT_OUT)),
         purge: limit(u32_in(words, PURGE, 0)),
+        purge_grace: 0,
         grace: seconds(u32_in(words, GRACE, GRACE_SECONDS)),
     })
 }

@@ -1,2 +1,3 @@
 pub mod Attending
 pub mod Pacing
+pub mod Trusting

@@ -1,13 +1,7 @@
 -- By what a server purges, and how soon again.
 use Rattle.std.specs.Prelude.{ℕ, ◌+◌, ◌-◌, ◌*◌, ◌/◌, ◌^◌, if◌then◌else◌, nat_eq, nat_lt, min, max}
-use Rattle.path_db.specs.declared.command.Command.{Command}
-use Rattle.path_db.specs.declared.command.Command.TheVariants.{Purge}
 use Rattle.path_server.specs.declared.pace.TheConstants.{MANY}
 use Rattle.path_server.specs.declared.sample.TheConstants.{MOST_STEPS}
-
--- A purge by a moment, or by the clock's where that is before it.
-abbrev pub purge_by : ℕ → ℕ → Command
-purge_by most clock = Purge (min most clock)
 
 -- The most parts into which a period of this number of nanoseconds is cut: its seconds, and at least
 -- one. They are counted in 32 bits.

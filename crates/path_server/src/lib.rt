@@ -7,6 +7,7 @@
 //! for peers that ask for the server's numbers.
 #![tactic(auto)]
 
+mod anchor;
 mod arriving;
 mod attending;
 mod ending;
@@ -15,6 +16,7 @@ mod options;
 mod pace;
 mod parting;
 mod peer_socket;
+mod purge_state;
 mod purger;
 mod purging;
 mod reports;
@@ -24,6 +26,7 @@ mod server;
 mod task;
 mod watching;
 
+pub use anchor::Doubt;
 pub use error::RunError;
 pub use options::Options;
 pub use reports::{Report, Reports};

@@ -35,9 +35,12 @@ pub struct Options {
     /// is one. At most `MOST_LOOKUP_SEATS` are.
     pub lookup_seats: u64,
     /// The time from one purge that the server makes by itself to the next, or `None` where it
-    /// makes none. None is of a moment after that of the machine's clock. A purge of many rows is
+    /// makes none. None is of a moment after that of the machine's clock, and none is made where
+    /// that is more than a minute from the one that is expected of it. A purge of many rows is
     /// several, by rising moments, and the next one comes sooner then.
     pub purge: Option<Duration>,
+    /// The number of seconds for which such purges keep rows past their expiry.
+    pub purge_grace: u64,
     /// How long the sessions that are open may go on once the server is to end.
     pub grace: Duration,
 }

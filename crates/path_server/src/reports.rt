@@ -1,5 +1,6 @@
 //! The reports of a server while it runs.
 
+use crate::anchor::Doubt;
 use hub_claims::HubError;
 use path_hub::Actor;
 use session_core::FrameError;
@@ -56,6 +57,16 @@ pub enum Report {
     NotPurged(HubError),
     /// A purge that the server made by itself was committed, and the one before was refused.
     PurgedAgain,
+    /// The server's own purges rest for this reason, and the one before was made.
+    PurgesRest(Doubt),
+    /// The server's own purges go on, and the one before was not made.
+    PurgesGoOn,
+    /// A purge that the server made by itself has dropped this many rows of this many, which is more
+    /// than half of them.
+    PurgedMost {
+        dropped: u64,
+        rows: u64,
+    },
     /// Memory was refused to this actor of the store, which tries again.
     NoMemory(Actor),
     /// Memory was given to this actor again.
@@ -120,6 +131,12 @@ impl Display for Report {
                 )
             }
             Report::PurgedAgain => write!(f, "the server's own purge is done again"),
+            Report::PurgesRest(doubt) => write!(f, "the server's own purges rest, as {doubt}"),
+            Report::PurgesGoOn => write!(f, "the server's own purges go on"),
+            Report::PurgedMost { dropped, rows } => write!(
+                f,
+                "the server's own purge has dropped {dropped} of {rows} segments"
+            ),
             Report::NoMemory(actor) => {
                 write!(f, "the {} has no memory, and tries again", name_of(*actor))
             }

@@ -1,6 +1,6 @@
 //! When rows expire, by some of them.
 
-ghost use Rattle.std.specs.Prelude.{◌≡◌, ◌<◌, length};
+ghost use Rattle.std.specs.Prelude.{◌≡◌, ◌<◌, ◌*◌, Some, max, unwrap_or, length};
 ghost use Rattle.path_server.specs.Pacing.{stride_of};
 
 use crate::pace::MANY;
@@ -28,6 +28,9 @@ const MOST_STEPS: u64 = 2_048;
 pub(crate) struct Sample {
     /// The number of these rows.
     seen: u64,
+    /// The newest timestamp of these rows, in half seconds since 1970, or `None` where there are
+    /// none. That of the store is no less.
+    newest: Option<u64>,
     /// When those of them expired that have expired, in half seconds since 1970, in this order.
     moments: Vec<u64>,
 }
@@ -42,6 +45,7 @@ impl Sample {
     ) -> Result<Sample, ReaderError> {
         let mut sample = Sample {
             seen: 0,
+            newest: None,
             moments: Vec::new(alloc),
         };
         for kind in [SegType::Up, SegType::Down, SegType::Core] {
@@ -81,11 +85,21 @@ impl Sample {
     /// Adds a row.
     fn add(&mut self, segment: &Segment, until: u64) -> Result<(), ReaderError> {
         self.seen = self.seen.saturating_add(1);
+        self.newest = newest_with(self.newest, segment);
         let moment = expiry(segment);
         if moment <= until && self.moments.push(moment).is_err() {
             return Err(ReaderError::NoMemory);
         }
         Ok(())
+    }
+
+    /// The newest timestamp of its rows, in half seconds since 1970, or `None` where it has none. As
+    /// the store's newest one is no less, a clock that is at most a day after this one is at most a
+    /// day after that one, too.
+    pub(crate) fn newest(&self) -> Option<u64>
+        ensures { result ≡ self.now.newest }
+    {
+        self.newest
     }
 
     /// When rows of the sample expired, by rising moments.
@@ -109,4 +123,12 @@ impl Sample {
         let least = self.moments.len() as u64 / MOST_STEPS + 1;
         usize::try_from(part.max(least)).unwrap_or(usize::MAX)
     }
+}
+
+/// The newest timestamp, with that of one more segment, in half seconds since 1970.
+fn newest_with(newest: Option<u64>, segment: &Segment) -> Option<u64>
+    ensures { result ≡ Some (max (unwrap_or newest 0) (2 * segment.now.timestamp)) }
+{
+    let moment = 2 * u64::from(segment.timestamp());
+    Some(newest.unwrap_or(0).max(moment))
 }

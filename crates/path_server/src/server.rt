@@ -6,6 +6,7 @@ ghost use Rattle.path_server.specs.Attending.{shares_room};
 
 use crate::error::RunError;
 use crate::options::Options;
+use crate::purge_state::PurgeState;
 use crate::purger::Purger;
 use crate::reports::{Report, Reports};
 use crate::task::{Seat, Task};
@@ -19,6 +20,7 @@ use seg_check::Verifier;
 use server_counts::{Ends, Seldom, Stopwatch, Waiting};
 use server_listeners::{Door, Entrances, Listener, Listeners, StatusListener};
 use server_seats::{LEAST_COMMAND_SEATS, MOST_SESSIONS, Role, Seats, shares_of};
+use session_clock::SteadyNow;
 use session_core::MOST_AHEAD;
 use session_limits::{Limits, Rooms};
 use status_server::Replies;
@@ -85,8 +87,8 @@ pub(crate) struct Server<'a, L, V, O> {
     has_purger: AtomicBool,
     /// Whether no thread was given for what is no session.
     is_short: AtomicBool,
-    /// Whether the last purge of the server itself was refused.
-    pub(crate) no_purge: AtomicBool,
+    /// What is known of the purges of the server itself.
+    pub(crate) own_purges: PurgeState,
     /// Whether every thread that serves was reported to have begun.
     ready: AtomicBool,
     /// Whether no more peers are accepted.
@@ -141,7 +143,7 @@ impl<'a, L: Listener + Drop, V: Verifier, O: Reports> Server<'a, L, V, O> {
             exhausted: AtomicBool::new(false),
             has_purger: AtomicBool::new(false),
             is_short: AtomicBool::new(false),
-            no_purge: AtomicBool::new(false),
+            own_purges: PurgeState::new(),
             ready: AtomicBool::new(false),
             ending: AtomicBool::new(false),
             broken: AtomicBool::new(false),
@@ -270,7 +272,9 @@ impl<D: Device, R: Wait + Clock, L: Listener + Drop + Send, V: Verifier, O: Repo
             }
             Task::Purges(period) => {
                 let clock = SystemNow::new(hub.handle());
-                let purger = Purger::new(hub, clock, senders.begin());
+                let steady = SteadyNow::new(hub.handle());
+                let grace = self.options.purge_grace;
+                let purger = Purger::new(hub, clock, steady, grace, senders.begin());
                 self.purge(hub, purger, period)
             }
         }

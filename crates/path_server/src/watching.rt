@@ -12,7 +12,7 @@ use seg_check::Verifier;
 use server_counts::Cause;
 use server_listeners::{Listener, Visitor, next_visitor};
 use server_seats::MOST_SESSIONS;
-use status_page::{Asked, CallTime, Counts, EndCounts, OwnPurges, RefusedCounts};
+use status_page::{Asked, CallTime, Counts, EndCounts, RefusedCounts};
 use status_server::{ReplyKind, Visits, answer};
 use std::alloc::AllocError;
 use std::sync::Wait;
@@ -84,10 +84,7 @@ impl<L: Listener + Drop, V: Verifier, O: Reports> Server<'_, L, V, O> {
             purged: self.replies.of(ReplyKind::Purged),
             removed: self.replies.of(ReplyKind::Removed),
             outcomes: self.replies.outcomes(),
-            own_purges: OwnPurges {
-                resting: false,
-                rows: 0,
-            },
+            own_purges: self.own_purges.now(),
             dropped: self.reports.dropped(),
             seconds: self.seconds(clock),
             begun: self.begun_at,

@@ -5,6 +5,7 @@
 mod accepts;
 mod asking;
 mod checks;
+mod clocks;
 mod doors;
 mod ends;
 mod hanging;
@@ -19,6 +20,7 @@ mod refused;
 mod roles;
 mod rows;
 mod seats;
+mod set_clock;
 mod stops;
 mod stores;
 mod watching;

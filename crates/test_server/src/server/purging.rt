@@ -4,13 +4,14 @@ use crate::server::checks::{assert_same, assert_true};
 use crate::server::doors::{nap, naps};
 use crate::server::peers::{EMPTY_LOOKUP, NO_DESTINATION, Peer, is_replied};
 use crate::server::rows::{FOUND, LOOKUP, REGISTERED, REGISTRATION};
+use crate::server::set_clock::{SetSystem, Setting};
 use crate::server::stores::{
-    EXPIRED_PLACE, LEAST, assert_opens_to, formatted, of_expired_row, opened,
+    EXPIRED_PLACE, LEAST, assert_opens_to, formatted, of_expired_rows, opened,
 };
 use crate::server::watching::{GET_NUMBERS, answer_to, status_listener};
 use crate::server::worlds::{
     Clients, Counts, End, Others, Outside, assert_met, assert_met_failing, assert_served, options,
-    serve_beside,
+    serve_beside, serve_by,
 };
 use path_server::Options;
 use sector_dev::MemDevice;
@@ -81,10 +82,16 @@ fn server_purges_by_itself(rt: HostRuntime) {
     assert_same(&rt, &counts.not_purged(), &0, &"not purged");
 }
 
+/// An hour after the row has expired, in seconds since 1970.
+const AFTER_EXPIRY: u64 = 1_700_025_200;
+
 /// The lines of the page once the only row was dropped: there is no row, and one is counted.
 const NO_ROW: &str = "\npathd_rows 0\n";
 
 const ONE_REMOVED: &str = "\npathd_outcomes_total{outcome=\"removed\"} 1\n";
+
+/// The same by the server's own purges.
+const ONE_BY_ITSELF: &str = "\npathd_own_purged_rows_total 1\n";
 
 /// The lines of replies to purges and of segments that were registered: there were none.
 const NO_REPLY: &str = "\npathd_replies_total{kind=\"purged\"} 0\n";
@@ -112,9 +119,9 @@ impl Dropping {
 }
 
 impl Clients for Dropping {
-    type Seen = [bool; 5];
+    type Seen = [bool; 6];
 
-    fn meet<R: Outside>(&self, rt: R, alloc: Global, to: SocketAddr) -> io::Result<[bool; 5]> {
+    fn meet<R: Outside>(&self, rt: R, alloc: Global, to: SocketAddr) -> io::Result<[bool; 6]> {
         let mut peer = Peer::connect(rt, alloc, to)?;
         let is_open = peer.asks(EMPTY_LOOKUP, NO_DESTINATION)?;
         let page = self.page(rt, alloc)?;
@@ -123,6 +130,7 @@ impl Clients for Dropping {
             is_open,
             page.contains(NO_ROW),
             page.contains(ONE_REMOVED),
+            page.contains(ONE_BY_ITSELF),
             page.contains(NO_REPLY),
             page.contains(NONE_INSERTED),
         ])
@@ -134,17 +142,22 @@ impl Clients for Dropping {
 #[test]
 fn expired_row_is_dropped(rt: HostRuntime) {
     let alloc = rt.alloc();
-    let device = of_expired_row(&rt, alloc);
+    let device = of_expired_rows(&rt, alloc, 1);
     let options = purging(&rt, alloc, Duration::from_millis(PERIOD));
     let (status, at) = status_listener(&rt);
     let counts = Counts::new();
     let clients = Dropping { at };
-    let (device, served, seen) = serve_beside(
-        &rt, alloc, device, status, &options, &clients, &counts,
+    let setting = Setting::new(&rt, AFTER_EXPIRY).expect(&rt, "the clock is read");
+    let system = SetSystem {
+        rt: &rt,
+        setting: &setting,
+    };
+    let (device, served, seen) = serve_by(
+        &rt, system, alloc, device, status, &options, &clients, &counts,
     );
     assert_purged(&rt, alloc, device, (0, EXPIRED_PLACE));
     let seen = assert_served(&rt, served, seen, 1);
-    assert_same(&rt, &seen, &[true; 5], &"open, and the page");
+    assert_same(&rt, &seen, &[true; 6], &"open, and the page");
     assert_same(&rt, &counts.not_purged(), &0, &"not purged");
 }
 
@@ -172,7 +185,7 @@ fn end_does_not_wait_for_a_period(rt: HostRuntime) {
     assert_true(&rt, seen, "the registration is acknowledged");
 }
 
-/// Waits until a purge was refused, and for some more periods.
+/// Registers, and waits until a purge was refused, and for some more periods.
 #[derive(Drop)]
 struct Refused<'a> {
     counts: &'a Counts,
@@ -191,17 +204,19 @@ impl Refused<'_> {
 }
 
 impl Clients for Refused<'_> {
-    type Seen = bool;
+    type Seen = [bool; 2];
 
-    fn meet<R: Outside>(&self, rt: R, alloc: Global, to: SocketAddr) -> io::Result<bool> {
+    fn meet<R: Outside>(&self, rt: R, alloc: Global, to: SocketAddr) -> io::Result<[bool; 2]> {
         let mut peer = Peer::connect(rt, alloc, to)?;
+        let is_registered = peer.asks(REGISTRATION, REGISTERED)?;
         self.wait(&rt);
         naps(&rt, PERIOD);
-        peer.asks(EMPTY_LOOKUP, NO_DESTINATION)
+        Ok([is_registered, peer.asks(EMPTY_LOOKUP, NO_DESTINATION)?])
     }
 }
 
-// The device fails in the second purge. It is refused, as are those after it: one report says so.
+// The device fails in the first purge, after a registration. It is refused, as are those after it:
+// one report says so.
 #[test]
 fn refused_purges_are_reported_once(rt: HostRuntime) {
     let options = purging(&rt, rt.alloc(), Duration::from_millis(PERIOD));
@@ -209,7 +224,7 @@ fn refused_purges_are_reported_once(rt: HostRuntime) {
     let clients = Refused { counts: &counts };
     let others = Others::none();
     let seen = assert_met_failing(&rt, rt.alloc(), others, &options, &clients, &counts, 1);
-    assert_true(&rt, seen, "the session goes on");
+    assert_same(&rt, &seen, &[true; 2], &"the session goes on");
     assert_same(&rt, &counts.not_purged(), &1, &"not purged");
     assert_same(&rt, &counts.stopped(), &1, &"stopped");
 }

@@ -42,6 +42,7 @@ fn no_cores(alloc: Global) -> Options {
         spare: 0,
         lookup_seats: 0,
         purge: None,
+        purge_grace: 0,
         grace: Duration::from_millis(100),
     }
 }

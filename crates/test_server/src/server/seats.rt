@@ -120,7 +120,9 @@ fn the_listener_is_closed_after_the_last(rt: HostRuntime) {
     let counts = Counts::new();
     let (listener, _to) = listen(&rt);
     let listeners = Listeners::of_sessions(listener);
-    let (device, served, seen) = serve_at(&rt, alloc, device, listeners, &options, &Last, &counts);
+    let (device, served, seen) = serve_at(
+        &rt, &rt, alloc, device, listeners, &options, &Last, &counts,
+    );
     let is_closed = assert_served(&rt, served, seen, 1);
     assert_true(&rt, is_closed, "the listener is closed soon");
     let _device = assert_opens_to(&rt, alloc, device, 0, 0);

@@ -10,7 +10,7 @@ use store_copy::{CopyError, format_with};
 use store_layout::{LEAST_CHECKPOINT, LEAST_JOURNAL};
 use store_open::{Geometry, OpenError, Store, format, open};
 use test_fault_devices::FaultDevice;
-use test_support::SEGMENT;
+use test_support::leaving_by;
 
 /// The least sizes that are allowed: there is room for ten rows of the segments here, which take 93
 /// bytes each.
@@ -35,27 +35,30 @@ pub(crate) fn formatted(rt: &impl Abort, alloc: Global, geometry: Geometry) -> M
     device
 }
 
-/// The place of a store with a row that has expired.
+/// The place of a store with rows that have expired.
 pub(crate) const EXPIRED_PLACE: u64 = 5;
 
-/// The worked segment as the only row, which expired in November 2023. The result is `None` where
-/// memory is refused.
-fn expired_row(alloc: Global) -> Option<PathDb> {
-    let segment = read_segment(alloc, &SEGMENT).ok()?;
+/// This number of rows, which all expired at the same time in November 2023: the worked segment, as
+/// if it left its first AS by the interfaces 1, 2 and so on. The result is `None` where memory is
+/// refused.
+fn expired_rows(alloc: Global, count: u8) -> Option<PathDb> {
     let mut rows = Vec::new(alloc);
-    rows.push((SegType::Down, segment)).ok()?;
+    for egress in 1..=count {
+        let segment = read_segment(alloc, &leaving_by(egress)).ok()?;
+        rows.push((SegType::Down, segment)).ok()?;
+    }
     let mut db = PathDb::new(alloc);
     let _outcome = db.apply(&Command::Register(Registration::new(rows))).ok()?;
     Some(db)
 }
 
-/// A store of that row at that place. Where memory is refused, it is asked for once more.
-pub(crate) fn of_expired_row(rt: &impl Abort, alloc: Global) -> MemDevice {
-    let rows = match expired_row(alloc) {
-        None => expired_row(alloc),
+/// A store of these rows at that place. Where memory is refused, it is asked for once more.
+pub(crate) fn of_expired_rows(rt: &impl Abort, alloc: Global, count: u8) -> MemDevice {
+    let rows = match expired_rows(alloc, count) {
+        None => expired_rows(alloc, count),
         rows => rows,
     };
-    let rows = rows.expect(rt, "the row has memory");
+    let rows = rows.expect(rt, "the rows have memory");
     let mut device = formatted(rt, alloc, LEAST);
     let made = match format_with(alloc, &mut device, LEAST, &rows, EXPIRED_PLACE) {
         Err(CopyError::NoMemory) => format_with(alloc, &mut device, LEAST, &rows, EXPIRED_PLACE),

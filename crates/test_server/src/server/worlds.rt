@@ -3,7 +3,7 @@
 use crate::server::checks::assert_same;
 use crate::server::stores::{LEAST, assert_opens_to, failing, formatted, opened};
 use isd_as::IsdAs;
-use path_server::{Kinds, Options, Report, Reports, RunError, serve_store};
+use path_server::{Kinds, Options, Report, Reports, RunError, System, serve_store};
 use sector_dev::Device;
 use seg_lookup::Roster;
 use server_listeners::{Listener, Listeners, set_accept_timeout};
@@ -55,6 +55,9 @@ pub(crate) struct Counts {
     lookups_turned_away: AtomicU64,
     address_full: AtomicU64,
     not_purged: AtomicU64,
+    rests: AtomicU64,
+    goes_on: AtomicU64,
+    purged_most: AtomicU64,
     wants_end: AtomicBool,
 }
 
@@ -68,6 +71,9 @@ impl Counts {
             lookups_turned_away: AtomicU64::new(0),
             address_full: AtomicU64::new(0),
             not_purged: AtomicU64::new(0),
+            rests: AtomicU64::new(0),
+            goes_on: AtomicU64::new(0),
+            purged_most: AtomicU64::new(0),
             wants_end: AtomicBool::new(false),
         }
     }
@@ -102,6 +108,21 @@ impl Counts {
         self.not_purged.load(Ordering::SeqCst)
     }
 
+    /// How often it was reported that purges of the server itself rest.
+    pub(crate) fn rests(&self) -> u64 {
+        self.rests.load(Ordering::SeqCst)
+    }
+
+    /// How often it was reported that they go on.
+    pub(crate) fn goes_on(&self) -> u64 {
+        self.goes_on.load(Ordering::SeqCst)
+    }
+
+    /// How often it was reported that one has dropped most rows.
+    pub(crate) fn purged_most(&self) -> u64 {
+        self.purged_most.load(Ordering::SeqCst)
+    }
+
     /// Asks the server to end.
     pub(crate) fn want_end(&self) {
         self.wants_end.store(true, Ordering::SeqCst);
@@ -128,6 +149,15 @@ impl Reports for Counts {
             }
             Report::NotPurged(_) => {
                 self.not_purged.fetch_add(1, Ordering::SeqCst);
+            }
+            Report::PurgesRest(_) => {
+                self.rests.fetch_add(1, Ordering::SeqCst);
+            }
+            Report::PurgesGoOn => {
+                self.goes_on.fetch_add(1, Ordering::SeqCst);
+            }
+            Report::PurgedMost { .. } => {
+                self.purged_most.fetch_add(1, Ordering::SeqCst);
             }
             _ => {}
         }
@@ -156,6 +186,7 @@ pub(crate) fn options(rt: &impl Abort, alloc: Global, sessions: u64) -> Options 
         spare: 0,
         lookup_seats: 0,
         purge: None,
+        purge_grace: 0,
         grace: Duration::from_millis(100),
     }
 }
@@ -232,7 +263,7 @@ impl Others {
 
 /// Serves sessions from the store of a device: the device, and the server's answer. Tests need
 /// nothing of the contract of `serve_store`, which each caller of it would take in.
-pub(crate) fn serve<R: World, L: Listener + Drop + Send, D: Device + Drop + Send>(
+pub(crate) fn serve<R: System + Abort, L: Listener + Drop + Send, D: Device + Drop + Send>(
     rt: R,
     alloc: Global,
     listeners: Listeners<L>,
@@ -245,9 +276,11 @@ pub(crate) fn serve<R: World, L: Listener + Drop + Send, D: Device + Drop + Send
     (device, served)
 }
 
-/// Serves clients from the store of a device at listeners, of which they know that of sessions.
-pub(crate) fn serve_at<R: World, D: Device + Drop + Send, C: Clients + Sync>(
+/// Serves clients from the store of a device at listeners, of which they know that of sessions, by
+/// the system of the server.
+pub(crate) fn serve_at<R: World, S: System + Abort, D: Device + Drop + Send, C: Clients + Sync>(
     rt: R,
+    system: S,
     alloc: Global,
     device: D,
     listeners: Listeners<TcpListener>,
@@ -258,7 +291,7 @@ pub(crate) fn serve_at<R: World, D: Device + Drop + Send, C: Clients + Sync>(
     let to = address_of(&rt, &listeners.sessions);
     let ((device, served), seen) = thread::join(
         &rt,
-        || serve(rt, alloc, listeners, device, options, counts),
+        || serve(system, alloc, listeners, device, options, counts),
         || clients.meet(rt, alloc, to),
     );
     (device, served, seen)
@@ -292,6 +325,20 @@ pub(crate) fn serve_beside<R: World, D: Device + Drop + Send, C: Clients + Sync>
     clients: &C,
     counts: &Counts,
 ) -> Met<D, C::Seen> {
+    serve_by(rt, rt, alloc, device, others, options, clients, counts)
+}
+
+/// The same, by another system of the server.
+pub(crate) fn serve_by<R: World, S: System + Abort, D: Device + Drop + Send, C: Clients + Sync>(
+    rt: R,
+    system: S,
+    alloc: Global,
+    device: D,
+    others: Others,
+    options: &Options,
+    clients: &C,
+    counts: &Counts,
+) -> Met<D, C::Seen> {
     let Others { lookups, status } = others;
     let (sessions, _to) = listen(rt);
     let clients = LastClients {
@@ -303,7 +350,9 @@ pub(crate) fn serve_beside<R: World, D: Device + Drop + Send, C: Clients + Sync>
         lookups,
         status,
     };
-    serve_at(rt, alloc, device, listeners, options, &clients, counts)
+    serve_at(
+        rt, system, alloc, device, listeners, options, &clients, counts,
+    )
 }
 
 /// Has clients meet a server of a new store beside other listeners, and sees how it ends: what the
