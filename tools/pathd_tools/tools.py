@@ -56,6 +56,7 @@ ATTACKS = [
     Tool("histories", "attacks.histories", "one order of the commands explains all replies of 32 sessions, over kills"),
     Tool("hostile", "attacks.hostile", "mutated frames and images, each answer compared with the model's"),
     Tool("expiring", "attacks.expiring", "lookups and pages while rows expire, beside the server's own purges"),
+    Tool("clocks", "attacks.clocks", "a server's clock that is set ahead and back, beside its own purges"),
     Tool("refused-calls", "attacks.refused_calls", "refuses each allocation and call of the system of five commands and a server"),
     Tool("refused-memory", "attacks.refused_memory", "refuses each allocation of `once`"),
     Tool("refused-tests", "attacks.refused_tests", "refuses each allocation of each test"),

@@ -15,7 +15,7 @@ that several can run side by side:
     histories             32 sessions, each of which sends 1 to 128 requests ahead
     histories-kills       the same, the server killed again and again
     refused               refused-memory, refused-calls and refused-tests
-    peers, web-peers, hanging, hostile, soak, expiring
+    peers, web-peers, hanging, hostile, soak, expiring, clocks
                           the tools of these names; web-peers builds the gateway
     loop                  what a loop device has of a store while the server is stopped; as root, by --only alone
     planted               faults in the sources, for which `rt` builds programs; by --only alone
@@ -75,6 +75,7 @@ ATTACKS = [
     attack("hanging", "hanging", "", "--rounds 2 --seconds 5", "--rounds 20 --seconds 20", "program seed"),
     attack("hostile", "hostile", "", "--frames 60000 --images 4000", "--frames 1000000 --images 100000", "program seed jobs"),
     attack("expiring", "expiring", "", "--seconds 20", "--seconds 300", "program seed"),
+    attack("clocks", "clocks", "", "", "", "program"),
     attack("soak", "soak", "", "--minutes 1 --rate 0", "--minutes 60 --rate 0", "program seed minutes"),
     attack("loop", "snapshots", "--kind loop", "--snapshots 20", "--snapshots 400", "program seed"),
     attack("planted", "planted", "", "--images 2000 --replies 20000", "", "seed jobs"),
