@@ -7,7 +7,7 @@ _pathd() {
     words="once format copy show status upgrade run ask help -h --help -V --version"
   else
     case $previous in
-      --checkpoint | --journal | --rows | --listen | --lookups | --lookup-seats | --status | --cores | --key | --sessions | --peer-sessions | --idle | --leave | --future | --spare | --purge | --grace | --final-status | --now | --timeout) return ;;
+      --checkpoint | --journal | --rows | --listen | --lookups | --lookup-seats | --status | --cores | --key | --sessions | --peer-sessions | --idle | --leave | --future | --spare | --purge | --purge-grace | --grace | --final-status | --now | --timeout) return ;;
     esac
     case ${COMP_WORDS[1]} in
       once) words="--cores --now --key --hex -h --help" ;;
@@ -15,7 +15,7 @@ _pathd() {
       format) words="--checkpoint --journal --rows --new --force --reserve -h --help" ;;
       show) words="--layout --json -h --help" ;;
       status | upgrade) words="-h --help" ;;
-      run) words="--listen --lookups --lookup-seats --status --cores --key --sessions --peer-sessions --idle --leave --future --spare --lists --purge --stop-on-end-of-input --grace --quiet --log-priority --final-status -h --help" ;;
+      run) words="--listen --lookups --lookup-seats --status --cores --key --sessions --peer-sessions --idle --leave --future --spare --lists --purge --purge-grace --stop-on-end-of-input --grace --quiet --log-priority --final-status -h --help" ;;
       ask) words="--json --at-once --timeout -h --help" ;;
       help) words="once format copy show status upgrade run ask help" ;;
       *) return ;;

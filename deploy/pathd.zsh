@@ -79,6 +79,7 @@ _pathd() {
         '--spare[seats for sessions without commands under way]:SEATS:' \
         '--lists[answer lists of segments]' \
         '--purge[drop expired segments each time after so long]:SECONDS:' \
+        '--purge-grace[for how long these purges keep expired segments]:SECONDS:' \
         '--stop-on-end-of-input[end once standard input has ended]' \
         '--grace[how long open sessions have at such an end]:SECONDS:' \
         '--quiet[print only why the program ends]' \

@@ -10,7 +10,8 @@ use clap::ArgMatches;
 use cli_commands::{cores_in, key_in, u32_in};
 use cli_lines::Failure;
 use cli_words::{
-    FUTURE, GRACE, IDLE, LEAVE, LISTS, LOOKUP_SEATS, PEER_SESSIONS, PURGE, SESSIONS, SPARE,
+    FUTURE, GRACE, IDLE, LEAVE, LISTS, LOOKUP_SEATS, PEER_SESSIONS, PURGE, PURGE_GRACE, SESSIONS,
+    SPARE,
 };
 use path_server::{Kinds, Options};
 use seg_lookup::Roster;
@@ -44,6 +45,7 @@ pub(crate) fn options_of<'a>(alloc: Global, words: &ArgMatches<'a>) -> Result<Op
     ensures lookups { IfOk result (λ options. IsNumberOf (found_of words.now) (codes "lookup-seats") 32 16 options.lookup_seats) }
     ensures purge { IfOk result (λ options. (count : ℕ) × IsNumberOf (found_of words.now) (codes "purge") 32 0 count
         × (option_map as_nanos options.purge ≡ limit_of count)) }
+    ensures purge_grace { IfOk result (λ options. IsNumberOf (found_of words.now) (codes "purge-grace") 32 0 options.purge_grace) }
     ensures grace { IfOk result (λ options. (count : ℕ) × IsNumberOf (found_of words.now) (codes "grace") 32 10 count
         × (as_nanos options.grace ≡ count * 1_000_000_000)) }
 {
@@ -61,7 +63,7 @@ pub(crate) fn options_of<'a>(alloc: Global, words: &ArgMatches<'a>) -> Result<Op
         spare: u64::from(u32_in(words, SPARE, 0)),
         lookup_seats: u64::from(u32_in(words, LOOKUP_SEATS, LOOKUP_SEATS_LEFT_OUT)),
         purge: limit(u32_in(words, PURGE, 0)),
-        purge_grace: 0,
+        purge_grace: u64::from(u32_in(words, PURGE_GRACE, 0)),
         grace: seconds(u32_in(words, GRACE, GRACE_SECONDS)),
     })
 }

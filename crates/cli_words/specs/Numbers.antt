@@ -22,6 +22,7 @@ pub record HasPlainNumbers (rows : List Row) : Type 0 where
   pub spare : IsPlainNumber rows (codes "spare")
   pub lookup_seats : IsPlainNumber rows (codes "lookup-seats")
   pub purge : IsPlainNumber rows (codes "purge")
+  pub purge_grace : IsPlainNumber rows (codes "purge-grace")
   pub grace : IsPlainNumber rows (codes "grace")
   pub final_status : IsPlainNumber rows (codes "final-status")
   pub timeout : IsPlainNumber rows (codes "timeout")

@@ -95,6 +95,9 @@ pub const FINAL_STATUS: &str = "final-status";
 /// the request that drops what has expired.
 pub const PURGE: &str = "purge";
 
+/// The name of its option with the seconds for which these purges keep what has expired.
+pub const PURGE_GRACE: &str = "purge-grace";
+
 /// The name of its flag by which the end of standard input ends the server.
 pub const STOP_ON_END_OF_INPUT: &str = "stop-on-end-of-input";
 
@@ -488,7 +491,7 @@ fn with_refusals<'a>(
     with_arg(command, RUN, flag(alloc, LISTS, lists))
 }
 
-/// Gives the command that serves sessions the option for its own purges.
+/// Gives the command that serves sessions the options for its own purges.
 fn with_purges<'a>(
     alloc: Global,
     command: Result<Command<'a>, AllocError>,
@@ -498,7 +501,10 @@ fn with_purges<'a>(
 {
     let purge =
         "Drop expired segments each time after this number of seconds; 0 is never [default: 0]";
-    with_arg(command, RUN, seconds(alloc, PURGE, purge))
+    let grace =
+        "Keep segments for this number of seconds past their expiry in these purges [default: 0]";
+    let command = with_arg(command, RUN, seconds(alloc, PURGE, purge));
+    with_arg(command, RUN, seconds(alloc, PURGE_GRACE, grace))
 }
 
 /// Gives the command that serves sessions the options for its end and its lines.

@@ -13,7 +13,7 @@ use crate::command_line::{CommandLine, Subcommand, command_line};
 use crate::request::Request;
 use crate::{
     AT_ONCE, CHECKPOINT, FINAL_STATUS, FUTURE, GRACE, IDLE, JOURNAL, LEAVE, LOOKUP_SEATS, NOW,
-    PEER_SESSIONS, PURGE, REQUEST, ROWS, SESSIONS, SPARE, TIMEOUT, WORDS, command,
+    PEER_SESSIONS, PURGE, PURGE_GRACE, REQUEST, ROWS, SESSIONS, SPARE, TIMEOUT, WORDS, command,
 };
 use clap::error::ErrorKind;
 use clap::{ArgMatches, Command, Error};
@@ -129,6 +129,7 @@ fn check_numbers(
     check_number(alloc, command, options, SPARE)?;
     check_number(alloc, command, options, LOOKUP_SEATS)?;
     check_number(alloc, command, options, PURGE)?;
+    check_number(alloc, command, options, PURGE_GRACE)?;
     check_number(alloc, command, options, GRACE)?;
     check_number(alloc, command, options, FINAL_STATUS)?;
     check_number(alloc, command, options, TIMEOUT)

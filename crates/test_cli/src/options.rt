@@ -7,9 +7,9 @@ use clap::error::ErrorKind;
 use cli_words::{
     ASK, AT_ONCE, CHECKPOINT, CORES, CommandLine, DEVICE, FINAL_STATUS, FORCE, FORMAT, FUTURE,
     GRACE, HEX, IDLE, JOURNAL, JSON, KEY, LAYOUT, LEAVE, LISTEN, LISTS, LOG_PRIORITY, LOOKUP_SEATS,
-    LOOKUPS, NEW, NOW, ONCE, PEER_SESSIONS, PURGE, QUIET, REQUEST, RESERVE, RUN, SERVER, SESSIONS,
-    SHOW, SPARE, STATUS, STATUS_LISTEN, STOP_ON_END_OF_INPUT, Subcommand, TIMEOUT, UPGRADE, WORDS,
-    read,
+    LOOKUPS, NEW, NOW, ONCE, PEER_SESSIONS, PURGE, PURGE_GRACE, QUIET, REQUEST, RESERVE, RUN,
+    SERVER, SESSIONS, SHOW, SPARE, STATUS, STATUS_LISTEN, STOP_ON_END_OF_INPUT, Subcommand,
+    TIMEOUT, UPGRADE, WORDS, read,
 };
 use std::alloc::Global;
 use std::process::Abort;
@@ -59,7 +59,7 @@ struct Value {
 const ALL_OF_ONCE: &str = "once --cores 1-1,2-2 --now 5 --key 00ff --hex";
 
 const ALL_OF_RUN: &str =
-    "run --quiet --grace 4294967295 --stop-on-end-of-input --peer-sessions 18446744073709551615 --idle 4294967295 --leave 4294967295 --final-status 255 --future 4294967295 --spare 56 --lists --purge 4294967295 --lookup-seats 56 --lookups [::1]:2 --log-priority --sessions 18446744073709551615 --key 00 --cores 1-1 --status [::1]:1 --listen [::1]:0 d";
+    "run --quiet --grace 4294967295 --stop-on-end-of-input --peer-sessions 18446744073709551615 --idle 4294967295 --leave 4294967295 --final-status 255 --future 4294967295 --spare 56 --lists --purge 4294967295 --purge-grace 4294967294 --lookup-seats 56 --lookups [::1]:2 --log-priority --sessions 18446744073709551615 --key 00 --cores 1-1 --status [::1]:1 --listen [::1]:0 d";
 
 const ALL_OF_ASK: &str = "ask --timeout 4294967295 a list up --json 1-0 0-0";
 
@@ -96,9 +96,11 @@ const VALUES: &[Value] = &[
     Value { line: ALL_OF_RUN, command: RUN, option: CORES, value: Some("1-1") },
     Value { line: ALL_OF_RUN, command: RUN, option: KEY, value: Some("00") },
     Value { line: ALL_OF_RUN, command: RUN, option: PURGE, value: Some("4294967295") },
+    Value { line: ALL_OF_RUN, command: RUN, option: PURGE_GRACE, value: Some("4294967294") },
     Value { line: ALL_OF_RUN, command: RUN, option: LOOKUPS, value: Some("[::1]:2") },
     Value { line: ALL_OF_RUN, command: RUN, option: LOOKUP_SEATS, value: Some("56") },
     Value { line: "run d --listen a", command: RUN, option: PURGE, value: None },
+    Value { line: "run d --listen a", command: RUN, option: PURGE_GRACE, value: None },
     Value { line: "run d --listen a", command: RUN, option: LOOKUPS, value: None },
     Value { line: "run d --listen a", command: RUN, option: LISTEN, value: Some("a") },
     Value { line: "run d --listen a", command: RUN, option: STATUS_LISTEN, value: None },
@@ -237,6 +239,8 @@ const REFUSED: &[(&str, ErrorKind)] = &[
     ("run d --listen a --final-status 256", ErrorKind::ValueValidation),
     ("run d --listen a --final-status +3", ErrorKind::ValueValidation),
     ("run d --listen a --peer-sessions +1", ErrorKind::ValueValidation),
+    ("run d --listen a --purge-grace 4294967296", ErrorKind::ValueValidation),
+    ("run d --listen a --purge-grace +1", ErrorKind::ValueValidation),
     ("run d --listen a --grace +1", ErrorKind::ValueValidation),
     ("run d --listen a --grace 4294967296", ErrorKind::ValueValidation),
     ("run d --listen a --future 4294967296", ErrorKind::ValueValidation),

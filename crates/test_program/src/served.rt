@@ -152,7 +152,7 @@ const PARTS: &[Part] = &[
             silent: 0,
         },
         lines: &[(
-            "pathd run other --listen ADDR --sessions 2 --idle 60 --purge 4294967295 --log-priority",
+            "pathd run other --listen ADDR --sessions 2 --idle 60 --purge 4294967295 --purge-grace 3600 --log-priority",
             &[],
         )],
     },

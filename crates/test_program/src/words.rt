@@ -47,6 +47,7 @@ const PARTS: &[Part] = &[
             ("pathd run d --listen a --purge 5m", &[]),
             ("pathd run d --listen a --purge +5", &[]),
             ("pathd run d --listen a --purge 4294967296", &[]),
+            ("pathd run d --listen a --purge-grace +5", &[]),
             ("pathd run d --listen a --lookup-seats 0", &[]),
             ("pathd run d --listen a --lookup-seats 57", &[]),
             ("pathd run d --listen a --lookup-seats +8", &[]),
