@@ -90,6 +90,7 @@ THINGS = [
     file("golang-github-golang-protobuf-1-5-dev", "/usr/share/gocode/src/github.com/golang/protobuf/proto/registry.go"),
     file("golang-google-grpc-dev", "/usr/share/gocode/src/google.golang.org/grpc/server.go"),
     file("golang-golang-x-net-dev", "/usr/share/gocode/src/golang.org/x/net/http2/server.go"),
+    file("golang-github-mattn-go-sqlite3-dev", "/usr/share/gocode/src/github.com/mattn/go-sqlite3/sqlite3.go"),
     program("strace", "strace"),
     program("valgrind", "valgrind", "callgrind_annotate"),
     program("perf", "linux-perf"),

@@ -4,7 +4,9 @@
 # programs of their pages, compares the generated package with docs/segments.proto, and builds the
 # client as a module. It needs Debian's golang-go, golang-google-protobuf-dev, protoc-gen-go,
 # protobuf-compiler and gcc, uses the loopback alone, and is no part of the gate. What is built is
-# removed at the end; Go keeps its own cache of what it compiled.
+# removed at the end; Go keeps its own cache of what it compiled. Where Debian's
+# golang-github-mattn-go-sqlite3-dev is there, the measurements of the path database beside SQLite are
+# tried, too.
 #
 #     tools/pathd-tools go-client [PROGRAM]
 #
@@ -32,6 +34,12 @@ go vet ./...
 go test -count=1 .
 go test -race -count=1 ./pathdb
 "$top/tools/pathd-tools" examples --program "$program" "$top/clients/go/README.md" "$top/clients/go/pathdb/README.md"
+if "$top/tools/pathd-tools" need golang-github-mattn-go-sqlite3-dev 2>/dev/null; then
+  go vet -tags sqlite ./pathdb
+  go test -tags sqlite -run '^$' -bench '/^1000$' -benchtime 1x ./pathdb
+else
+  echo "skipped: the measurements beside SQLite, for want of golang-github-mattn-go-sqlite3-dev"
+fi
 
 # As a module, with Debian's protobuf in place of the one that would be fetched.
 replace_modules . google.golang.org/protobuf github.com/golang/protobuf github.com/google/go-cmp
