@@ -93,7 +93,7 @@ func newGateway(s *settings.Settings, listener net.Listener) (g *gateway, err er
 func clientOf(s *settings.Settings, lookups int) *pathd.Client {
 	return pathd.NewClient(s.Pathd, pathd.ClientOptions{
 		Dialer: pathd.Dialer{Timeout: dialLimit}, Lookups: lookups, Commands: s.Registrations,
-		Patience: s.Deadline, Attempts: attempts,
+		Window: calls.OfSession, Patience: s.Deadline, Attempts: attempts,
 	})
 }
 

@@ -88,7 +88,7 @@ func TestAReplayIsAnsweredFromMemory(t *testing.T) {
 	}
 }
 
-// TestCommandsOfAPeerAreBounded has one address have a quarter of the 64 commands that may be under way,
+// TestCommandsOfAPeerAreBounded has one address have a quarter of the 256 commands that may be under way,
 // beside one of another address.
 func TestCommandsOfAPeerAreBounded(t *testing.T) {
 	quit := make(chan struct{})
@@ -106,13 +106,13 @@ func TestCommandsOfAPeerAreBounded(t *testing.T) {
 			go func() { done <- register(ctx, conn, down(t, later)) }()
 		}
 	}
-	begin(other, 40)
-	at.waitFor(`pathd_gateway_calls{request="whole"}`, "40")
-	at.waitFor(`pathd_gateway_requests{pool="registrations"}`, "16")
+	begin(other, 100)
+	at.waitFor(`pathd_gateway_calls{request="whole"}`, "100")
+	at.waitFor(`pathd_gateway_requests{pool="registrations"}`, "64")
 	begin("127.0.0.1", 3)
-	at.waitFor(`pathd_gateway_requests{pool="registrations"}`, "19")
+	at.waitFor(`pathd_gateway_requests{pool="registrations"}`, "67")
 	close(quit)
-	for call := 0; call < 43; call++ {
+	for call := 0; call < 103; call++ {
 		pki.Must(t, <-done)
 	}
 }

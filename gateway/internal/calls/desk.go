@@ -35,8 +35,8 @@ const (
 	lookupsAtOnce = 32
 	// patience is how long a call may have an incomplete request before others of its peer need its place.
 	patience = time.Second
-	// ofSession is how many commands may be under way in a session with pathd.
-	ofSession = 64
+	// OfSession is how many requests may be under way in a session with pathd: more than one peer may have.
+	OfSession = 256
 )
 
 // Options of a Desk.
@@ -69,11 +69,11 @@ type Desk struct {
 
 // NewDesk answers a desk without calls.
 func NewDesk(options Options) *Desk {
-	all, commands := int64(options.Calls), int64(options.Registrations*ofSession)
+	all, commands := int64(options.Calls), int64(options.Registrations*OfSession)
 	return &Desk{
 		options: options, pages: pages{lists: lists{pathd: options.Lists}, most: options.MostSegments},
 		calls:    shares.New(shares.Bounds{All: all, OfPeer: shares.Quarter(all), Patience: patience}),
-		lookups:  shares.NewTurns(lookupsAtOnce, int(shares.Quarter(lookupsAtOnce))),
+		lookups:  shares.NewTurns(lookupsAtOnce, lookupsAtOnce),
 		commands: shares.NewTurns(int(commands), int(shares.Quarter(commands))),
 	}
 }

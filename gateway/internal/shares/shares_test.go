@@ -143,9 +143,9 @@ func TestPeers(t *testing.T) {
 	}
 }
 
-// TestTurns has a peer that holds its turns, and waits for more, keep no other one waiting.
+// TestTurns has a peer with its share of turns wait, and others not.
 func TestTurns(t *testing.T) {
-	turns := NewTurns(3, 2)
+	turns := NewTurns(4, 2)
 	enter := func(isFree bool, peers ...Peer) func() {
 		t.Helper()
 		limit := 50 * time.Millisecond
@@ -163,17 +163,47 @@ func TestTurns(t *testing.T) {
 	first := enter(true, "a")
 	enter(true, "a", "certificate")
 	enter(false, "a")
-	entered := make(chan func())
-	go func() {
-		end, _ := turns.Enter(context.Background(), []Peer{"a"})
-		entered <- end
-	}()
-	third := enter(true, "b")
+	third := enter(true, "b", "certificate")
+	enter(false, "c", "certificate")
+	enter(true, "b")
 	enter(false, "c")
 	third()
+	enter(true, "c", "certificate")()
 	first()
-	(<-entered)()
-	enter(true, "b", "certificate")()
+	enter(true, "a")
+	if len(turns.waiting) != 0 || turns.count != 3 {
+		t.Error(turns.waiting, turns.count)
+	}
+}
+
+// TestWhoseTurnIsNext has all turns be one peer's, for which it waits in vain, and others come later.
+func TestWhoseTurnIsNext(t *testing.T) {
+	turns, order := NewTurns(3, 3), make(chan Peer, 8)
+	var ends []func()
+	for turn := 0; turn < 3; turn++ {
+		end, err := turns.Enter(context.Background(), []Peer{"a"})
+		if err != nil {
+			t.Fatal(err)
+		}
+		ends = append(ends, end)
+	}
+	for number, peer := range []Peer{"a", "a", "b", "c", "b"} {
+		go func(peer Peer) {
+			turns.Enter(context.Background(), []Peer{peer})
+			order <- peer
+		}(peer)
+		for isThere := false; !isThere; time.Sleep(time.Millisecond) {
+			turns.mu.Lock()
+			isThere = turns.came == uint64(3+number+1)
+			turns.mu.Unlock()
+		}
+	}
+	for turn, wanted := range []Peer{"b", "c", "a"} { // those that have none, by their number
+		ends[turn]()
+		if got := <-order; got != wanted {
+			t.Errorf("turn %d: %s", turn, got)
+		}
+	}
 }
 
 func TestBudgets(t *testing.T) {

@@ -53,9 +53,9 @@ type counts struct{ good, remembered, refused atomic.Uint64 }
 // Open answers a keeper of the folder, which has to be good as a whole.
 func Open(options Options) (*Keeper, error) {
 	k := &Keeper{options: options, known: cppki.NewMemory(mostKnown)}
-	// Half of the processors are left to lookups, and half of the other half to other peers.
+	// Half of the processors are for lookups.
 	turns := (runtime.GOMAXPROCS(0) + 1) / 2
-	k.turns = shares.NewTurns(turns, (turns+1)/2)
+	k.turns = shares.NewTurns(turns, turns)
 	if options.Server != "" {
 		k.fetcher = newFetcher(options.Server)
 	}
