@@ -11,7 +11,7 @@
 set -euo pipefail
 top=$(cd "$(dirname "${BASH_SOURCE[0]}")/../.." && pwd)
 "$top/tools/pathd-tools" need protoc go protoc-gen-go protoc-gen-go-grpc golang-google-protobuf-dev \
-  golang-github-golang-protobuf-1-5-dev golang-google-grpc-dev golang-golang-x-net-dev openssl
+  golang-github-golang-protobuf-1-5-dev golang-google-grpc-dev golang-golang-x-net-dev libprotobuf-dev openssl
 program=$(realpath "${1:-$top/crates/pathd/out/pathd}")
 [ -x "$program" ] || { echo "no program: $program" >&2; exit 2; }
 work=$(mktemp -d)

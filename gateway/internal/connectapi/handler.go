@@ -65,6 +65,11 @@ func (h *handler) ServeHTTP(w http.ResponseWriter, r *http.Request) {
 		Read: func(context.Context) ([]byte, error) { return h.read(w, r, body) },
 		Stop: func() { conn.ReadUntil(w, door.Past) },
 	})
+	h.answer(w, body, response, fault)
+}
+
+// answer writes how a call has ended.
+func (h *handler) answer(w http.ResponseWriter, body *format, response calls.Response, fault *calls.Fault) {
 	var content []byte
 	if fault == nil {
 		content, fault = body.write(h.method, response.Body)

@@ -214,22 +214,9 @@ func (m *Material) Verify(e *Entry, at time.Time, known Known) error {
 	case e.associated != length:
 		return errors.New("its header names another length of what is signed with it")
 	}
-	latest := m.TRC(e.Signer.ISD(), 0, 0)
-	if latest == nil || latest.Base < e.Base || latest.Base == e.Base && latest.Serial < e.Serial {
-		return ErrNoTRC
-	}
-	good := m.good(e.Signer, e.KeyID, at)
-	if len(good) == 0 {
-		return ErrNoChain
-	}
-	var chains []*Chain
-	for _, chain := range good {
-		if chain.covers(e.Segment) {
-			chains = append(chains, chain)
-		}
-	}
-	if len(chains) == 0 {
-		return ErrValidity
+	chains, err := m.chainsOf(e, at)
+	if err != nil {
+		return err
 	}
 	digest := sum(e.hash, append([][]byte{e.headerAndBody}, e.before...)...)
 	for _, chain := range chains {
@@ -243,6 +230,27 @@ func (m *Material) Verify(e *Entry, at time.Time, known Known) error {
 		}
 	}
 	return ErrSignature
+}
+
+// chainsOf answers the chains of an entry's key that are good at a moment, and valid as long as its segment.
+func (m *Material) chainsOf(e *Entry, at time.Time) (found []*Chain, err error) {
+	latest := m.TRC(e.Signer.ISD(), 0, 0)
+	if latest == nil || latest.Base < e.Base || latest.Base == e.Base && latest.Serial < e.Serial {
+		return nil, ErrNoTRC
+	}
+	good := m.good(e.Signer, e.KeyID, at)
+	for _, chain := range good {
+		if chain.covers(e.Segment) {
+			found = append(found, chain)
+		}
+	}
+	switch {
+	case len(good) == 0:
+		return nil, ErrNoChain
+	case len(found) == 0:
+		return nil, ErrValidity
+	}
+	return found, nil
 }
 
 // memoryKey is of what was signed, of the signature, and of the key with its curve.

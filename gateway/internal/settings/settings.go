@@ -82,9 +82,6 @@ func Read(words []string, out io.Writer) (*Settings, error) {
 	if err == nil {
 		err = s.check()
 	}
-	if s.PeerConnections == isLeftOut {
-		s.PeerConnections = int(shares.Quarter(int64(s.Connections)))
-	}
 	switch {
 	case errors.Is(err, flag.ErrHelp):
 		fmt.Fprint(out, about, help.String())
@@ -94,8 +91,11 @@ func Read(words []string, out io.Writer) (*Settings, error) {
 	return s, err
 }
 
-// check answers an error where settings don't fit each other.
+// check answers an error where settings don't fit each other, and sets what others decide.
 func (s *Settings) check() error {
+	if s.PeerConnections == isLeftOut {
+		s.PeerConnections = int(shares.Quarter(int64(s.Connections)))
+	}
 	switch {
 	case (s.Certificate == "") != (s.Key == ""):
 		return errors.New("--cert and --key are given together")

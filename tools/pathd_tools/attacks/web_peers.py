@@ -18,8 +18,7 @@ beside clients that have to be served all the time. It measures the memory of bo
 Peers have the address 127.0.0.2, of which the gateway takes 1,000 connections (`--peer-connections`).
 Meanwhile one client registers and looks up through the gateway, by Connect and by gRPC in turn, one
 has a session of pathd's own frames, and one fetches pathd's page. Each reply has to be right and come
-within 10 seconds. In the last part alone the gateway may refuse calls for want of room. Each
-connection of a peer has to be answered by what is well-formed, or closed.
+within 10 seconds. Each connection of a peer has to be answered by what is well-formed, or closed.
 
 The status is 1 where this does not hold, where a program ends, panics or reports a fault, where
 connections, calls, seats or descriptors stay taken, or where memory (VmHWM) is above its bound. That
@@ -57,7 +56,8 @@ OF_PEERS, DEADLINE = 1_000, 8
 # slow ones, and of each kind of deaf ones. For the calls of the slow and of the deaf ones there is room.
 WIDTH, OF_HUGE, OF_KIND, DEAF = 200, 4, 60, 3
 # The most numbers of the gateway that the clients account for.
-MOST = {"pathd_gateway_connections": 4, "pathd_gateway_calls": 2, "pathd_gateway_owed_bytes": 1 << 16}
+MOST = {"pathd_gateway_connections": 4, "pathd_gateway_owed_bytes": 1 << 16}
+MOST |= {f'pathd_gateway_calls{{request="{state}"}}': 2 for state in ("whole", "incomplete")}
 # The seats of lookups, and those that the gateway's three sessions and the client have left of the others.
 LOOKUP_SEATS = 16
 SEATS = peers.MOST_SESSIONS - LOOKUP_SEATS - 4
@@ -138,10 +138,9 @@ class Caller(peers.Asking):
 
     def __init__(self, port: int) -> None:
         super().__init__("the client of the gateway")
-        self.port, self.number, self.refused, self.may_be_refused = port, 0, 0, False
+        self.port, self.number = port, 0
         self.hops = [messages.Hop(runs.CORE_A, 0, 77), OWN]
-        # What a lookup finds; None where a registration was refused that may be kept.
-        self.wanted: bytes | None = None
+        self.wanted = b""  # what a lookup finds
 
     def ask(self) -> str:
         """Registers or looks up."""
@@ -155,12 +154,10 @@ class Caller(peers.Asking):
             segment = messages.make_segment(self.hops, runs.MADE + self.number)
             found = call(requests.REGISTER, messages.registration([(model.DOWN, segment)])[5:])
             wanted = model.found_body(model.DOWN, [segment])
-        if found is None and self.may_be_refused:
-            self.refused += 1
-        elif found is None or found != (self.wanted or found if is_lookup else b""):
+        if found != (self.wanted if is_lookup else b""):
             return f"the request {self.number} is answered by {'a refusal' if found is None else found.hex()}"
         if not is_lookup:
-            self.wanted = None if found is None else wanted
+            self.wanted = wanted
         return ""
 
     def _by_connect(self, path: str, body: bytes) -> bytes | None:
@@ -324,10 +321,9 @@ def attack(server: runs.Server, gateway: Gateway, options: argparse.Namespace) -
     for name in PARTS:
         for client in clients.values():
             client.take()
-        begun, caller.may_be_refused = time.monotonic(), name == "beyond"
+        begun = time.monotonic()
         getattr(tried, name)()
         tried.settle(descriptors)
-        caller.may_be_refused = False
         for kind, counts in tried.outcomes.items():
             print(f"    {kind}: {', '.join(f'{count} {what}' for what, count in counts.most_common())}")
         tried.outcomes.clear()
@@ -342,7 +338,7 @@ def attack(server: runs.Server, gateway: Gateway, options: argparse.Namespace) -
     for client in clients.values():
         client.ended.set()
         client.join()
-    print(f"  calls were refused {caller.refused} times for want of room, and the page was asked for again {watcher.repeated} times")
+    print(f"  the page was asked for again {watcher.repeated} times")
     return [*dict.fromkeys(faults), *tried.faults, *(fault for client in clients.values() for fault in client.faults)]
 
 
