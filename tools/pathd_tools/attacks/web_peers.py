@@ -58,9 +58,9 @@ WIDTH, OF_HUGE, OF_KIND, DEAF = 200, 4, 60, 3
 # The most numbers of the gateway that the clients account for.
 MOST = {"pathd_gateway_connections": 4, "pathd_gateway_owed_bytes": 1 << 16}
 MOST |= {f'pathd_gateway_calls{{request="{state}"}}': 2 for state in ("whole", "incomplete")}
-# The seats of lookups, and those that the gateway's three sessions and the client have left of the others.
+# The seats of lookups, and those that the gateway's four sessions and the client have left of the others.
 LOOKUP_SEATS = 16
-SEATS = peers.MOST_SESSIONS - LOOKUP_SEATS - 4
+SEATS = peers.MOST_SESSIONS - LOOKUP_SEATS - 5
 # After how many requests the client of the gateway connects anew, and the end of its segment.
 OF_CONNECTION = 40
 OWN = messages.Hop(0x0001_FF00_0000_0FED, 78, 0)
