@@ -10,9 +10,10 @@ use session_core::{FrameError, Kinds, Source, serve};
 use std::alloc::Global;
 use std::io::Write;
 
-/// Answers the messages of one session, which has no lists, from no rows and place 0, in at most `turns` reads, and
-/// returns how many replies were written, capped at 2^64 - 1. Signatures are checked by `checker`,
-/// and `now`, in half seconds since 1970, is the moment at which segments are valid or not.
+/// Answers the messages of one session, which has no lists, from no rows and place 0, in at most
+/// `turns` reads, and returns how many replies were written, capped at 2^64 - 1. Signatures are
+/// checked by `checker`, and `now`, in half seconds since 1970, is the moment at which segments are
+/// valid or not.
 pub fn once<R: Source, W: Write, V: Verifier>(
     alloc: Global,
     reader: &mut R,

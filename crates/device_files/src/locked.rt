@@ -63,9 +63,9 @@ impl LockedFile {
 
     /// The file, cut to nothing and then of `len` zero bytes, which have room as `room` says. The
     /// file, its length and its name in its folder are synced before the call returns `Ok`. Where
-    /// there is no room now, the file is left with no bytes. Where the process may not write as long
-    /// a file, the error is `FileTooLarge`, and the file is unchanged. A block device is unchanged,
-    /// whatever `len` is.
+    /// there is no room now, the file is left with no bytes. Where the process may not write as
+    /// long a file, the error is `FileTooLarge`, and the file is unchanged. A block device is
+    /// unchanged, whatever `len` is.
     pub fn into_zeros<R: AllocGlobal + Files<File = File>>(
         self,
         rt: &R,

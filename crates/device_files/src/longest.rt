@@ -11,9 +11,9 @@ const LIMITS: &str = "/proc/self/limits";
 /// The beginning of the line with the longest file, in bytes.
 const LONGEST_FILE: &str = "Max file size";
 
-/// Refuses a file of `len` bytes by `FileTooLarge` where the process may not write as long a one. At
-/// a write past that limit the system would end the process by a signal, without a line. Where the
-/// system lists no limit, none is refused.
+/// Refuses a file of `len` bytes by `FileTooLarge` where the process may not write as long a one.
+/// At a write past that limit the system would end the process by a signal, without a line. Where
+/// the system lists no limit, none is refused.
 pub(crate) fn check_len<R: AllocGlobal + Files<File = File>>(rt: &R, len: u64) -> io::Result<()> {
     match longest_file(rt) {
         Some(longest) if len > longest => Err(Error::new(

@@ -4,10 +4,11 @@
 //! and shows it. A reader enters the shown copy by a seat of its own, without a lock.
 //!
 //! To the layer above: `open_readers` makes the showcase of a hub, which publishes groups, and its
-//! readers: 64 to be handed out, and one that is the hub's own. `HubReader::lookup` and `HubReader::page` answer from what is published, which is
-//! never older than what this reader was shown or has learnt. `HubReader::last_look` gives a token
-//! of the commands that a reader was shown. Who ends the showcase by `HubShow::close` hands in such
-//! tokens, and learns that each is of a front of the commands that the showcase was given.
+//! readers: 64 to be handed out, and one that is the hub's own. `HubReader::lookup` and
+//! `HubReader::page` answer from what is published, which is never older than what this reader was
+//! shown or has learnt. `HubReader::last_look` gives a token of the commands that a reader was
+//! shown. Who ends the showcase by `HubShow::close` hands in such tokens, and learns that each is
+//! of a front of the commands that the showcase was given.
 #![tactic(auto)]
 
 mod error;

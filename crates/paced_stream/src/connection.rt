@@ -27,10 +27,11 @@ pub struct Ended<T> {
 }
 
 /// Answers the messages of a connection, which are of these kinds, and returns the number of
-/// replies, a count that stays at 2^64 - 1. Replies are sent when all messages that have arrived are answered, or the buffer of
-/// 8,192 bytes is full. The session ends where a frame does not begin within the idle time, where its
-/// rest does not come within the idle time of the first read that waits for it, or where what is
-/// sent is not taken within it. The time in which messages are answered is in none of these.
+/// replies, a count that stays at 2^64 - 1. Replies are sent when all messages that have arrived
+/// are answered, or the buffer of 8,192 bytes is full. The session ends where a frame does not
+/// begin within the idle time, where its rest does not come within the idle time of the first read
+/// that waits for it, or where what is sent is not taken within it. The time in which messages are
+/// answered is in none of these.
 ///
 /// The connection is given for reads and for writes. The error is `Read` too where it cannot be set
 /// up.

@@ -7,15 +7,15 @@ use std::cell::RefCell;
 use std::io::Read;
 use std::net::TcpStream;
 
-/// The bytes of a connection that are kept at the most, but for one more read: eight messages of the
-/// greatest length.
+/// The bytes of a connection that are kept at the most, but for one more read: eight messages of
+/// the greatest length.
 pub const MOST_READ_AHEAD: usize = 1_048_576;
 
 /// The most bytes of one read.
 const PIECE: usize = 16_384;
 
 /// Bytes of a connection that are read while its session waits for a commit, so that the end of the
-/// peer's input is found behind them. The session's next reads give them (`SystemStream`).
+/// peer's input is found after them. The session's next reads give them (`SystemStream`).
 ///
 /// The thread of the session alone uses it. No clause says what it has, as it shares its bytes.
 #[derive(Drop)]

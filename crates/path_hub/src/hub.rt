@@ -80,8 +80,8 @@ impl<D: Device, N: HubName, R: Wait + Clock> Hub<D, N, R> {
         let _ = self.readers.lock(&self.rt).push(reader);
     }
 
-    /// Takes the hub's own reader, by which a workload looks up for itself. It is none of those that
-    /// `reader` hands out. The result is `None` while a thread has it.
+    /// Takes the hub's own reader, by which a workload looks up for itself. It is none of those
+    /// that `reader` hands out. The result is `None` while a thread has it.
     pub fn take_own_reader(&self) -> Option<HubReader<N>> {
         self.own_reader.lock(&self.rt).take()
     }

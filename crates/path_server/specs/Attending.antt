@@ -28,8 +28,8 @@ shares_room role shared = takes_commands role && shared
 abbrev pub limited_beginning : Option ℕ → Bool → Bool → Serving → LimitedView Serving
 limited_beginning future shares commands serving = record { future = future; shares = shares; commands = commands; moment = 0; inner = serving }
 
--- A limited service over a hub served a session over a connection, of messages of these kinds. The hub opened with this value,
--- and of its commands it is known for which reasons they were refused.
+-- A limited service over a hub served a session over a connection, of messages of these kinds. The
+-- hub opened with this value, and of its commands it is known for which reasons they were refused.
 pub record IsHubServed {T : Type 0} (kinds : Kinds) (opening : StoreValue (List RowView)) (refused : Command → Option SubmitError → Bool) (given taken : T → List ℕ) (is_at_end : T → Type 0) (future : Option ℕ) (shares commands : Bool) (roster : RosterView) (verifies : Verdicts) (left : Bool)
     (input input_left output output_left : T) (result : Result ℕ FrameError) (claims : List Claim) (look : List Command) : Type 0 where
   -- The reader by which the service began.

@@ -12,8 +12,8 @@ use Rattle.path_server.specs.declared.anchor.Reading.{Reading}
 use Rattle.path_server.specs.declared.purger.NotPurged.{NotPurged}
 use Rattle.path_server.specs.declared.purger.NotPurged.TheVariants.{Rests, Refused}
 
--- The moment that is expected of a clock by an anchor, when a steady clock gives this moment: that of
--- the anchor, and the steady time since.
+-- The moment that is expected of a clock by an anchor, when a steady clock gives this moment: that
+-- of the anchor, and the steady time since.
 abbrev pub expected : Reading → ℕ → ℕ
 expected anchor steady = min (anchor.moment + (steady - anchor.steady)) (2 ^ 64 - 1)
 
@@ -21,8 +21,8 @@ expected anchor steady = min (anchor.moment + (steady - anchor.steady)) (2 ^ 64 
 abbrev pub reading : ℕ → ℕ → Reading
 reading moment steady = record { moment = moment; steady = steady }
 
--- A reading with the moment that is trusted where this one is expected: the earlier one of both, where
--- they differ by no more than a minute.
+-- A reading with the moment that is trusted where this one is expected: the earlier one of both,
+-- where they differ by no more than a minute.
 abbrev pub judged_by : ℕ → Reading → Result Reading Doubt
 judged_by due now =
     if nat_lt LEEWAY (now.moment - due) then Err (Ahead ((now.moment - due) / 2))

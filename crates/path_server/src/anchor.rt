@@ -10,8 +10,8 @@ use std::fmt::{Display, Formatter};
 /// minute.
 const LEEWAY: u64 = 120;
 
-/// The most half seconds that the machine's clock may be after the newest timestamp of the store, to
-/// be trusted at a start: a day.
+/// The most half seconds that the machine's clock may be after the newest timestamp of the store,
+/// to be trusted at a start: a day.
 const LONGEST_PAUSE: u64 = 172_800;
 
 /// A moment of the machine's clock, and that of a steady clock then. Both are in half seconds. An

@@ -23,11 +23,11 @@ pub(crate) struct Limits {
 /// The peer of a session, who waits for replies. What it sends meanwhile is read ahead, so that the
 /// end of its input is found.
 ///
-/// It has left once its connection is reset or is ended on both sides. Where there is a limit, it has
-/// also left once it has ended its own side, and this time has gone by in which no command of it was
-/// answered. A peer may end its side once it has sent its requests, and a peer that closes its
-/// connection cannot be distinguished from it before something is written. The same holds, by another
-/// limit, of a peer that has sent more than is read ahead.
+/// It has left once its connection is reset or is ended on both sides. Where there is a limit, it
+/// has also left once it has ended its own side, and this time has gone by in which no command of
+/// it was answered. A peer may end its side once it has sent its requests, and a peer that closes
+/// its connection cannot be distinguished from it before something is written. The same holds, by
+/// another limit, of a peer that has sent more than is read ahead.
 #[derive(Drop)]
 pub(crate) struct PeerSocket<'a, K: Clock> {
     clock: &'a K,
@@ -83,7 +83,8 @@ impl<'a, K: Clock> PeerSocket<'a, K> {
         }
     }
 
-    /// Whether the peer has waited for a limit. The time begins with the first call after an answer.
+    /// Whether the peer has waited for a limit. The time begins with the first call after an
+    /// answer.
     fn is_late(&mut self, limit: Option<Duration>) -> bool
         ensures { limit ≡ None → result ≡ false }
     {

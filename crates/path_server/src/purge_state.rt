@@ -30,8 +30,8 @@ impl PurgeState {
         self.refused.swap(refused, Ordering::SeqCst)
     }
 
-    /// Notes whether a purge was not handed in, since the clock was not trusted. Returns whether the
-    /// one before was not.
+    /// Notes whether a purge was not handed in, since the clock was not trusted. Returns whether
+    /// the one before was not.
     pub(crate) fn note_resting(&self, resting: bool) -> bool {
         self.resting.swap(resting, Ordering::SeqCst)
     }

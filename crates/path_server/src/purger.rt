@@ -123,8 +123,8 @@ impl<'a, D: Device, N: HubName, R: Wait + Clock, C: Now, S: Now> Purger<'a, D, N
         }
     }
 
-    /// Trusts the machine's clock where it is within a minute of the moment of a purge that a session
-    /// asked for, in half seconds since 1970.
+    /// Trusts the machine's clock where it is within a minute of the moment of a purge that a
+    /// session asked for, in half seconds since 1970.
     pub(crate) fn confirm(&mut self, asked: u64)
         ensures anchor { let now = reading (C.moment self.new.clock) (S.moment self.new.steady) in
             self.new.anchor ≡ or_else (confirmed asked now) self.old.anchor }
@@ -192,8 +192,8 @@ impl<'a, D: Device, N: HubName, R: Wait + Clock, C: Now, S: Now> Purger<'a, D, N
     }
 
     /// Reads both clocks, the steady one first. Where the thread waits in between, the machine's
-    /// moment is after the expected one, which is trusted then. In the other order such a wait would
-    /// keep all further moments back.
+    /// moment is after the expected one, which is trusted then. In the other order such a wait
+    /// would keep all further moments back.
     fn read(&mut self) -> Reading
         ensures now { result ≡ reading (C.moment self.new.clock) (S.moment self.new.steady) }
         ensures same { (self.new.anchor ≡ self.old.anchor) × (self.new.grace ≡ self.old.grace) × (self.new.sender ≡ self.old.sender) }

@@ -94,9 +94,9 @@ impl<L: Listener + Drop, V: Verifier, O: Reports> Server<'_, L, V, O> {
         self.purge_in_steps(hub, purger, sample)
     }
 
-    /// A sample of the rows, of which those have expired that expire at this moment or before. There
-    /// is none where memory is refused, or what is published is older than what the hub's own reader
-    /// was shown.
+    /// A sample of the rows, of which those have expired that expire at this moment or before.
+    /// There is none where memory is refused, or what is published is older than what the hub's own
+    /// reader was shown.
     fn sample<D: Device, N: HubName, R: Wait + Clock>(
         &self,
         hub: &Hub<D, N, R>,
@@ -108,10 +108,10 @@ impl<L: Listener + Drop, V: Verifier, O: Reports> Server<'_, L, V, O> {
         sample.ok()
     }
 
-    /// Purges by moments of a sample, so that each purge drops about 250 rows, and then by the clock.
-    /// Returns how many rows were dropped, or `None` within where the last purge was refused or not
-    /// handed in, so that rows that have expired may be left. It is `None` where the server does not
-    /// go on.
+    /// Purges by moments of a sample, so that each purge drops about 250 rows, and then by the
+    /// clock. Returns how many rows were dropped, or `None` within where the last purge was refused
+    /// or not handed in, so that rows that have expired may be left. It is `None` where the server
+    /// does not go on.
     fn purge_in_steps<D: Device, N: HubName, R: Wait + Clock, C: Now, S: Now>(
         &self,
         hub: &Hub<D, N, R>,
@@ -137,9 +137,9 @@ impl<L: Listener + Drop, V: Verifier, O: Reports> Server<'_, L, V, O> {
         }
     }
 
-    /// Hands in a purge of a moment, or of the one that is trusted where that is before it, and waits
-    /// until it is answered. Returns how many rows it dropped, or `None` within where it was refused
-    /// or not handed in. It is `None` where the server does not go on.
+    /// Hands in a purge of a moment, or of the one that is trusted where that is before it, and
+    /// waits until it is answered. Returns how many rows it dropped, or `None` within where it was
+    /// refused or not handed in. It is `None` where the server does not go on.
     fn purge_by<D: Device, N: HubName, R: Wait + Clock, C: Now, S: Now>(
         &self,
         purger: &mut Purger<'_, D, N, R, C, S>,

@@ -61,8 +61,8 @@ pub enum Report {
     PurgesRest(Doubt),
     /// The server's own purges go on, and the one before was not made.
     PurgesGoOn,
-    /// A purge that the server made by itself has dropped this many rows of this many, which is more
-    /// than half of them.
+    /// A purge that the server made by itself has dropped this many rows of this many, which is
+    /// more than half of them.
     PurgedMost {
         dropped: u64,
         rows: u64,

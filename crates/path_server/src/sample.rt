@@ -93,9 +93,9 @@ impl Sample {
         Ok(())
     }
 
-    /// The newest timestamp of its rows, in half seconds since 1970, or `None` where it has none. As
-    /// the store's newest one is no less, a clock that is at most a day after this one is at most a
-    /// day after that one, too.
+    /// The newest timestamp of its rows, in half seconds since 1970, or `None` where it has none.
+    /// As the store's newest one is no less, a clock that is at most a day after this one is at
+    /// most a day after that one, too.
     pub(crate) fn newest(&self) -> Option<u64>
         ensures { result ≡ self.now.newest }
     {
@@ -109,7 +109,8 @@ impl Sample {
         &self.moments
     }
 
-    /// After how many of its moments each a purge drops about 250 rows of a store that has this many.
+    /// After how many of its moments each a purge drops about 250 rows of a store that has this
+    /// many.
     #[tactic(auto, unfolding(crate::specs::Pacing::stride_of))]
     pub(crate) fn stride(&self, rows: u64) -> usize
         ensures same { result ≡ stride_of self.now.seen (length self.now.moments.items) rows }

@@ -92,7 +92,8 @@ pub data Ending : Type 0 where
   BadKind : Ending
 
 module _ (kinds : Kinds) where
-  -- The message is of a kind that there is, its frame is not too long, and its numbers fit their bytes.
+  -- The message is of a kind that there is, its frame is not too long, and its numbers fit their
+  -- bytes.
   abbrev pub FitsFrame : MessageView → Type 0
   FitsFrame (Register body) = IsFrameLength (1 + length body)
   FitsFrame (Lookup body) = IsFrameLength (1 + length body)

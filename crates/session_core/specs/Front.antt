@@ -30,8 +30,8 @@ module _ (kinds : Kinds) where
   IsFaultAt bytes error.Kind = HasBadKind kinds bytes
   IsFaultAt bytes _ = ⊥
 
-  -- The result of reading the front: a whole frame with its message, less than a frame, or the fault
-  -- of the frame.
+  -- The result of reading the front: a whole frame with its message, less than a frame, or the
+  -- fault of the frame.
   abbrev pub IsFrontReading : List ℕ → Result (Option (Message (Bor (List ℕ)) × ℕ)) FrameError → Type 0
   IsFrontReading bytes (Ok None) = IsPartial kinds bytes
   IsFrontReading bytes (Ok (Some next)) = BeginsWithFrame bytes (message_at next.0) next.1

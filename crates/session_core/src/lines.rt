@@ -14,10 +14,10 @@ use crate::session::Session;
 use std::alloc::Global;
 use std::io::Write;
 
-/// Answers the messages of these kinds whose frames are these bytes, and writes each reply as a line: the
-/// hexadecimal digits of its frame in lower case. The result is the number of replies that were
-/// written, capped at 2^64 - 1. Bytes that end within a frame are `Read`. Commands are handed in
-/// ahead as by `serve`.
+/// Answers the messages of these kinds whose frames are these bytes, and writes each reply as a
+/// line: the hexadecimal digits of its frame in lower case. The result is the number of replies
+/// that were written, capped at 2^64 - 1. Bytes that end within a frame are `Read`. Commands are
+/// handed in ahead as by `serve`.
 pub fn serve_in_lines<W: Write, S: Service>(
     alloc: Global,
     bytes: Vec<u8>,

@@ -5,8 +5,8 @@ ghost use Rattle.session_core.specs.Frames.{greatest_kind};
 
 use crate::kinds::{LIST, REMOVE};
 
-/// Which kinds of messages a session or a stream has. A frame of any other kind is a fault, whatever
-/// its length.
+/// Which kinds of messages a session or a stream has. A frame of any other kind is a fault,
+/// whatever its length.
 #[derive(Clone, Copy, Debug, PartialEq, Eq)]
 pub enum Kinds {
     /// Kinds 1 to 4: registrations, lookups, purges and removals.

@@ -18,8 +18,8 @@ use crate::source::Source;
 use crate::writing::write_reply;
 use std::alloc::Global;
 
-/// Answers the messages of a reader, which are of these kinds, in at most `turns` reads. The result is the number of replies
-/// that were written, capped at 2^64 - 1.
+/// Answers the messages of a reader, which are of these kinds, in at most `turns` reads. The result
+/// is the number of replies that were written, capped at 2^64 - 1.
 ///
 /// The commands whose frames are whole in the input, up to `MOST_AHEAD` in a row, are handed in
 /// before the first of them is answered. A message that the service does not take ahead is answered

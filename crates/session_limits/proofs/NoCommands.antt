@@ -15,7 +15,8 @@ use Rattle.session_limits.specs.Readings.{ReadsAs, untaken_code}
 takes_some : (takes : Bool) → takes ≡ false → takes ≡ true → ⊥
 takes_some takes none some = false≢true (sym none ∙ some)
 
--- the message is refused by the code of why it cannot be read, or of a session that takes no commands
+-- the message is refused by the code of why it cannot be read, or of a session that takes no
+-- commands
 abbrev IsUntaken : MessageView → ReplyView → Type 0
 IsUntaken message reply = (fault : Option SegError) × (ReadsAs message fault × (reply ≡ Refused (untaken_code fault)))
 

@@ -54,8 +54,8 @@ MayLackMemory _ _ = ⊥
 
 -- Why a message is refused, or None where it goes on to the service below. A session that takes no
 -- commands refuses each one, first for why it cannot be read, and has no other refusal. Elsewhere a
--- message is refused that lies in the future. Only a command that does not is refused for want of room, and only where room
--- is shared.
+-- message is refused that lies in the future. Only a command that does not is refused for want of
+-- room, and only where room is shared.
 abbrev pub IsAdmission : Bool → Option ℕ → Bool → Option ℕ → MessageView → Option Limit → Type 0
 IsAdmission takes future shares moment message None = IsJudged future moment message false × (takes ≡ false → command_kind message ≡ None)
 IsAdmission takes future shares moment message (Some NoMemory) = (takes ≡ true) × ((moment ≡ None) × MayLackMemory future message)

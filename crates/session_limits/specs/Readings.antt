@@ -8,15 +8,15 @@ use Rattle.session_core.specs.declared.message.Message.TheVariants.{Register, Re
 use Rattle.session_core.specs.Frames.{MessageView}
 use Rattle.reply_codes.specs.Codes.{no_commands_code, seg_code}
 
--- A message can be read: it is no registration, or one that can be decoded, and no removal of a type
--- that is none.
+-- A message can be read: it is no registration, or one that can be decoded, and no removal of a
+-- type that is none.
 abbrev pub is_readable : MessageView → Bool
 is_readable (Register body) = is_ok (registration_decoding body)
 is_readable (Remove kind id) = is_ok (type_of kind)
 is_readable _ = true
 
--- A message cannot be read, by this error. A registration may be refused memory once its outline was
--- read.
+-- A message cannot be read, by this error. A registration may be refused memory once its outline
+-- was read.
 abbrev pub IsUnreadable : MessageView → SegError → Type 0
 IsUnreadable (Register body) error =
     (error ≡ NoMemory → IsOk (registration_outline body)) × (error ≢ NoMemory → registration_decoding body ≡ Err error)

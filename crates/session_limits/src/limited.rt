@@ -40,9 +40,9 @@ pub struct Limits<'a> {
 ///   session. Room is awaited for 200 milliseconds, and not again until the session has had some. A
 ///   session keeps its room until none of its commands is under way.
 ///
-/// Where there is a bound or commands are not taken, a registration is read here, too. Where there is
-/// a bound and commands are taken, the clock is asked once for each that can be read, and for each
-/// purge.
+/// Where there is a bound or commands are not taken, a registration is read here, too. Where there
+/// is a bound and commands are taken, the clock is asked once for each that can be read, and for
+/// each purge.
 ///
 /// Where a message is refused here, the service below is the same value afterwards (the clauses
 /// `untouched`). Code that is generic in that service can show this only by not calling it, so that

@@ -93,8 +93,8 @@ impl Page<'_> {
 }
 
 /// Serves clients from a device by a server that purges by itself and has a clock that is set. It
-/// keeps rows for this number of seconds past their expiry. Returns the device, and what the clients
-/// saw.
+/// keeps rows for this number of seconds past their expiry. Returns the device, and what the
+/// clients saw.
 fn served_by<R: World, C: Clients + Sync>(
     rt: R,
     alloc: Global,

@@ -168,7 +168,8 @@ impl Reports for Counts {
     }
 }
 
-/// The options of a server for this number of sessions, whose peers may be silent for ten seconds and may list.
+/// The options of a server for this number of sessions, whose peers may be silent for ten seconds
+/// and may list.
 pub(crate) fn options(rt: &impl Abort, alloc: Global, sessions: u64) -> Options {
     let mut cores = Vec::new(alloc);
     cores

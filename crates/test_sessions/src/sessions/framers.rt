@@ -165,8 +165,8 @@ fn frame_faults(rt: HostRuntime) {
     }
 }
 
-// A frame of kind 5 with a wrong length has a fault of the length where there are lists. Where there
-// are none, each frame of kind 5 has a fault of the kind.
+// A frame of kind 5 with a wrong length has a fault of the length where there are lists. Where
+// there are none, each frame of kind 5 has a fault of the kind.
 #[test]
 fn faults_of_lists(rt: HostRuntime) {
     for frame in BAD_LISTS {
@@ -281,8 +281,8 @@ fn assert_worked(rt: &impl Abort, messages: &[Message], from: u8) -> u8 {
     place
 }
 
-/// Feeds a piece of the worked stream, checks its messages from this place on, and returns the place
-/// after them.
+/// Feeds a piece of the worked stream, checks its messages from this place on, and returns the
+/// place after them.
 fn feed_worked(
     rt: &impl Abort,
     framer: &mut Framer,
