@@ -4,7 +4,7 @@ use crate::bytes::push;
 use crate::checks::assert_true;
 use crate::service::frames::register_by;
 use crate::service::sessions::Frames;
-use crate::service::stores::new_store;
+use crate::service::stores::new_store_of;
 use crate::service::tasks::talked;
 use seg_check::seg_id;
 use seg_core::{SegType, Segment, read_segment, write_response_of};
@@ -17,6 +17,9 @@ use test_support::leaving_by;
 
 /// How many segments are registered, each left by another interface.
 const SEGMENTS: u8 = 70;
+
+/// How many sectors the rows of the segments have room in: each takes 93 bytes.
+const SECTORS: u32 = 16;
 
 /// The most segments of a page.
 const PAGE: usize = 64;
@@ -122,7 +125,7 @@ fn assert_pages<R: Wait + Clock + Threads + Abort + Copy + Drop + Send + Sync>(
         frames,
         cut: 0,
     };
-    let (_device, written) = talked(rt, alloc, new_store(&rt, alloc), talk);
+    let (_device, written) = talked(rt, alloc, new_store_of(&rt, alloc, SECTORS), talk);
     let has_pages = written.is_some_and(|written| written.as_slice().ends_with(pages.as_slice()));
     assert_true(&rt, has_pages, "the replies end with the pages");
 }

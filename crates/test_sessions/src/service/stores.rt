@@ -35,14 +35,19 @@ pub(crate) fn cores(rt: &impl Abort, alloc: Global) -> Roster {
 
 /// A new store's device. Where memory is refused, it is asked for once more.
 pub(crate) fn formatted(rt: &impl Abort, alloc: Global) -> MemDevice {
-    let sectors = LEAST.sectors();
+    formatted_as(rt, alloc, LEAST)
+}
+
+/// A device with a new store of these sizes. Where memory is refused, it is asked for once more.
+fn formatted_as(rt: &impl Abort, alloc: Global, sizes: Geometry) -> MemDevice {
+    let sectors = sizes.sectors();
     assert_true(rt, sectors <= 4096, "the device is small");
     let made = match MemDevice::new(alloc, sectors) {
         Err(_) => MemDevice::new(alloc, sectors),
         made => made,
     };
     let mut device = made.expect(rt, "the device has memory");
-    assert_same(rt, &format(&mut device, LEAST), &Ok(()), &"format");
+    assert_same(rt, &format(&mut device, sizes), &Ok(()), &"format");
     device
 }
 
@@ -61,6 +66,15 @@ pub(crate) fn opened<D: Device>(rt: &impl Abort, alloc: Global, device: D) -> St
 /// A new store.
 pub(crate) fn new_store(rt: &impl Abort, alloc: Global) -> Store<MemDevice> {
     opened(rt, alloc, formatted(rt, alloc))
+}
+
+/// A new store, whose checkpoint areas have this number of sectors.
+pub(crate) fn new_store_of(rt: &impl Abort, alloc: Global, checkpoint: u32) -> Store<MemDevice> {
+    let sizes = Geometry {
+        checkpoint,
+        ..LEAST
+    };
+    opened(rt, alloc, formatted_as(rt, alloc, sizes))
 }
 
 /// A new store of version 1.
