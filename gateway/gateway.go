@@ -7,6 +7,7 @@ import (
 	"log"
 	"net"
 	"net/http"
+	"os"
 	"strings"
 	"time"
 
@@ -19,6 +20,7 @@ import (
 	"pathd/gateway/internal/connectapi"
 	"pathd/gateway/internal/door"
 	"pathd/gateway/internal/grpcapi"
+	"pathd/gateway/internal/roles"
 	"pathd/gateway/internal/settings"
 	"pathd/gateway/internal/trust"
 )
@@ -43,6 +45,7 @@ type gateway struct {
 	settings     *settings.Settings
 	certificates *certificates // nil without TLS
 	keeper       *trust.Keeper // nil without trust material
+	roles        *roles.Roles  // nil where all clients may make all calls
 	pathd        *pathd.Client
 	lists        *pathd.Client // has a session of its own, for lists alone
 	desk         *calls.Desk
@@ -69,24 +72,37 @@ func newGateway(s *settings.Settings, listener net.Listener) (g *gateway, err er
 			return nil, err
 		}
 	}
+	if s.Roles != "" {
+		if g.roles, err = roles.Open(s.Roles); err != nil {
+			return nil, err
+		}
+	}
 	g.pathd, g.lists = clientOf(s, s.Lookups), clientOf(s, 1)
 	g.door = door.New(listener, door.Options{
 		Connections: s.Connections, PeerConnections: s.PeerConnections,
 		OwedByOne: owedByOne, OwedByAll: owedByAll,
 		Streams: uint32(s.Streams), Stuck: s.Deadline, TLS: g.certificates.current(),
 	}, g.serveHTTP2)
-	options := calls.Options{
-		Pathd: g.pathd, Lists: g.lists, MostSegments: s.MostSegments, Deadline: s.Deadline,
-		Calls: s.Calls, Registrations: s.Registrations,
-	}
-	if g.keeper != nil {
-		options.Verifier = g.keeper
-	}
-	g.desk = calls.NewDesk(options)
+	g.desk = g.newDesk()
 	g.methods = methodsOf(g.desk, g.keeper)
 	g.watcher = &watcher{asker: g.pathd, address: s.Pathd, checks: g.checks, services: g.services()}
 	g.grpc = grpcapi.NewServer(g.desk, g.methods, g.checks, grpcapi.Options{Streams: uint32(s.Streams), Idle: s.Idle})
 	return g, g.makeWeb()
+}
+
+func (g *gateway) newDesk() *calls.Desk {
+	s := g.settings
+	options := calls.Options{
+		Pathd: g.pathd, Lists: g.lists, MostSegments: s.MostSegments, Deadline: s.Deadline,
+		Calls: s.Calls, Registrations: s.Registrations, Roles: g.roles,
+	}
+	if g.keeper != nil {
+		options.Verifier = g.keeper
+	}
+	if s.Log != "" {
+		options.Journal = calls.NewJournal(calls.Format(s.Log), os.Stderr)
+	}
+	return calls.NewDesk(options)
 }
 
 // clientOf answers a client of pathd with so many sessions for lookups and lists.

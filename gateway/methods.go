@@ -5,6 +5,7 @@ import (
 
 	"pathd/gateway/internal/calls"
 	control "pathd/gateway/internal/pb/controlplanepb"
+	"pathd/gateway/internal/roles"
 	"pathd/gateway/internal/trust"
 	"pathd/segmentspb"
 )
@@ -19,12 +20,12 @@ const (
 func methodsOf(desk *calls.Desk, keeper *trust.Keeper) []*calls.Method {
 	methods := []*calls.Method{
 		{
-			Service: calls.LookupService, Name: "Segments", File: segmentsFile, Serve: desk.Segments,
+			Service: calls.LookupService, Name: "Segments", File: segmentsFile, Serve: desk.Segments, Action: roles.LookUp,
 			Request:  func() proto.Message { return new(segmentspb.SegmentsRequest) },
 			Response: func() proto.Message { return new(segmentspb.SegmentsResponse) },
 		},
 		{
-			Service: calls.RegistrationService, Name: "SegmentsRegistration", File: segmentsFile, Serve: desk.Registration,
+			Service: calls.RegistrationService, Name: "SegmentsRegistration", File: segmentsFile, Serve: desk.Registration, Action: roles.Register,
 			Request:  func() proto.Message { return new(segmentspb.SegmentsRegistrationRequest) },
 			Response: func() proto.Message { return new(control.SegmentsRegistrationResponse) },
 		},

@@ -66,7 +66,7 @@ func (g *gateway) start(ctx context.Context) {
 	go g.door.Run()
 }
 
-// reload reads certificates and trust again. What is faulty leaves what was read before.
+// reload reads certificates, roles and trust again, up to the first that is faulty.
 func (g *gateway) reload() {
 	tell("RELOADING=1")
 	defer tell("READY=1")
@@ -74,16 +74,19 @@ func (g *gateway) reload() {
 	if g.certificates != nil {
 		err = g.certificates.read()
 	}
+	if g.roles != nil && err == nil {
+		err = g.roles.Read()
+	}
 	if g.keeper != nil && err == nil {
 		err = g.keeper.Read()
 	}
 	if err != nil {
 		g.reloads.faulty.Add(1)
-		log.Printf("nothing was read again: %v", err)
+		log.Printf("not all was read again: %v", err)
 		return
 	}
 	g.reloads.good.Add(1)
-	log.Print("certificates and trust were read again")
+	log.Print("certificates, roles and trust were read again")
 }
 
 func tell(line string) {

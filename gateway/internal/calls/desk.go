@@ -12,6 +12,7 @@ import (
 	"pathd"
 	"pathd/gateway/internal/door"
 	"pathd/gateway/internal/numbers"
+	"pathd/gateway/internal/roles"
 	"pathd/gateway/internal/shares"
 )
 
@@ -45,6 +46,10 @@ type Options struct {
 	Pathd, Lists Asker
 	// Verifier verifies registrations before pathd gets them. Nil is none.
 	Verifier Verifier
+	// Roles has who may make which calls, and Journal a line for each registration and each refusal. Nil is
+	// everybody, and none.
+	Roles   *roles.Roles
+	Journal *Journal
 	// MostSegments is how many segments a lookup's response has at most.
 	MostSegments int
 	// Registrations is how many sessions with pathd there are for registrations.
@@ -147,8 +152,8 @@ type Call struct {
 
 // Serve carries a call of a method out, and answers its response or how it has ended.
 func (d *Desk) Serve(ctx context.Context, m *Method, call Call) (Response, *Fault) {
-	begun := time.Now()
-	response, fault := d.serve(ctx, m, call, begun)
+	its := &visit{begun: time.Now(), stop: call.Stop}
+	response, fault := d.serve(ctx, m, call, its)
 	if fault == nil && call.Conn != nil && !call.Conn.Owe(len(response.Body)) {
 		fault = errNotTaken
 	}
@@ -159,7 +164,8 @@ func (d *Desk) Serve(ctx context.Context, m *Method, call Call) (Response, *Faul
 			d.turned.Add(1)
 		}
 	}
-	m.Numbers().Count(call.By, status, time.Since(begun))
+	m.Numbers().Count(call.By, status, time.Since(its.begun))
+	d.options.Journal.note(m, call.Conn, its.request, fault)
 	return response, fault
 }
 
@@ -169,18 +175,20 @@ var (
 	errNotTaken = noRoom("the connection, its peer or all peers have not taken their earlier replies")
 )
 
-func (d *Desk) serve(ctx context.Context, m *Method, call Call, begun time.Time) (Response, *Fault) {
+func (d *Desk) serve(ctx context.Context, m *Method, call Call, its *visit) (Response, *Fault) {
 	if call.Conn != nil && !call.Conn.Owe(0) {
 		return Response{}, errNotTaken
 	}
-	its := &visit{begun: begun.UnixNano(), stop: call.Stop}
+	if of := d.options.Roles; of != nil && m.Action != "" && !of.Allows(call.Conn.Certificate(), m.Action) {
+		return Response{}, NewFault(codes.PermissionDenied, "the client's certificate has no role that allows %q", m.Action)
+	}
 	place := d.calls.Claim(its, call.Conn.Peers()...)
 	if !place.Take(1) {
 		return Response{}, errCalls
 	}
 	defer place.GiveAll()
 	ctx = door.NewContext(ctx, call.Conn)
-	limit := begun.Add(d.options.Deadline)
+	limit := its.begun.Add(d.options.Deadline)
 	if soonest, isBounded := ctx.Deadline(); !isBounded || limit.Before(soonest) {
 		var cancel context.CancelFunc
 		ctx, cancel = context.WithDeadline(ctx, limit)
@@ -200,6 +208,7 @@ func (d *Desk) serve(ctx context.Context, m *Method, call Call, begun time.Time)
 	if len(request) > pathd.MostRequest {
 		return Response{}, NewFault(codes.ResourceExhausted, "a request has more than %d bytes", pathd.MostRequest)
 	}
+	its.request = request
 	response, fault := d.carryOut(ctx, m, call.Conn, request)
 	if fault != nil && its.isLost.Load() { // in the moment in which it became whole
 		fault = errSlow
@@ -224,7 +233,8 @@ func (d *Desk) carryOut(ctx context.Context, m *Method, conn *door.Conn, request
 
 // visit is a call that has a place. It may lose it as long as its request is not whole.
 type visit struct {
-	begun           int64 // in Unix nanoseconds
+	begun           time.Time
+	request         []byte // once it is whole
 	isWhole, isLost atomic.Bool
 	stop            func()
 }
@@ -234,7 +244,7 @@ func (v *visit) IdleSince() int64 {
 	if v.isWhole.Load() {
 		return 0
 	}
-	return v.begun
+	return v.begun.UnixNano()
 }
 
 // Lose ends the call.

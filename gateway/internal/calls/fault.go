@@ -27,6 +27,14 @@ type Fault struct {
 // Error answers the text.
 func (f *Fault) Error() string { return f.Text }
 
+// number answers the code as calls have it, or nothing.
+func (f *Fault) number() string {
+	if f.Code == 0 {
+		return ""
+	}
+	return refusal.NumberOf(f.Code)
+}
+
 // NewFault answers a fault without a code.
 func NewFault(status codes.Code, format string, words ...any) *Fault {
 	return &Fault{Status: status, Text: fmt.Sprintf(format, words...)}

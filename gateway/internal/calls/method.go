@@ -7,6 +7,7 @@ import (
 	"google.golang.org/protobuf/proto"
 
 	"pathd/gateway/internal/numbers"
+	"pathd/gateway/internal/roles"
 )
 
 // The services, whose names are those that daemons of SCION hosts call.
@@ -32,6 +33,8 @@ type Method struct {
 	Service, Name, File string
 	// Serve answers the response to the body of a request.
 	Serve func(ctx context.Context, request []byte) (Response, error)
+	// Action is what a client needs a rule for, where there are roles. Empty is none.
+	Action roles.Action
 	// Request and Response answer empty messages, by which JSON is read and written.
 	Request, Response func() proto.Message
 

@@ -20,6 +20,7 @@ var known = map[codes.Code]struct {
 	codes.InvalidArgument:    {"invalid_argument", http.StatusBadRequest},
 	codes.DeadlineExceeded:   {"deadline_exceeded", http.StatusGatewayTimeout},
 	codes.NotFound:           {"not_found", http.StatusNotFound},
+	codes.PermissionDenied:   {"permission_denied", http.StatusForbidden},
 	codes.ResourceExhausted:  {"resource_exhausted", http.StatusTooManyRequests},
 	codes.FailedPrecondition: {"failed_precondition", http.StatusBadRequest},
 	codes.Unimplemented:      {"unimplemented", http.StatusNotImplemented},

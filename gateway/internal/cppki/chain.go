@@ -52,7 +52,7 @@ func ParseChainPEM(content []byte) (*Chain, error) {
 
 // check looks at the two certificates alone.
 func (c *Chain) check() (err error) {
-	if c.ISDAS, err = subject(c.AS); err != nil {
+	if c.ISDAS, err = Subject(c.AS); err != nil {
 		return fmt.Errorf("AS certificate: %w", err)
 	}
 	isOfAS := false
@@ -71,7 +71,7 @@ func (c *Chain) check() (err error) {
 	case len(c.AS.UnhandledCriticalExtensions)+len(c.CA.UnhandledCriticalExtensions) > 0:
 		return errors.New("an extension that is not known is critical")
 	}
-	issuer, err := subject(c.CA)
+	issuer, err := Subject(c.CA)
 	if err == nil && issuer.ISD() != c.ISDAS.ISD() {
 		err = errors.New("it is of another ISD")
 	}

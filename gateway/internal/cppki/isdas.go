@@ -62,8 +62,8 @@ var (
 	errSeveralISDAS = errors.New("the subject has several ISD-ASes")
 )
 
-// subject answers the ISD-AS of a certificate's subject, which has to be there once.
-func subject(of *x509.Certificate) (ISDAS, error) {
+// Subject answers the ISD-AS of a certificate's subject, which has to be there once.
+func Subject(of *x509.Certificate) (ISDAS, error) {
 	found, count := "", 0
 	for _, name := range of.Subject.Names {
 		if name.Type.Equal(oidISDAS) {

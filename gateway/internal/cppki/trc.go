@@ -148,7 +148,7 @@ func classOf(certificate *x509.Certificate) (found class, err error) {
 
 // checkCertificate looks at a certificate beside those before it. One for votes may leave out its ISD-AS.
 func (t *TRC) checkCertificate(certificate *x509.Certificate) error {
-	its, err := subject(certificate)
+	its, err := Subject(certificate)
 	if err == nil && its.ISD() != t.ISD {
 		err = fmt.Errorf("it is of another ISD: %v", its)
 	}

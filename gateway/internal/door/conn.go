@@ -3,6 +3,7 @@ package door
 import (
 	"bytes"
 	"context"
+	"crypto/x509"
 	"io"
 	"net"
 	"net/http"
@@ -18,10 +19,11 @@ type Conn struct {
 	net.Conn
 	door *Door
 
-	peers []shares.Peer // its address, and the client's certificate where there is one
-	place *shares.Claim // among the connections
-	owed  *shares.Claim // bytes of replies that the peer has not taken yet
-	took  atomic.Int64  // when it has last taken some, or begun to owe, in Unix nanoseconds
+	peers       []shares.Peer     // its address, and the client's certificate where there is one
+	certificate *x509.Certificate // the client's, where there is one
+	place       *shares.Claim     // among the connections
+	owed        *shares.Claim     // bytes of replies that the peer has not taken yet
+	took        atomic.Int64      // when it has last taken some, or begun to owe, in Unix nanoseconds
 
 	calls atomic.Int64 // whose requests are whole
 	ended atomic.Int64 // when the last call ended, or the connection began, in Unix nanoseconds
@@ -49,11 +51,13 @@ func (d *Door) newConn(conn net.Conn) *Conn {
 	return c
 }
 
-// join has the connection belong to a further peer.
-func (c *Conn) join(peer shares.Peer) error {
+// identify has the connection belong to a client's certificate, too.
+func (c *Conn) identify(certificate *x509.Certificate) error {
+	peer := shares.Certificate(certificate)
 	if !c.place.Join(peer) || !c.owed.Join(peer) {
 		return errNoRoom
 	}
+	c.certificate = certificate
 	c.peers = append(c.peers, peer)
 	return nil
 }
@@ -65,6 +69,14 @@ func (c *Conn) Peers() []shares.Peer {
 		return nil
 	}
 	return c.peers
+}
+
+// Certificate answers the client's certificate, or nil.
+func (c *Conn) Certificate() *x509.Certificate {
+	if c == nil {
+		return nil
+	}
+	return c.certificate
 }
 
 // Begin notes that a call has its whole request, and End that such a call has ended. The connection is

@@ -199,7 +199,7 @@ func (d *Door) secure(c *Conn) error {
 	}
 	c.setInner(secured)
 	if its := secured.ConnectionState().PeerCertificates; len(its) > 0 {
-		return c.join(shares.Certificate(its[0]))
+		return c.identify(its[0])
 	}
 	return nil
 }

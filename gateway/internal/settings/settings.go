@@ -35,6 +35,7 @@ type Settings struct {
 	Streams, Connections       int
 	PeerConnections, Calls     int
 	Certificate, Key, ClientCA string
+	Roles, Log                 string
 	Trust, TrustServer         string
 	Version                    bool
 }
@@ -54,24 +55,7 @@ func Read(words []string, out io.Writer) (*Settings, error) {
 	set := flag.NewFlagSet("pathd-gateway", flag.ContinueOnError)
 	set.SetOutput(io.Discard)
 	var help help
-	add := adder{set, &help}
-	add.address(&s.Listen, "listen", "127.0.0.1:30262", "where it listens; port 0 is any free one")
-	add.address(&s.Pathd, "pathd", "127.0.0.1:30252", "the address of pathd, which may be started later")
-	add.number(&s.Lookups, "lookups", 2, 1, mostSessions, "sessions with pathd for lookups")
-	add.number(&s.Registrations, "registrations", 1, 1, mostSessions, "sessions with pathd for registrations")
-	add.number(&s.MostSegments, "most-segments", 256, pathd.MostFound, mostSegments, "segments that a lookup is answered with")
-	add.seconds(&s.Deadline, "deadline", 10*time.Second, "the longest that a call may take")
-	add.seconds(&s.Idle, "idle", 300*time.Second, "the longest that a connection may have no call")
-	add.number(&s.Streams, "streams", 256, 1, mostStreams, "calls under way in a connection")
-	add.number(&s.Calls, "calls", 1024, 1, mostCalls, "calls under way in all, of which one peer has a quarter at the most")
-	add.number(&s.Connections, "connections", 1024, 1, mostConnections, "open connections")
-	add.number(&s.PeerConnections, "peer-connections", isLeftOut, 0, mostConnections, "open connections of one peer, a quarter of --connections if left out; 0 is no bound")
-	add.text(&s.Certificate, "cert", "FILE", "a certificate and its chain in PEM, for TLS; without it there is no TLS")
-	add.text(&s.Key, "key", "FILE", "the key of the certificate, in PEM")
-	add.text(&s.ClientCA, "client-ca", "FILE", "authorities in PEM: clients need a certificate of one")
-	add.text(&s.Trust, "trust", "FOLDER", "TRCs and chains, by which registrations are verified; without it none is")
-	add.text(&s.TrustServer, "trust-server", "ADDR", "a control service that is asked for chains and TRCs that the folder lacks")
-	add.text(&s.Status, "status", "ADDR", "where GET /metrics is answered with numbers; without it nowhere")
+	s.add(adder{set, &help})
 	set.BoolVar(&s.Version, "version", false, "")
 	help.add("version", "", "prints the version")
 	help.add("help", "", "prints help")
@@ -91,6 +75,29 @@ func Read(words []string, out io.Writer) (*Settings, error) {
 	return s, err
 }
 
+// add adds the options that have a value.
+func (s *Settings) add(add adder) {
+	add.address(&s.Listen, "listen", "127.0.0.1:30262", "where it listens; port 0 is any free one")
+	add.address(&s.Pathd, "pathd", "127.0.0.1:30252", "the address of pathd, which may be started later")
+	add.number(&s.Lookups, "lookups", 2, 1, mostSessions, "sessions with pathd for lookups")
+	add.number(&s.Registrations, "registrations", 1, 1, mostSessions, "sessions with pathd for registrations")
+	add.number(&s.MostSegments, "most-segments", 256, pathd.MostFound, mostSegments, "segments that a lookup is answered with")
+	add.seconds(&s.Deadline, "deadline", 10*time.Second, "the longest that a call may take")
+	add.seconds(&s.Idle, "idle", 300*time.Second, "the longest that a connection may have no call")
+	add.number(&s.Streams, "streams", 256, 1, mostStreams, "calls under way in a connection")
+	add.number(&s.Calls, "calls", 1024, 1, mostCalls, "calls under way in all, of which one peer has a quarter at the most")
+	add.number(&s.Connections, "connections", 1024, 1, mostConnections, "open connections")
+	add.number(&s.PeerConnections, "peer-connections", isLeftOut, 0, mostConnections, "open connections of one peer, a quarter of --connections if left out; 0 is no bound")
+	add.text(&s.Certificate, "cert", "FILE", "a certificate and its chain in PEM, for TLS; without it there is no TLS")
+	add.text(&s.Key, "key", "FILE", "the key of the certificate, in PEM")
+	add.text(&s.ClientCA, "client-ca", "FILE", "authorities in PEM: clients need a certificate of one")
+	add.text(&s.Roles, "roles", "FILE", "which client certificates may look up and register; without it any may")
+	add.text(&s.Log, "log", "text|json", "writes a line for each registration and each refusal; without it none")
+	add.text(&s.Trust, "trust", "FOLDER", "TRCs and chains, by which registrations are verified; without it none is")
+	add.text(&s.TrustServer, "trust-server", "ADDR", "a control service that is asked for chains and TRCs that the folder lacks")
+	add.text(&s.Status, "status", "ADDR", "where GET /metrics is answered with numbers; without it nowhere")
+}
+
 // check answers an error where settings don't fit each other, and sets what others decide.
 func (s *Settings) check() error {
 	if s.PeerConnections == isLeftOut {
@@ -101,6 +108,10 @@ func (s *Settings) check() error {
 		return errors.New("--cert and --key are given together")
 	case s.ClientCA != "" && s.Certificate == "":
 		return errors.New("--client-ca needs --cert")
+	case s.Roles != "" && s.ClientCA == "":
+		return errors.New("--roles needs --client-ca: a client has roles by its certificate")
+	case s.Log != "" && s.Log != "text" && s.Log != "json":
+		return errors.New("--log is text or json")
 	case s.TrustServer != "" && s.Trust == "":
 		return errors.New("--trust-server needs --trust: the folder has the TRCs to begin with")
 	case s.Lookups+s.Registrations > mostSessions:

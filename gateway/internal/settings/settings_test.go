@@ -31,7 +31,7 @@ func TestWrongWords(t *testing.T) {
 		"--deadline 0", "--deadline NaN", "--deadline 3601", "--deadline x", "--lookups 0", "--lookups 61",
 		"--lookups 40 --registrations 40", "--listen 127.0.0.1", "--listen :1", "--listen 127.0.0.1:x",
 		"--listen 127.0.0.1:65536", "--cert a", "--key a", "--client-ca a", "--trust-server 127.0.0.1:1",
-		"--status x", "--peer-connections -1", "--unknown", "word",
+		"--status x", "--roles a", "--roles a --cert a --key a", "--log xml", "--peer-connections -1", "--unknown", "word",
 	} {
 		var out strings.Builder
 		if _, err := Read(strings.Fields(words), &out); err == nil || out.Len() == 0 {
