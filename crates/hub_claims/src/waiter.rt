@@ -13,6 +13,10 @@ pub trait Waiter {
     fn has_left(&mut self) -> bool
         ensures { result ≡ has_left self.new };
 
+    /// Whether the waiter had left when it was asked last. It is not asked for this.
+    fn had_left(&self) -> bool
+        ensures { result ≡ has_left self.now };
+
     /// Notes that there is an answer, so that the next wait is a new one.
     fn note_answer(&mut self);
 }
@@ -27,6 +31,10 @@ impl Waiter for Patient {
     ghost has_left = { λ _. false };
 
     fn has_left(&mut self) -> bool {
+        false
+    }
+
+    fn had_left(&self) -> bool {
         false
     }
 

@@ -172,6 +172,7 @@ impl<D: Device, N: HubName, R: Wait + Clock> Hub<D, N, R> {
 
     /// Waits for the answer as `settle` does, and gives up where who waits for it has left. The
     /// waiter is asked after each rest, of at most 10 milliseconds, after which there is no answer.
+    /// One that had left before is asked before the first rest, too.
     /// Where the wait is given up, the command goes on: it is committed or refused as any other.
     #[tactic(auto, using(crate::proofs::Committed::ends_waiting))]
     pub fn settle_for<W: Waiter>(
@@ -183,18 +184,18 @@ impl<D: Device, N: HubName, R: Wait + Clock> Hub<D, N, R> {
         ensures why { IfErr result (EndsWaiting (N.refused claim) (W.has_left waiter.new)) }
     {
         let condvar = self.changes.waker.condvar(claim.number());
-        let mut has_rested = false;
+        let mut is_asked = waiter.had_left();
         for _ in self.rt.forever() {
             let seen = condvar.notifications();
             if let Some(outcome) = claim.take_answer(&self.rt) {
                 waiter.note_answer();
                 return Ok(outcome?);
             }
-            if has_rested && waiter.has_left() {
+            if is_asked && waiter.has_left() {
                 return Err(HubError::NotAwaited);
             }
             condvar.sleep(&self.rt, seen, Duration::from_millis(LONGEST_REST));
-            has_rested = true;
+            is_asked = true;
         }
         unreachable!()
     }

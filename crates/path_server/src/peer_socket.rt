@@ -109,6 +109,10 @@ impl<K: Clock> Waiter for PeerSocket<'_, K> {
         self.has_left
     }
 
+    fn had_left(&self) -> bool {
+        self.has_left
+    }
+
     fn note_answer(&mut self) {
         self.deadline = None;
     }

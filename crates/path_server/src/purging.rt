@@ -41,6 +41,10 @@ impl<L: Listener + Drop, V: Verifier, O: Reports> Waiter for UntilEnd<'_, '_, L,
         self.has_left
     }
 
+    fn had_left(&self) -> bool {
+        self.has_left
+    }
+
     fn note_answer(&mut self) {}
 }
 

@@ -34,6 +34,10 @@ impl Waiter for Leaves {
         self.has_left
     }
 
+    fn had_left(&self) -> bool {
+        self.has_left
+    }
+
     fn note_answer(&mut self) {
         self.asked = 0;
     }
