@@ -13,8 +13,8 @@ from pathlib import Path
 
 from pathd_client import (
     MOST_ROWS, Ack, Acknowledge, Code, Found, List, Lookup, Page, Purge, Refused, Register, Remove,
-    Request, Retry, Row, SegmentType, Servers, Session, TurnedAway, frame, hops_of, make_segment,
-    parse_path, read_frames, run_session, segment_id,
+    Request, Retry, Row, SegmentType, Servers, Session, SessionError, TurnedAway, frame, hops_of,
+    make_segment, parse_path, read_frames, run_session, segment_id,
 )
 from pathd_client.segments_pb2 import PathSegment
 
@@ -265,14 +265,9 @@ class Once(unittest.TestCase):
         wanted = [Ack(0, 1, 0, 0, 0), Found([row(0)]), Ack(1, 0, 0, 0, 1), Found([])]
         self.assertEqual(replies, wanted)
 
-    def test_pages(self) -> None:
-        rows = rows_of_type(SegmentType.DOWN, 65)
-        requests: list[Request] = [*registrations(rows)]
-        requests += [LIST, LIST.following(rows[63][1]), List(SegmentType.CORE)]
-        replies = run_session([PROGRAM, "once", "--cores", CORES], requests)
-        segments = [segment for _, segment in rows]
-        pages = [Page(LIST.type, segments[:64], True), Page(LIST.type, segments[64:], False)]
-        self.assertEqual(replies[5:], [*pages, Page(SegmentType.CORE, [], False)])
+    def test_no_lists(self) -> None:
+        with self.assertRaisesRegex(SessionError, "status 1 after 1 of 2 replies"):
+            run_session([PROGRAM, "once", "--cores", CORES], [registration(0), LIST])
 
 
 if __name__ == "__main__":
