@@ -198,25 +198,33 @@ func (s *Servers) command(ctx context.Context, kind byte, body []byte) ([]Result
 	}
 	err := s.wait(ctx, func() bool { return s.closed || s.isDecided(d) })
 	results := append([]Result(nil), d.results...)
-	if acknowledged(results) < s.options.Acknowledge.needed(len(results)) {
+	if !s.isEnough(d) {
 		return results, &NotAcknowledged{results, err}
 	}
 	return results, nil
 }
 
-// isDecided answers whether as many servers as it needs have acknowledged a command, or can't any more. The
-// lock is held.
-func (s *Servers) isDecided(d *delivery) bool {
-	waiting, isAwaited := 0, false
+// isEnough answers whether as many servers as it needs have acknowledged a command. The lock is held.
+func (s *Servers) isEnough(d *delivery) bool {
+	by := s.options.Acknowledge
 	for number, it := range d.results {
-		if it.Err == ErrWaiting {
-			waiting++
-			isAwaited = isAwaited || s.senders[number].state.Err == nil
+		if by == Present && it.Err == ErrWaiting && s.senders[number].state.Err == nil {
+			return false
 		}
 	}
-	by := s.options.Acknowledge
-	count, needed := acknowledged(d.results), by.needed(len(d.results))
-	return count >= needed && !(isAwaited && by == Present) || count+waiting < needed
+	return acknowledged(d.results) >= by.needed(len(d.results))
+}
+
+// isDecided answers whether enough servers have acknowledged a command, or can't any more. The lock is
+// held.
+func (s *Servers) isDecided(d *delivery) bool {
+	count := 0 // of those that have acknowledged it, or may
+	for _, it := range d.results {
+		if it.Err == nil || it.Err == ErrWaiting {
+			count++
+		}
+	}
+	return s.isEnough(d) || count < s.options.Acknowledge.needed(len(d.results))
 }
 
 func (s *Servers) put(d *delivery) error {

@@ -112,6 +112,20 @@ func TestServersThatAreNotAway(t *testing.T) {
 	if results, err := servers.Purge(ctx, Moment(2).Time()); err != nil || results[0].Err != nil || results[1].Err != nil {
 		t.Errorf("%v, %v", results, err)
 	}
+	mute := running(t, silent)
+	waiting, ctx := serversOf(t, Options{Acknowledge: Present}, running(t, taken), mute)
+	ended, end := context.WithCancel(ctx)
+	defer end()
+	go func() {
+		mute.waitFor(1)
+		waitUntil(t, func() bool { return waiting.States()[0].Waiting == 0 })
+		end()
+	}()
+	var few *NotAcknowledged
+	results, err := waiting.Purge(ended, Moment(3).Time())
+	if !errors.As(err, &few) || !errors.Is(err, context.Canceled) || results[0].Err != nil || results[1].Err != ErrWaiting {
+		t.Errorf("%v, %v", results, err)
+	}
 	up.stop()
 	away.stop()
 	short, cancel := context.WithTimeout(ctx, 50*time.Millisecond)

@@ -1,8 +1,12 @@
 package pathdb
 
 import (
+	"context"
 	"errors"
 	"testing"
+	"time"
+
+	"pathd"
 )
 
 func TestOpen(t *testing.T) {
@@ -23,5 +27,24 @@ func TestOpen(t *testing.T) {
 		if _, err := Open(wrong); !errors.Is(err, ErrConnection) {
 			t.Errorf("%q: %v", wrong, err)
 		}
+	}
+}
+
+// A write waits for a server that is not away, although the other one has acknowledged it.
+func TestAWriteWaitsForBoth(t *testing.T) {
+	server := newServer(t)
+	db, err := Open("pathd://" + server.Address + "," + silent(t))
+	if err != nil {
+		t.Fatal(err)
+	}
+	t.Cleanup(func() { db.Close() })
+	ctx, cancel := context.WithTimeout(limited(t), time.Second)
+	defer cancel()
+	var few *pathd.NotAcknowledged
+	if _, err := db.Insert(ctx, meta(t, TypeUp, two, now)); !errors.As(err, &few) || !errors.Is(err, context.DeadlineExceeded) {
+		t.Fatal(err)
+	}
+	if few.Results[0].Err != nil || few.Results[1].Err != pathd.ErrWaiting {
+		t.Errorf("%v", few.Results)
 	}
 }
