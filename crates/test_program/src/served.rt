@@ -121,12 +121,12 @@ const PARTS: &[Part] = &[
         what: "lists",
         before: Before::Nothing,
         peers: Peers {
-            sessions: &[REGISTER_2096, LIST],
+            sessions: &[LIST],
             together: 0,
             silent: 0,
         },
         lines: &[(
-            "pathd run other --listen ADDR --cores 1-ff00:0:110 --sessions 2 --idle 60 --lists --quiet",
+            "pathd run other --listen ADDR --cores 1-ff00:0:110 --sessions 1 --idle 60 --lists --quiet",
             &[],
         )],
     },
