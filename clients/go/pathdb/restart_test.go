@@ -91,7 +91,7 @@ func (l *load) wait() []string {
 func (l *load) moves(t *testing.T) {
 	t.Helper()
 	reads, writes := l.reads.Load(), l.writes.Load()
-	waitUntil(t, func() bool { return l.reads.Load() >= reads+50 && l.writes.Load() >= writes+50 })
+	waitUntil(t, func() bool { return l.reads.Load() >= reads+20 && l.writes.Load() >= writes+20 })
 }
 
 func waitUntil(t *testing.T, holds func() bool) {

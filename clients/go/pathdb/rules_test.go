@@ -8,6 +8,7 @@ import (
 	"fmt"
 	"reflect"
 	"sort"
+	"sync"
 	"testing"
 	"time"
 
@@ -273,11 +274,17 @@ func nextTimes(t *testing.T, ctx context.Context, db ReadWrite) {
 
 func pages(t *testing.T, ctx context.Context, db ReadWrite) {
 	var wanted []string
+	var inserted sync.WaitGroup
 	for number := 1; number <= 150; number++ {
-		path := fmt.Sprintf("1-ff00:0:110 %d>1 1-%d", number, number)
-		insert(t, ctx, db, TypeDown, path)
+		path := numbered(number)
 		wanted = append(wanted, "DOWN "+path)
+		inserted.Add(1)
+		go func() { // a server syncs once for many of them
+			defer inserted.Done()
+			insert(t, ctx, db, TypeDown, path)
+		}()
 	}
+	inserted.Wait()
 	finds(t, ctx, db, nil, wanted...)
 	results, err := db.GetAll(ctx)
 	if err != nil {
@@ -295,7 +302,7 @@ func pages(t *testing.T, ctx context.Context, db ReadWrite) {
 		of := read(t, it).ID()
 		begin[of[0]] = append(begin[of[0]], "DOWN "+read(t, it).Path.String())
 	}
-	for first := 0; first < 256; first++ {
+	for first := 0; first < 256; first += 4 {
 		finds(t, ctx, db, &Params{SegTypes: []Type{TypeDown}, SegIDs: [][]byte{{byte(first)}}}, begin[byte(first)]...)
 	}
 }
