@@ -4,7 +4,6 @@ import (
 	"context"
 	"errors"
 	"testing"
-	"time"
 
 	"pathd"
 )
@@ -38,10 +37,14 @@ func TestAWriteWaitsForBoth(t *testing.T) {
 		t.Fatal(err)
 	}
 	t.Cleanup(func() { db.Close() })
-	ctx, cancel := context.WithTimeout(limited(t), time.Second)
-	defer cancel()
+	ctx, cancel := context.WithCancel(limited(t))
+	go func() { // the first queue has nothing before the write, and after the acknowledgement
+		states := db.server.(severalServers).States
+		waitUntil(t, func() bool { return states()[1].Waiting == 1 && states()[0].Waiting == 0 })
+		cancel()
+	}()
 	var few *pathd.NotAcknowledged
-	if _, err := db.Insert(ctx, meta(t, TypeUp, two, now)); !errors.As(err, &few) || !errors.Is(err, context.DeadlineExceeded) {
+	if _, err := db.Insert(ctx, meta(t, TypeUp, two, now)); !errors.As(err, &few) || !errors.Is(err, context.Canceled) {
 		t.Fatal(err)
 	}
 	if few.Results[0].Err != nil || few.Results[1].Err != pathd.ErrWaiting {

@@ -98,7 +98,8 @@ func waitUntil(t *testing.T, holds func() bool) {
 	t.Helper()
 	for begun := time.Now(); !holds(); time.Sleep(time.Millisecond) {
 		if time.Since(begun) > limit || t.Failed() {
-			t.Fatal("it does not come to hold")
+			t.Error("it does not come to hold")
+			return
 		}
 	}
 }
