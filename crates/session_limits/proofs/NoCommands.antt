@@ -26,7 +26,7 @@ module _ {X : Type 0} (old : LimitedView X) (message : MessageView) (reply : Rep
   refused_so moment NoMemory admission replied kept = absurd (takes_some old.commands none admission.0)
   refused_so moment Future admission replied kept = absurd (takes_some old.commands none admission.0)
   refused_so moment NoRoom admission replied kept = absurd (takes_some old.commands none admission.0)
-  refused_so moment (NoCommands fault) admission replied kept = ((fault, admission.1.1.1, replied), kept ∙ ap (after_judging old) admission.1.0)
+  refused_so moment (NoCommands fault) admission replied kept = ((fault, (admission.1.1.1, replied)), kept ∙ ap (after_judging old) admission.1.0)
 
   pub not_taken : (answers : X → MessageView → ReplyView → X → Type 0) → IsSome (command_kind message) → LimitedAnswers answers old message reply new → IsUntaken message reply × (new ≡ old)
   not_taken answers some (inl a) = absurd (false≢true (subst (λ (kind : Option CommandKind). IsSome kind) (a.admission.1 none) some))
