@@ -79,19 +79,15 @@ func TestHealthChecksAreBounded(t *testing.T) {
 func TestWatchesOfUnknownServices(t *testing.T) {
 	t.Setenv("GOGC", "20")
 	at := gateway(t, fake(t, healthy), "--status", "127.0.0.1:0")
-	for round := 0; round < 20; round++ {
+	for round := 0; round < 34; round++ {
 		conn, ctx := dial(t, at.address)
-		for i := 0; i < 50; i++ { // fewer than an address may have, while those before are ended
+		for i := 0; i < 30; i++ { // with those of the round before fewer than an address may have
 			name := fmt.Sprint(round, " ", i, strings.Repeat("x", 100_000))
-			waitUntil(t, "a watch has no room", func() bool {
-				watch, err := health.NewHealthClient(conn).Watch(ctx, &health.HealthCheckRequest{Service: name})
-				pki.Must(t, err)
-				got, err := watch.Recv()
-				if err == nil && got.Status != health.HealthCheckResponse_SERVICE_UNKNOWN {
-					t.Fatal(got)
-				}
-				return err == nil
-			})
+			watch, err := health.NewHealthClient(conn).Watch(ctx, &health.HealthCheckRequest{Service: name})
+			pki.Must(t, err)
+			if got, err := watch.Recv(); err != nil || got.Status != health.HealthCheckResponse_SERVICE_UNKNOWN {
+				t.Fatal(got, err)
+			}
 		}
 		conn.Close()
 	}

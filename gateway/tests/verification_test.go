@@ -235,8 +235,9 @@ func TestAPeerHasABudgetOfKeys(t *testing.T) {
 			count[status.Code(register(ctx, conn, request))]++
 		}
 	}
-	asked, most := service.others.Load(), int64(16+time.Since(begun)/time.Second+1)
-	if asked < 16 || asked > most || count[codes.InvalidArgument] != 2*asked || count[codes.ResourceExhausted] != 120-2*asked {
+	// The first call for a key may come before there is one more, and the second one then.
+	asked, most, answered := service.others.Load(), int64(16+time.Since(begun)/time.Second+1), count[codes.InvalidArgument]
+	if asked < 16 || asked > most || answered < asked || answered > 2*asked || count[codes.ResourceExhausted] != 120-answered {
 		t.Errorf("%d keys are asked for, of at most %d: %v", asked, most, count)
 	}
 	honest, ctx := dial(t, at)
