@@ -85,22 +85,6 @@ const WILDCARDS: Line = ("pathd once --hex --cores 1-ff00:0:110,2-64512", &[
     "000000110208858080808080401086808080808040", // 1-5 to 1-6
 ]);
 
-/// Lists of down segments: between the ASes of the worked segment, to any AS of the ISD 1, to its
-/// first AS, from the ISD 2, after the least id, after the segment's, and of a type that there isn't.
-#[rattlefmt::skip]
-const LISTS: Line = (ONCE, &[
-    REGISTER,
-    "00000012", "0502", "0001ff0000000110", "0001ff0000000111",
-    "00000012", "0502", "0000000000000000", "0001000000000000",
-    "00000012", "0502", "0000000000000000", "0001ff0000000110",
-    "00000012", "0502", "0002000000000000", "0000000000000000",
-    "00000032", "0502", "0000000000000000", "0000000000000000",
-    "0000000000000000000000000000000000000000000000000000000000000000",
-    "00000032", "0502", "0000000000000000", "0000000000000000",
-    "8adcea68dc57cbbe68da7142af88b68a9d27a590e1d5157c53c2bb2c762345ff",
-    "00000012", "0504", "0000000000000000", "0000000000000000",
-]);
-
 /// The parts that this module is about.
 pub(crate) fn parts() -> &'static [Part] {
     PARTS
@@ -113,7 +97,7 @@ const PARTS: &[Part] = &[
         what: "replies to messages",
         before: Before::Nothing,
         peers: NO_PEERS,
-        lines: &[REPLIES, COMMANDS, TIMESTAMPS, WILDCARDS, LISTS],
+        lines: &[REPLIES, COMMANDS, TIMESTAMPS, WILDCARDS],
     },
     Part {
         what: "lookups by the core ASes",
