@@ -7,6 +7,7 @@ use Rattle.std.proofs.Crossing.{crosses, Deque-send}
 use Rattle.std.specs.contracts.sync.Mutex as Mutex
 use Rattle.std.specs.contracts.sync.Arc as Arc
 use Rattle.std.specs.contracts.collections.VecDeque as VecDeque
+use Rattle.std.specs.contracts.option.Option as Option
 use Rattle.std.specs.contracts.vec.Vec as Vec
 use Rattle.std.specs.contracts.alloc.Global as Global
 use Rattle.std.specs.contracts.impls.GlobalAllocator.TheImpl as heap
@@ -145,6 +146,10 @@ module _ (D S N M : RattleType) (d : device.Ghosts D.Denot) (g : show.Ghosts S.D
 readers_sync : (N : RattleType) (b : reader.Ghosts N.Denot) (s : opened.Ghosts N.Denot) (l : named.Ghosts N.Denot) → IsSend N → IsSync N → IsSync (Mutex.the_row (Vec.the_row (HubReader.the_row N b s l) Global.the_row heap.ghosts))
 readers_sync N b s l n m = search (sendable, crosses, reader_send) depth 12
 
+-- the hub's own reader, under a lock
+own_reader_sync : (N : RattleType) (b : reader.Ghosts N.Denot) (s : opened.Ghosts N.Denot) (l : named.Ghosts N.Denot) → IsSend N → IsSync N → IsSync (Mutex.the_row (Option.the_row (HubReader.the_row N b s l)))
+own_reader_sync N b s l n m = search (sendable, crosses, reader_send) depth 20 fits 5000
+
 -- what sessions were shown last, under a lock
 looks_sync : (N : RattleType) (b : reader.Ghosts N.Denot) (s : opened.Ghosts N.Denot) (l : named.Ghosts N.Denot) → IsSend N → IsSync (Mutex.the_row (Looks.the_row N b s l))
 looks_sync N b s l n = search (crosses, looks_send) depth 12
@@ -166,4 +171,4 @@ status_sync = search (sendable, crosses) depth 80 fits 50000
 
 module _ (D N R : RattleType) (b : reader.Ghosts N.Denot) (s : opened.Ghosts N.Denot) (l : named.Ghosts N.Denot) (q : queue.Ghosts N.Denot) (d : device.Ghosts D.Denot) (w : wait.Ghosts R.Denot) (e : IsSend D) (n : IsSend N) (m : IsSync N) (r : IsSend R) (t : IsSync R) where
   pub hub_sync : IsSync (Hub.the_row D N R d b s l q w)
-  hub_sync = recorded_sync _ _ _ (Hub.the_type D N R d b s l q w).to_one (struct_sync (shape (Hub.the_type D N R d b s l q w)) (t, (search (sendable, crosses), (queue_sync N b s l q n, (search (sendable, crosses), (state_sync D N R b s l q d w e n m r, (search (sendable, crosses) depth 20 fits 5000, (status_sync, (search (sendable, crosses), (readers_sync N b s l n m, (collector_sync N l m, (acknowledged_sync N l n, (looks_sync N b s l n, (ended_sync N q n, (senders_sync N q m, tt)))))))))))))))
+  hub_sync = recorded_sync _ _ _ (Hub.the_type D N R d b s l q w).to_one (struct_sync (shape (Hub.the_type D N R d b s l q w)) (t, (search (sendable, crosses), (queue_sync N b s l q n, (search (sendable, crosses), (state_sync D N R b s l q d w e n m r, (search (sendable, crosses) depth 20 fits 5000, (status_sync, (search (sendable, crosses), (readers_sync N b s l n m, (own_reader_sync N b s l n m, (collector_sync N l m, (acknowledged_sync N l n, (looks_sync N b s l n, (ended_sync N q n, (senders_sync N q m, tt))))))))))))))))

@@ -7,13 +7,13 @@ use Rattle.status_server.specs.declared.visit.Visit.{Visit}
 use Rattle.status_server.specs.declared.visit.Stage.TheVariants.{Reading, Sending}
 use Rattle.status_server.specs.VisitSteps.{IsReadOn, IsSentOn, IsWhole}
 
--- Nothing was read yet. The visit has 250 milliseconds until the first byte, and a second in all.
+-- Nothing was read yet. The visit has two seconds until the first byte, and three in all.
 pub record IsNew (visit : Visit) : Type 0 where
   pub stage : visit.stage ≡ Reading
   pub head : visit.head.items ≡ []
   pub rest : visit.rest.items ≡ []
-  pub silence : as_nanos visit.silence.time ≡ 250_000_000
-  pub deadline : as_nanos visit.deadline.time ≡ 1_000_000_000
+  pub silence : as_nanos visit.silence.time ≡ 2_000_000_000
+  pub deadline : as_nanos visit.deadline.time ≡ 3_000_000_000
 
 -- The last of some visits, as many as there may be.
 abbrev pub newest : ℕ → List Visit → List Visit
