@@ -3,7 +3,7 @@
 ghost use Rattle.std.specs.Prelude.{◌≡◌, ◌≤◌, length};
 
 use std::alloc::Global;
-use std::cell::RefCell;
+use std::cell::{Cell, RefCell};
 use std::io::Read;
 use std::net::TcpStream;
 
@@ -21,6 +21,8 @@ const PIECE: usize = 16_384;
 #[derive(Drop)]
 pub struct ReadAhead {
     bytes: RefCell<Vec<u8>>,
+    /// Whether reads of the session give nothing more.
+    is_over: Cell<bool>,
 }
 
 /// What came of one read ahead.
@@ -41,7 +43,19 @@ impl ReadAhead {
     pub fn new(alloc: Global) -> ReadAhead {
         ReadAhead {
             bytes: RefCell::new(Vec::new(alloc)),
+            is_over: Cell::new(false),
         }
+    }
+
+    /// Has reads of the session find the end of the input from now on: its peer has left, and is
+    /// answered no further message.
+    pub fn end(&self) {
+        self.is_over.set(true);
+    }
+
+    /// Whether reads of the session find the end of the input.
+    pub(crate) fn is_over(&self) -> bool {
+        self.is_over.get()
     }
 
     /// Reads once, and keeps what was read. The read waits for its first byte, so a caller asks

@@ -57,9 +57,13 @@ impl StreamCalls for SystemStream<'_> {
 
     fn read_once(&mut self, into: &mut [u8]) -> io::Result<usize> {
         let mut stream = self.stream;
-        let read = match self.ahead.take(into) {
-            0 => stream.read(into),
-            len => Ok(len),
+        let read = if self.ahead.is_over() {
+            Ok(0)
+        } else {
+            match self.ahead.take(into) {
+                0 => stream.read(into),
+                len => Ok(len),
+            }
         };
         self.given = bytes_after(&self.given, &read, into);
         read

@@ -106,6 +106,9 @@ impl<K: Clock> Waiter for PeerSocket<'_, K> {
 
     fn has_left(&mut self) -> bool {
         self.has_left = self.looks_gone();
+        if self.has_left {
+            self.ahead.end();
+        }
         self.has_left
     }
 
