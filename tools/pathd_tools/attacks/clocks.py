@@ -2,7 +2,8 @@
 
     tools/pathd-tools clocks [--program PROGRAM] [--rows N] [--seconds N]
 
-A server that purges each second has rows that expire within some hours. A preloaded library
+A server that purges each second has rows that expire within some hours, and has purged once, so
+that it trusts its clock. A preloaded library
 (tools/native/set_clock.c) sets its clock ahead by ten hours, by 30 days and by 50 years, and back by
 50 years, for some seconds each, and then back to the time. Meanwhile its purges have to rest, and
 after that they have to go on. The server is killed (-9), and started again with a clock that is 30
@@ -54,10 +55,10 @@ def numbers(server: runs.Server) -> dict[str, float]:
         return {name: float(value) for name, value in re.findall(r"^(\w+) (\S+)$", page.read().decode(), re.M)}
 
 
-def is_soon(server: runs.Server, name: str, value: float, seconds: float) -> bool:
-    """Whether a number has a value within so many seconds."""
+def is_soon(server: runs.Server, name: str, least: float, most: float, seconds: float) -> bool:
+    """Whether a number lies between two within so many seconds."""
     until = time.monotonic() + seconds
-    while numbers(server)[name] != value:
+    while not least <= numbers(server)[name] <= most:
         if time.monotonic() > until:
             return False
         time.sleep(0.05)
@@ -79,10 +80,10 @@ def register(server: runs.Server, count: int) -> None:
 def jumped(server: runs.Server, clock: Clock, ahead: int, seconds: float) -> list[str]:
     """What is wrong while the clock is set for a while, and after it."""
     clock.set(ahead)
-    rests = is_soon(server, "pathd_purges_resting", 1, seconds)
+    rests = is_soon(server, "pathd_purges_resting", 1, 1, seconds)
     time.sleep(WRONG)
     clock.set(0)
-    goes_on = is_soon(server, "pathd_purges_resting", 0, seconds)
+    goes_on = is_soon(server, "pathd_purges_resting", 0, 0, seconds)
     faults = [] if rests else [f"ahead by {ahead} s: purges do not rest"]
     return faults if goes_on else [*faults, f"after {ahead} s: purges do not go on"]
 
@@ -101,6 +102,9 @@ def main(words: list[str]) -> int:
         runs.format_store(program, store, LAYOUT)
         with runs.Server(program, store, WORDS, clock.env()) as server:
             register(server, options.rows)
+            commands = numbers(server)["pathd_commands_total"]
+            if not is_soon(server, "pathd_commands_total", commands + 1, float("inf"), options.seconds):
+                raise SystemExit("the server does not purge by itself")
             for ahead in JUMPS:
                 faults += jumped(server, clock, ahead, options.seconds)
             kept = numbers(server)["pathd_rows"]
