@@ -6,7 +6,6 @@ use Rattle.cli_commands.specs.Options.{IsNumberOf}
 use Rattle.cli_words.specs.declared.command_line.CommandLine.{CommandLine}
 use Rattle.cli_words.specs.declared.command_line.Subcommand.{Subcommand}
 use Rattle.cli_words.specs.declared.command_line.Subcommand.TheVariants.{Run}
-use Rattle.cli_lines.specs.Failures.{is_lasting}
 use Rattle.path_server.specs.declared.error.RunError.{RunError}
 use Rattle.path_server.specs.declared.error.RunError.TheVariants as server
 use Rattle.cli_lines.specs.declared.failure.Failure.{Failure}
@@ -17,10 +16,10 @@ abbrev pub failure_of : RunError → Failure
 failure_of server.NoMemory = failure.ServerMemory
 failure_of server.Net = failure.BrokenListener
 
--- The server that the words ask for would fail so again.
-abbrev pub is_final : Subcommand → Failure → Bool
-is_final Run failure = is_lasting failure
-is_final _ failure = false
+-- The words ask for a server, and a server would fail so again.
+abbrev pub is_final : Subcommand → Bool → Bool
+is_final Run is_lasting = is_lasting
+is_final _ is_lasting = false
 
 -- The status is that of the words, which is 1 unless they name one, where the failure is final, and
 -- else 1.
@@ -28,6 +27,6 @@ abbrev pub IsStatusWhere : Bool → Found → ℕ → Type 0
 IsStatusWhere true found status = IsNumberOf found (codes "final-status") 8 1 status
 IsStatusWhere false found status = status ≡ 1
 
--- The status of the program by a failure of the words.
-abbrev pub IsStatusOf : CommandLine → Failure → ℕ → Type 0
-IsStatusOf line failure status = IsStatusWhere (is_final line.subcommand failure) (found_of line.options) status
+-- The status of the program by a failure of the words, which a server meets again or does not.
+abbrev pub IsStatusOf : CommandLine → Bool → ℕ → Type 0
+IsStatusOf line is_lasting status = IsStatusWhere (is_final line.subcommand is_lasting) (found_of line.options) status

@@ -3,7 +3,6 @@
 ghost use Rattle.std.specs.Prelude.{◌≡◌, codes};
 ghost use Rattle.clap.specs.Words.{found_of};
 ghost use Rattle.cli_commands.specs.Options.{IsNumberOf};
-ghost use Rattle.cli_lines.specs.Failures.{ended_by};
 ghost use Rattle.cli_program.specs.Failures.{IsStatusOf};
 
 use crate::output::Output;
@@ -14,7 +13,7 @@ use clap::{ArgMatches, Error};
 use cli_commands::{
     answer, ask_server, copy_file, format_file, more_of, show_file, status_of_file, upgrade_file,
 };
-use cli_lines::{Done, Failed, Failure, Priority, status_of};
+use cli_lines::{Done, Ended, Failed, Failure, Priority, status_of};
 use cli_words::{CommandLine, FINAL_STATUS, LOG_PRIORITY, Subcommand, read};
 use std::io::{IsTerminal, Read, Write};
 use std::{env, io};
@@ -59,22 +58,22 @@ pub fn run<R: System, I: Read + IsTerminal + Drop + Send + 'static, O: Write + I
     match outcome {
         Ok(()) => Ok(Done::Carried),
         Err(failure) => {
-            let failed = failed_by(&line, &failure);
+            let failed = failed_by(&line, failure.ended(), failure.is_lasting());
             explain(rt, &failure, &output, failed.is_marked);
             Err(failed)
         }
     }
 }
 
-/// How the program ends by a failure of these words.
-fn failed_by(line: &CommandLine<'_>, failure: &Failure<'_>) -> Failed
-    ensures ended { result.ended ≡ ended_by failure.now }
-    ensures status { IsStatusOf line.now failure.now result.status }
+/// How the program ends by a failure of these words, which a server meets again or does not.
+fn failed_by(line: &CommandLine<'_>, ended: Ended, is_lasting: bool) -> Failed
+    ensures ended { result.ended ≡ ended }
+    ensures status { IsStatusOf line.now is_lasting result.status }
 {
     let is_server = line.subcommand == Subcommand::Run;
-    let is_final = is_server && failure.is_lasting();
+    let is_final = is_server && is_lasting;
     Failed {
-        ended: failure.ended(),
+        ended,
         status: if is_final {
             final_status(&line.options)
         } else {
