@@ -1,5 +1,5 @@
-"""Tries the wrong bodies of crates over the proofs that are kept, prints the goal that refuses
-each, and writes the page of them all.
+"""Tries the wrong bodies of crates over the proofs that `rt ci` kept, prints the goal that refuses
+each, and writes the page of them all. A crate and those below it have to be proved as they are now.
 
 An edit is refused well where the prover refuses a clause of a contract, an invariant, or a check of
 the body (an index, an overflow, a loop that has to end) in a function of a file that the edit
@@ -27,7 +27,6 @@ import resource
 import shutil
 import subprocess
 import sys
-import tempfile
 import textwrap
 import time
 from dataclasses import dataclass, field
@@ -203,47 +202,141 @@ def load_rt():
     made = importlib.util.module_from_spec(importlib.util.spec_from_loader(loader.name, loader))
     sys.modules[loader.name] = made
     loader.exec_module(made)
+    os.chdir(TOP)
+    made.rtlib.guarded()
+    made.Crate.allowed = made.handles_of(str(TOP))
+    made.rtlib.Crate = made.Crate
     return made
 
 
+@dataclass
+class Batch:
+    """Edits of one crate that are tried by one check, as no two of them change one function: the texts
+    with all of them, and the functions that are checked. All are, where the functions aren't known."""
+
+    edits: list[tuple[Edit, set[str]]]
+    texts: dict[str, str]
+    functions: set[str]
+
+    def takes(self, crate, edit: Edit, functions: set[str]) -> bool:
+        """Whether the edit is in the batch now: it changes other functions, and each of its lines occurs once."""
+        if not self.functions or not functions or self.functions & functions:
+            return False
+        texts = dict(self.texts)
+        for path, old, new in pairs_of(edit):
+            text = texts.get(path) or (Path(crate.folder) / path).read_text()
+            if text.count(old) != 1:
+                return False
+            texts[path] = text.replace(old, new)
+        self.edits.append((edit, functions))
+        self.texts, self.functions = texts, self.functions | functions
+        return True
+
+
+def pairs_of(edit: Edit) -> list[tuple[str, str, str]]:
+    """The files, the old lines and the new ones of an edit."""
+    found, path, old = [], "", ""
+    for line in edit.path.read_text().split("\n"):
+        if line.startswith("file: "):
+            path = line.removeprefix("file: ").strip()
+        elif line.startswith("old: "):
+            old = line.removeprefix("old: ")
+        elif line.startswith("new:"):
+            found.append((path, old, line.removeprefix("new:").removeprefix(" ")))
+    return found
+
+
+def provide(rt, crate) -> set[str]:
+    """Lays out the libraries below a crate, and the crate's own, as `rt ci` kept them, and returns the names of
+    the crate's functions."""
+    kept = rt.Kept(rt.rtlib.crates_below(str(TOP)))
+    for it in [*crate.below(), crate]:
+        # A second name can't be given to a file that has it, and `rt` drops what it can't give.
+        shutil.rmtree(os.path.dirname(it.rlib), ignore_errors=True)
+        if not kept.give(it, False, kept.key(it)):
+            sys.exit(f"{it.name} is not proved as it is now: run rt ci {it.name}")
+        kept.is_built(it)
+    text = Path(f"{crate.rlib}/toolchain/mir.json").read_text()
+    return {it.partition("::")[2] for it in re.findall(rf'"({crate.name}::[^"]+)"', text)}
+
+
+def functions_of(crate, edit: Edit, names: set[str]) -> set[str]:
+    """The functions whose code an edit changes, and the one of its clause; the empty set where they aren't known."""
+    found = {it for it in names if it.split("::")[-1] == edit.function} if edit.function else set()
+    for path, old, _ in pairs_of(edit):
+        if not path.startswith("src/"):
+            continue
+        text = (Path(crate.folder) / path).read_text()
+        own = re.findall(r"^(?! *//).*\bfn (\w+)", text[: text.find(old)] + old, re.M)
+        module = path.removeprefix("src/").removesuffix(".rt").replace("/", "::").removesuffix("::mod")
+        within = [] if re.search(r"\b(const|static) ", old) or not own else [
+            it for it in names if (module == "lib" or it.startswith(f"{module}::")) and (it.split("::")[-1] == own[-1] or f"fn::{own[-1]}::" in it)
+        ]
+        if not within:
+            return set()
+        found |= set(within)
+    return found
+
+
 def try_edits(rt, edits: list[Edit]) -> bool:
-    """Tries edits of one crate, one after the other, over a copy of what its checks kept; prints each,
-    and returns whether all are refused well."""
-    os.chdir(TOP)
-    rt.rtlib.guarded()
-    rt.Crate.allowed = rt.handles_of(str(TOP))
-    rt.rtlib.Crate = rt.Crate
+    """Tries edits of one crate over the libraries that `rt ci` kept; prints each, and returns whether all
+    are refused well. One check tries several edits, each in functions of its own. What it does not show
+    of an edit is tried again by a check of that edit alone."""
     crate = next(it for it in rt.rtlib.crates_below(str(TOP)) if it.name == edits[0].crate)
-    if any(it.build_rlib(["--jobs", "1"], anew=False) for it in crate.below()):
-        sys.exit(f"a crate below {crate.name} is not proved")
+    names = provide(rt, crate)
+    batches: list[Batch] = []
     is_well = True
-    with tempfile.TemporaryDirectory(prefix="pathd-edits-") as room:
-        kept = f"{room}/kept"
-        own = f"{crate.folder}/out/incremental"
-        shutil.copytree(own, kept) if os.path.isdir(own) else os.mkdir(kept)
-        for edit in edits:
-            ran = tried(rt, crate, edit, kept)
-            store(edit, ran)
-            is_well &= show(edit, judge(edit, ran), ran)
+    for edit in edits:
+        texts, why = rt.read_edit(str(edit.path), crate.folder)
+        functions = functions_of(crate, edit, names)
+        if why:
+            is_well &= done(edit, {"unread": why})
+        elif not any(it.takes(crate, edit, functions) for it in batches):
+            batches.append(Batch([(edit, functions)], texts, functions))
+    for batch in batches:
+        ran = run(rt, crate, batch.texts, batch.functions)
+        for edit, functions in batch.edits:
+            its = part_of(ran, functions) if len(batch.edits) > 1 else ran
+            if len(batch.edits) > 1 and not judge(edit, its).is_well:
+                its = run(rt, crate, rt.read_edit(str(edit.path), crate.folder)[0], functions)
+            is_well &= done(edit, tried_again(rt, crate, edit, functions, its))
     return is_well
 
 
-def tried(rt, crate, edit: Edit, kept: str) -> dict:
-    """One try. Where answers don't fit their goals, the edit is tried once more without these answers,
-    so that the prover's own search judges the goals."""
-    texts, why = rt.read_edit(str(edit.path), crate.folder)
-    before = resource.getrusage(resource.RUSAGE_CHILDREN)
-    ran = {"unread": why} if why else run(rt, crate, texts, kept)
-    misfits = [] if why else [it for it in refusals(ran["output"]) if it.kind in ("answer", "gone")]
+def part_of(ran: dict, functions: set[str]) -> dict:
+    """What a check of a batch said of some functions: the lines of their answers, and those before each function's own line."""
+    kept, waiting = [], []
+    for line in ran["output"].splitlines():
+        if answer := ANSWER.match(line):
+            kept += [line] if answer[1].replace("/", "::") in functions else []
+            continue
+        waiting.append(line)
+        if named := re.match(r"fn \w+::(\S+): ", line):
+            kept += waiting if named[1] in functions else []
+            waiting = []
+    refused = any(re.match(r"fn \S+: (no proof|not proved)", it) for it in kept)
+    return {**ran, "status": int(refused), "output": "\n".join(kept)}
+
+
+def tried_again(rt, crate, edit: Edit, functions: set[str], ran: dict) -> dict:
+    """What came of an edit. Where answers don't fit their goals, it is tried once more without these answers,
+    so that the prover's own search judges the goals. The right body in its form is tried, too."""
+    misfits = [] if ran["unread"] else [it for it in refusals(ran["output"]) if it.kind in ("answer", "gone")]
     if misfits and not judge(edit, ran).is_well:
+        texts = rt.read_edit(str(edit.path), crate.folder)[0]
         first = ran["output"]
-        ran = run(rt, crate, without_answers(crate, texts, misfits), kept, texts)
+        ran = run(rt, crate, without_answers(crate, texts, misfits), functions, texts)
         ran["first"] = first
-    if not why and (right := right_form(edit)):
-        ran["is_right_proved"] = run(rt, crate, rt.edited(right, crate.folder)[0], kept)["status"] == 0
-    after = resource.getrusage(resource.RUSAGE_CHILDREN)
-    seconds = after.ru_utime + after.ru_stime - before.ru_utime - before.ru_stime
-    return {**ran, "seconds": round(seconds, 1), "sum": edit.sum, "commit": commit(), "date": time.strftime("%Y-%m-%d")}
+    if right := right_form(edit):
+        ran["is_right_proved"] = run(rt, crate, rt.edited(right, crate.folder)[0], functions)["status"] == 0
+    return ran
+
+
+def done(edit: Edit, ran: dict) -> bool:
+    """Keeps what came of an edit, prints it, and returns whether the edit is refused well."""
+    ran = {**ran, "sum": edit.sum, "commit": commit(), "date": time.strftime("%Y-%m-%d")}
+    store(edit, ran)
+    return show(edit, judge(edit, ran), ran)
 
 
 def right_form(edit: Edit) -> str:
@@ -252,11 +345,16 @@ def right_form(edit: Edit) -> str:
     return text if count else ""
 
 
-def run(rt, crate, texts: dict, kept: str, changed: dict | None = None) -> dict:
-    """What the prover says of the crate with these texts; `changed` are those of the edit alone, where `texts` has more."""
-    done = rt.checked(crate, texts, ["--jobs", "1"], kept)
+def run(rt, crate, texts: dict, functions: set[str], changed: dict | None = None) -> dict:
+    """What the prover says of these functions of the crate, with these texts, and the processor's seconds;
+    `changed` are the texts of the edit alone, where `texts` has more."""
+    only = [word for it in sorted(functions) for word in ("--only", it)]
+    before = resource.getrusage(resource.RUSAGE_CHILDREN)
+    done = rt.checked(crate, texts, ["--jobs", "1", *only], None)
+    after = resource.getrusage(resource.RUSAGE_CHILDREN)
     unread = next((it for it in done.stdout.splitlines() if rt.unread(it, changed or texts)), "")
-    return {"status": done.returncode, "output": done.stdout, "unread": unread}
+    seconds = after.ru_utime + after.ru_stime - before.ru_utime - before.ru_stime
+    return {"status": done.returncode, "output": done.stdout, "unread": unread, "seconds": round(seconds, 1)}
 
 
 def without_answers(crate, texts: dict, misfits: list[Refusal]) -> dict:
