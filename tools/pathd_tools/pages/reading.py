@@ -2,8 +2,8 @@
 cite in turn.
 
     tools/pathd-tools reading                        a table, one line for each promise of docs/PROOFS.md
-    tools/pathd-tools reading --check                whether docs/PROOFS.md has this table, and docs/THEOREM.md the statement
-                                                     and its reading list; --write puts them there
+    tools/pathd-tools reading --check                whether docs/PROOFS.md has this table, and docs/THEOREM.md the
+                                                     statements; --write puts them there
     tools/pathd-tools reading CONTRACT ..            the definitions of these contracts, with file and line, each after those
                                                      that it cites; --imports: which files to split so that imports reach less;
                                                      --together: the definitions of all these contracts as one list
@@ -185,10 +185,10 @@ def count(starts: list[tuple[Path, str]]) -> list[int]:
 
 
 def table() -> str:
-    rows = ["| promise, and contract | definitions | lines | types of the code | lines | files by imports | lines |", "|---|---|---|---|---|---|---|"]
+    rows = ["| promise, and contract | definitions | lines | types of the code | lines |", "|---|---|---|---|---|"]
     for name, specs in PROMISES:
         starts = [it for spec in specs for it in clause_texts(spec)]
-        rows.append(f"| {name} | " + " | ".join(f"{it:,}" for it in count(starts)) + " |")
+        rows.append(f"| {name} | " + " | ".join(f"{it:,}" for it in count(starts)[:4]) + " |")
     return "\n".join(rows)
 
 
@@ -209,31 +209,6 @@ def quoted(specs: list[str], path: Path) -> str:
     said = [line for name, texts in clauses.items() for line in [name, *texts]]
     words = [it.text for it in source.definitions(path).values()]
     return "\n".join(["```", *said, "```", "", "```", "\n\n".join(words), "```"])
-
-
-def reading_list() -> str:
-    """The definitions of the theorem, file by file: the file of the first definition that can be read comes first."""
-    survival = in_reading_order([it for spec in SURVIVAL for it in starts_of(spec)])
-    known = {key(it) for it in survival}
-    lookups = [it for it in in_reading_order([it for spec in LOOKUPS for it in starts_of(spec)]) if key(it) not in known]
-    known |= {key(it) for it in lookups}
-    served = [it for it in in_reading_order([it for spec in SERVED for it in starts_of(spec)]) if key(it) not in known]
-    rows: list[tuple[int, str, str]] = []
-    for name, those in [("what survives", survival), ("lookups too", lookups), ("a server too", served)]:
-        for path, words in by_file(those):
-            names = "all that is quoted above" if path in (QUOTED, QUOTED_OF_SERVER) else " ".join(it.name for it in words)
-            rows.append((sum(it.lines for it in words), str(path.relative_to(TOP / "crates")), names))
-        rows.append((sum(it.lines for it in those), f"lines of {len(those)} definitions: {name}", ""))
-    wide = max(len(path) for _, path, _ in rows)
-    return "\n".join(["```", *(f"{lines:4}  {path:{wide}}  {names}".rstrip() for lines, path, names in rows), "```"])
-
-
-def by_file(those: list[Definition]) -> list[tuple[Path, list[Definition]]]:
-    """Definitions by their files, each file where the first of its definitions is."""
-    found: dict[Path, list[Definition]] = {}
-    for it in those:
-        found.setdefault(it.path, []).append(it)
-    return list(found.items())
 
 
 def starts_of(name: str) -> list[tuple[Path, str]]:
@@ -310,7 +285,7 @@ def main(words: list[str]) -> int:
     if chosen.contracts:
         show(chosen.contracts, chosen.imports, chosen.together)
         return 0
-    blocks = [(PROOFS, "", table), (THEOREM, ": statement", statement), (THEOREM, ": server", statement_of_server), (THEOREM, ": list", reading_list)]
+    blocks = [(PROOFS, "", table), (THEOREM, ": statement", statement), (THEOREM, ": server", statement_of_server)]
     if not (chosen.write or chosen.check):
         print(table())
         return 0
