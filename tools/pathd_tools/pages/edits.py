@@ -27,7 +27,6 @@ import resource
 import shutil
 import subprocess
 import sys
-import textwrap
 import time
 from dataclasses import dataclass, field
 from pathlib import Path
@@ -334,7 +333,7 @@ def tried_again(rt, crate, edit: Edit, functions: set[str], ran: dict) -> dict:
 
 def done(edit: Edit, ran: dict) -> bool:
     """Keeps what came of an edit, prints it, and returns whether the edit is refused well."""
-    ran = {**ran, "sum": edit.sum, "commit": commit(), "date": time.strftime("%Y-%m-%d")}
+    ran = {**ran, "sum": edit.sum, "date": time.strftime("%Y-%m-%d")}
     store(edit, ran)
     return show(edit, judge(edit, ran), ran)
 
@@ -377,10 +376,6 @@ def without(text: str, goal: str) -> str:
     return left
 
 
-def commit() -> str:
-    return subprocess.run(["git", "rev-parse", "--short", "HEAD"], cwd=TOP, capture_output=True, text=True, check=True).stdout.strip()
-
-
 def kept_at(edit: Edit) -> Path:
     return CRATES / edit.crate / "out" / "edits" / f"{edit.path.stem}.json"
 
@@ -399,23 +394,26 @@ def show(edit: Edit, verdict: Verdict, ran: dict) -> bool:
 # ---- the page
 
 
-def rows_before() -> dict[tuple[str, str], list[str]]:
-    """The lines of the page as it is, by crate and edit: the edit, what refused it, and the commit."""
+def rows_before() -> dict[tuple[str, str], str]:
+    """What refused each edit of the page as it is, by crate and edit."""
     found, crate = {}, ""
     for line in PAGE.read_text().splitlines() if PAGE.is_file() else []:
         if head := re.match(r"\*\*`(\w+)`\*\*", line):
             crate = head[1]
         elif re.match(r"[a-z_0-9]+(  |$)", line):
-            cells = re.split(r" {2,}", line.rstrip())
-            found[crate, cells[0]] = [*cells, "", ""][:3]
+            name, _, by = line.partition(" ")
+            found[crate, name] = by.strip()
     return found
+
+
+def git(*words: str) -> subprocess.CompletedProcess:
+    return subprocess.run(["git", *words], cwd=TOP, capture_output=True, text=True)
 
 
 def is_unchanged(edit: Edit, since: str) -> bool:
     """Whether the edit is what it was at a commit, in the gate or beside it, but for the words of its row."""
     for folder in KINDS:
-        path = f"{since}:crates/{edit.crate}/{folder}/{edit.path.name}"
-        known = subprocess.run(["git", "show", path], cwd=TOP, capture_output=True, text=True)
+        known = git("show", f"{since}:crates/{edit.crate}/{folder}/{edit.path.name}")
         if known.returncode == 0 and without_phrase(known.stdout) == without_phrase(edit.path.read_text()):
             return True
     return False
@@ -425,17 +423,19 @@ def without_phrase(text: str) -> str:
     return re.sub(r"^body: .*\n", "", text, flags=re.M)
 
 
-def row(edit: Edit, before: dict) -> list[str]:
-    """The line of an edit: by its last try, or as the page has it where the edit is unchanged since then."""
+def last_try(edit: Edit) -> dict:
+    """The last try of an edit as it is now; nothing where it has none."""
+    ran = json.loads(kept_at(edit).read_text()) if kept_at(edit).is_file() else {}
+    return ran if ran.get("sum") == edit.sum else {}
+
+
+def row(edit: Edit, before: dict, since: str) -> list[str]:
+    """The line of an edit: by its last try, or as the page has it where the edit is unchanged since the commit that wrote the page."""
     name = edit.path.stem
-    if kept_at(edit).is_file():
-        ran = json.loads(kept_at(edit).read_text())
-        if ran["sum"] == edit.sum:
-            verdict = judge(edit, ran)
-            tried_at = ran["commit"] if is_unchanged(edit, ran["commit"]) else commit()
-            return [name, short(verdict.by) if verdict.is_well else NOT_REFUSED, tried_at]
-    old = before.get((edit.crate, name))
-    return old if old and old[2] and is_unchanged(edit, old[2]) else [name, "", ""]
+    if ran := last_try(edit):
+        verdict = judge(edit, ran)
+        return [name, short(verdict.by) if verdict.is_well else NOT_REFUSED]
+    return [name, before.get((edit.crate, name), "") if is_unchanged(edit, since) else ""]
 
 
 def short(by: str) -> str:
@@ -443,35 +443,32 @@ def short(by: str) -> str:
     return re.sub(r"^(?:[a-z_0-9]+::)+(?=\w)", "", by)
 
 
-def dates(rows: list[list[str]]) -> str:
-    """A sentence with the days of the commits of rows."""
-    named = sorted({it[2] for it in rows if it[2]})
-    shown = ["git", "show", "--no-patch", "--format=%h %cd", "--date=format:%-d %B %Y", *named]
-    days: dict[str, list[str]] = {}
-    for line in subprocess.run(shown, cwd=TOP, capture_output=True, text=True, check=True).stdout.splitlines() if named else []:
-        at, _, day = line.partition(" ")
-        days.setdefault(day, []).append(at)
-    said = "; ".join(f"of {day}: {', '.join(commits)}" for day, commits in days.items())
-    return textwrap.fill(f"Commits {said}.", 100) + "\n"
+def when(edits: list[Edit]) -> str:
+    """The line with the days on which all edits were tried as they are; that of the page where some were not."""
+    days = sorted(last_try(it).get("date", "") for it in edits)
+    if days and days[0]:
+        return f"All were tried from {days[0]} to {days[-1]}.\n"
+    known = re.search(r"^.* were tried from .*\n", PAGE.read_text(), re.M)
+    return known[0] if known else ""
 
 
 def table(found: dict[str, list[list[str]]]) -> str:
     """The lines of edits, by crate, in columns."""
     text = ""
     for crate, rows in found.items():
-        wide = [max(len(it[at]) for it in rows) for at in range(2)]
-        lines = [f"{name:{wide[0]}}  {by:{wide[1]}}  {at}".rstrip() for name, by, at in rows]
+        wide = max(len(name) for name, _ in rows)
+        lines = [f"{name:{wide}}  {by}".rstrip() for name, by in rows]
         text += f"\n**`{crate}`**\n\n```\n" + "".join(it + "\n" for it in lines) + "```\n"
     return text
 
 
 def write() -> int:
-    before = rows_before()
+    edits, before = edits_of([]), rows_before()
+    since = git("log", "-1", "--format=%H", "--", str(PAGE)).stdout.strip()
     rows = {kind: {} for kind in KINDS.values()}
-    for it in edits_of([]):
-        rows[it.kind].setdefault(it.crate, []).append(row(it, before))
-    every = [it for found in rows.values() for of_crate in found.values() for it in of_crate]
-    PAGE.write_text(HEAD + "\n" + dates(every) + GATE + table(rows["gate"]) + BESIDE + table(rows["beside"]))
+    for it in edits:
+        rows[it.kind].setdefault(it.crate, []).append(row(it, before, since))
+    PAGE.write_text(HEAD + "\n" + when(edits) + GATE + table(rows["gate"]) + BESIDE + table(rows["beside"]))
     return 0
 
 
@@ -480,9 +477,9 @@ HEAD = """# Wrong bodies, and the clauses that refuse them
 <!-- written by tools/pathd-tools edits --write -->
 
 Each line is an edit: a wrong body of one function, for what it does. Then come the function and the
-clause whose goal the prover refuses; a function alone has one clause without a name. The last
-column is the commit at which the edit was tried last. A line without both is of an edit that was
-not tried as it is now. The line `body:` of an edit's file says what it does in a phrase.
+clause whose goal the prover refuses; a function alone has one clause without a name. A line without
+them is of an edit that was not tried as it is now. The line `body:` of an edit's file says what it
+does in a phrase.
 """
 
 GATE = """
