@@ -103,7 +103,11 @@ impl Wanted {
         ensures { segments_there (result ∷ [])
             ≡ segments_of (filter (is_wanted self.now) (rows_in (option_to_list (option_map (λ q. q.now) index_row.entry)))) }
     {
-        let (kind, segment) = index_row?.row()?;
+        let index_row = index_row?;
+        if index_row.expires_by(self.moment) {
+            return None;
+        }
+        let (kind, segment) = index_row.row()?;
         if self.asks_for(kind, segment) {
             return Some(segment);
         }

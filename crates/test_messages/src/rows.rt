@@ -5,6 +5,7 @@ mod after;
 mod commands;
 mod counts;
 mod drops;
+mod expired;
 mod memory;
 mod one_key;
 mod puts;
