@@ -1,17 +1,21 @@
--- A row whose key is above all others: for `index_of`.
+-- A row whose key is above all others, and an index of index rows: for `index_of`.
 use Rattle.std.proofs.Common.{◌≡◌, ◌⊎◌, inl, inr, ℕ, Bool, true, false, ◌||◌, List, [], ◌∷◌, ◌++◌, if◌then◌else◌, Option, Some, None, refl, sym, ap, ◌∙◌, subst}
 use Rattle.std.specs.List.{AllByRecursion}
+use Rattle.std.specs.List.Sorted.{IsPermutation}
 use Rattle.std.specs.Ordering.{is_eq}
 use Rattle.std.specs.declared.cmp.Ordering.TheVariants.{Less}
 use Rattle.std.proofs.lemmas.Bool.{false≢true}
 use Rattle.std.proofs.lemmas.List.{append_assoc}
+use Rattle.std.proofs.lemmas.List.Elements.{All-from_recursion, recursion_from_All}
+use Rattle.std.proofs.lemmas.List.Folds.{list_any-append}
+use Rattle.std.proofs.lemmas.List.Sorted.{All-permutation, IsPermutation-sym, IsPermutation-trans, IsPermutation-middle, IsPermutation-to_front, list_any-IsPermutation}
 use Rattle.end_index.specs.IndexKey.{IndexKey, is_same, has, AreKnown}
 use Rattle.row_map.specs.Database.{RowView, key_of, key_order, IsRising, is_under, row_under}
 use Rattle.row_map.specs.RowMap.{indexed_key}
 use Rattle.row_map.specs.EndKeys.{is_of, is_index_key, ends_at, stands, row_of_key, IsEndIndex, IsCurrent, IsRowOf, IsRowIndex}
 use Rattle.row_map.proofs.Order.{AllAbove, turned_less}
 use Rattle.row_map.proofs.Keys.{its_key, under_first}
-use Rattle.row_map.proofs.Purged.{append_none}
+use Rattle.row_map.proofs.Purged.{append_none, last_good}
 use Rattle.row_map.proofs.IndexKeys.{EndOf, first_from, both_ways, same_if, same_from, one_index_key, index_key_same, all_of_keys}
 
 -- ---- the first ones of rows
@@ -57,12 +61,19 @@ same_key end p q row its = both_ways (is_same q p) (is_index_key end q row)
     (λ same. index_key_same end q p row (same_from q p same) ∙ its)
     (λ other. same_if q p (one_index_key end q p row other its))
 
-index_last : (end : EndOf) (rows : List RowView) (row : RowView) (p : IndexKey) (before after : List IndexKey) → IsRising (rows ++ row ∷ []) → IsEndIndex end rows before
-    → is_index_key end p row ≡ true → ((q : IndexKey) → has after q ≡ (is_same q p || has before q)) → IsEndIndex end (rows ++ row ∷ []) after
-index_last end rows row p before after rising index its added q =
-    added q ∙ ap (λ b. b || has before q) (same_key end p q row its) ∙ ap (λ b. is_index_key end q row || b) (index q) ∙ at_key (is_under (indexed_key q) row) refl
+index_last : (end : EndOf) (rows : List RowView) (row : RowView) (p : IndexKey) (index_keys : List IndexKey) → IsRising (rows ++ row ∷ []) → IsEndIndex end rows index_keys
+    → is_index_key end p row ≡ true → IsEndIndex end (rows ++ row ∷ []) (index_keys ++ p ∷ [])
+index_last end rows row p index_keys rising index its q =
+    list_any-append (is_same q) index_keys (p ∷ []) ∙ turned (has index_keys q) (is_same q p)
+    ∙ ap (λ b. b || has index_keys q) (same_key end p q row its) ∙ ap (λ b. is_index_key end q row || b) (index q) ∙ at_key (is_under (indexed_key q) row) refl
     ∙ ap (ends_at end q.isd_as) (sym (under_last (indexed_key q) rows row rising))
   where
+    turned : (b c : Bool) → (b || (c || false)) ≡ (c || b)
+    turned true true = refl
+    turned true false = refl
+    turned false true = refl
+    turned false false = refl
+
     or_none : (b : Bool) → (b || false) ≡ b
     or_none true = refl
     or_none false = refl
@@ -82,19 +93,13 @@ module _ (end : EndOf) (rows : List RowView) (row : RowView) (before : List Inde
       absurd (false≢true (sym (ap (ends_at end q.isd_as) none) ∙ sym (index q) ∙ there))
   front_row q false e there = under_last (indexed_key q) rows row rising ∙ ap (λ b. if b then Some row else row_under (indexed_key q) rows) e
 
-  current_last : (p : IndexKey) (after : List IndexKey) → AllByRecursion (IsCurrent rows) before → IsRowOf end p row
-      → ((known : IndexKey → Bool) (r : IndexKey → Option RowView) → AreKnown known r before → (known p ≡ true) ⊎ (p.row ≡ r p) → AreKnown known r after) → AllByRecursion (IsCurrent (rows ++ row ∷ [])) after
-  current_last p after current its added =
-      let known : AreKnown (λ q. false) (row_of_key (rows ++ row ∷ [])) before =
-      all_of_keys (IsCurrent rows) (λ q. (false ≡ true) ⊎ (q.row ≡ row_of_key (rows ++ row ∷ []) q)) before (λ q there is. inr (is ∙ sym (front_row q (is_under (indexed_key q) row) refl there))) current in
+  current_last : (p : IndexKey) → AllByRecursion (IsCurrent rows) before → IsRowOf end p row → AllByRecursion (IsCurrent (rows ++ row ∷ [])) (before ++ p ∷ [])
+  current_last p current its =
       let under = first_from (is_under (indexed_key p) row) (is_of (end row.1.entries) p.isd_as) its.0 in
       let last : row_of_key (rows ++ row ∷ []) p ≡ Some row = under_last (indexed_key p) rows row rising ∙ ap (λ b. if b then Some row else row_under (indexed_key p) rows) under in
-      all_of_keys (λ q. (false ≡ true) ⊎ (q.row ≡ row_of_key (rows ++ row ∷ []) q)) (IsCurrent (rows ++ row ∷ [])) after
-      (λ q e one. elim one [
-        | inl so ↦ absurd (false≢true so)
-        | inr is ↦ is
-      ])
-      (added (λ q. false) (row_of_key (rows ++ row ∷ [])) known (inr (its.1 ∙ sym last)))
+      last_good (IsCurrent (rows ++ row ∷ [])) before p
+      (all_of_keys (IsCurrent rows) (IsCurrent (rows ++ row ∷ [])) before (λ q there is. is ∙ sym (front_row q (is_under (indexed_key q) row) refl there)) current)
+      (its.1 ∙ sym last)
 
 -- ---- all rows, one after the other
 
@@ -108,16 +113,15 @@ pub record HasIndexed (end : EndOf) (all left : List RowView) (index_keys : List
 pub indexing_begins : (end : EndOf) (all : List RowView) → HasIndexed end all all []
 indexing_begins end all = record { front = []; split = refl; index = λ q. refl; current = tt }
 
-pub indexing_goes_on : (end : EndOf) (all left : List RowView) (row : RowView) (p : IndexKey) (before after : List IndexKey) → IsRising all → IsRowOf end p row → ((q : IndexKey) → has after q ≡ (is_same q p || has before q))
-    → ((known : IndexKey → Bool) (r : IndexKey → Option RowView) → AreKnown known r before → (known p ≡ true) ⊎ (p.row ≡ r p) → AreKnown known r after) → HasIndexed end all (row ∷ left) before → HasIndexed end all left after
-indexing_goes_on end all left row p before after rising its added known indexed =
+pub indexing_goes_on : (end : EndOf) (all left : List RowView) (row : RowView) (p : IndexKey) (index_keys : List IndexKey) → IsRising all → IsRowOf end p row → HasIndexed end all (row ∷ left) index_keys → HasIndexed end all left (index_keys ++ p ∷ [])
+indexing_goes_on end all left row p index_keys rising its indexed =
     let parts = indexed.split ∙ sym (append_assoc indexed.front (row ∷ []) left) in
     let front = rising_front (indexed.front ++ row ∷ []) left (subst IsRising parts rising) in
     record {
       front = indexed.front ++ row ∷ [];
       split = parts;
-      index = index_last end indexed.front row p before after front indexed.index its.0 added;
-      current = current_last end indexed.front row before front indexed.index p after indexed.current its known;
+      index = index_last end indexed.front row p index_keys front indexed.index its.0;
+      current = current_last end indexed.front row index_keys front indexed.index p indexed.current its;
     }
 
 pub indexing_ends : (end : EndOf) (all left : List RowView) (index_keys : List IndexKey) → left ≡ [] → HasIndexed end all left index_keys → IsRowIndex end all index_keys
@@ -127,3 +131,69 @@ indexing_ends end all left index_keys none indexed =
       keys = subst (λ rows. IsEndIndex end rows index_keys) whole indexed.index;
       current = subst (λ rows. AllByRecursion (IsCurrent rows) index_keys) whole indexed.current;
     }
+
+-- ---- index rows in another order
+
+all_permuted : (P : IndexKey → Type 0) (xs ys : List IndexKey) → IsPermutation xs ys → AllByRecursion P xs → AllByRecursion P ys
+all_permuted P xs ys same all = recursion_from_All P ys (All-permutation P xs ys same (All-from_recursion P xs all))
+
+pub row_index_permuted : (end : EndOf) (rows : List RowView) (xs ys : List IndexKey) → IsPermutation xs ys → IsRowIndex end rows xs → IsRowIndex end rows ys
+row_index_permuted end rows xs ys same index = record {
+  keys = λ q. sym (list_any-IsPermutation (is_same q) xs ys same) ∙ index.keys q;
+  current = all_permuted (IsCurrent rows) xs ys same index.current;
+}
+
+-- an index and the index rows that are left have the index keys of the rows
+pub record IsIndexWith (end : EndOf) (rows : List RowView) (left index_keys : List IndexKey) : Type 0 where
+  pub keys : (q : IndexKey) → (has left q || has index_keys q) ≡ stands end rows q
+  pub left_current : AllByRecursion (IsCurrent rows) left
+  pub current : AllByRecursion (IsCurrent rows) index_keys
+
+module _ (end : EndOf) (rows : List RowView) where
+  pub all_added : (index_keys : List IndexKey) → IsIndexWith end rows [] index_keys → IsRowIndex end rows index_keys
+  all_added index_keys all = record { keys = all.keys; current = all.current }
+
+  left_permuted : (xs ys now : List IndexKey) → IsPermutation xs ys → IsIndexWith end rows xs now → IsIndexWith end rows ys now
+  left_permuted xs ys now same all = record {
+    keys = λ q. ap (λ b. b || has now q) (sym (list_any-IsPermutation (is_same q) xs ys same)) ∙ all.keys q;
+    left_current = all_permuted (IsCurrent rows) xs ys same all.left_current;
+    current = all.current;
+  }
+
+  -- the last one comes first
+  last_first : (others left : List IndexKey) (p : IndexKey) → IsPermutation (others ++ (left ++ p ∷ [])) (p ∷ (others ++ left))
+  last_first others left p = subst (λ l. IsPermutation l (p ∷ (others ++ left))) (append_assoc others left (p ∷ [])) (IsPermutation-to_front (others ++ left) p)
+
+  first_added : (left now after : List IndexKey) (p : IndexKey) → ((q : IndexKey) → has after q ≡ (is_same q p || has now q))
+      → ((known : IndexKey → Bool) (r : IndexKey → Option RowView) → AreKnown known r now → (known p ≡ true) ⊎ (p.row ≡ r p) → AreKnown known r after) → IsIndexWith end rows (p ∷ left) now → IsIndexWith end rows left after
+  first_added left now after p added known all =
+      let before : AreKnown (λ q. false) (row_of_key rows) now = all_of_keys (IsCurrent rows) (λ q. (false ≡ true) ⊎ (q.row ≡ row_of_key rows q)) now (λ q there is. inr is) all.current in
+      record {
+        keys = λ q. ap (λ b. has left q || b) (added q) ∙ moved (has left q) (is_same q p) (has now q) ∙ all.keys q;
+        left_current = all.left_current.1;
+        current = all_of_keys (λ q. (false ≡ true) ⊎ (q.row ≡ row_of_key rows q)) (IsCurrent rows) after
+            (λ q e one. elim one [
+              | inl so ↦ absurd (false≢true so)
+              | inr is ↦ is
+            ])
+            (known (λ q. false) (row_of_key rows) before (inr all.left_current.0));
+      }
+    where
+      moved : (a b c : Bool) → (a || (b || c)) ≡ ((b || a) || c)
+      moved true true c = refl
+      moved true false c = refl
+      moved false true c = refl
+      moved false false c = refl
+
+  pub last_added : (others left now after : List IndexKey) (p : IndexKey) → ((q : IndexKey) → has after q ≡ (is_same q p || has now q))
+      → ((known : IndexKey → Bool) (r : IndexKey → Option RowView) → AreKnown known r now → (known p ≡ true) ⊎ (p.row ≡ r p) → AreKnown known r after) → IsIndexWith end rows (others ++ (left ++ p ∷ [])) now
+      → IsIndexWith end rows (others ++ left) after
+  last_added others left now after p added known all =
+      first_added (others ++ left) now after p added known (left_permuted (others ++ (left ++ p ∷ [])) (p ∷ (others ++ left)) now (last_first others left p) all)
+
+  pub last_kept : (others left now : List IndexKey) (p : IndexKey) → IsIndexWith end rows (others ++ (left ++ p ∷ [])) now → IsIndexWith end rows ((others ++ p ∷ []) ++ left) now
+  last_kept others left now p =
+      let first = p ∷ (others ++ left) in
+      let kept : IsPermutation ((others ++ p ∷ []) ++ left) first = subst (λ l. IsPermutation l first) (sym (append_assoc others (p ∷ []) left)) (IsPermutation-middle others p left) in
+      left_permuted (others ++ (left ++ p ∷ [])) ((others ++ p ∷ []) ++ left) now
+      (IsPermutation-trans (others ++ (left ++ p ∷ [])) first ((others ++ p ∷ []) ++ left) (last_first others left p) (IsPermutation-sym ((others ++ p ∷ []) ++ left) first kept))

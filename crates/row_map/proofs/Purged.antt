@@ -123,7 +123,7 @@ outlast_lowered : (moment least lower : ℕ) (rows : List RowView) → lower ≤
 outlast_lowered moment least lower [] le all = tt
 outlast_lowered moment least lower (row ∷ rows) le all = ((all.0.0, omega (arith, le, all.0.1)), outlast_lowered moment least lower rows le all.1)
 
-pub last_good : (P : RowView → Type 0) (front : List RowView) (row : RowView) → AllByRecursion P front → P row → AllByRecursion P (front ++ row ∷ [])
+pub last_good : {X : Type 0} (P : X → Type 0) (front : List X) (row : X) → AllByRecursion P front → P row → AllByRecursion P (front ++ row ∷ [])
 last_good P [] row all one = (one, tt)
 last_good P (r ∷ front) row all one = (all.0, last_good P front row all.1 one)
 

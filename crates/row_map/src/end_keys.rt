@@ -1,12 +1,13 @@
 //! The rows by the ISD-AS at one of their ends, or by the ISDs at both.
 
-ghost use Rattle.std.specs.Prelude.{◌≡◌, [], ◌∷◌, ◌++◌, if◌then◌else◌, map, ◌⊎◌, ◌^◌, ◌<◌, true, false, Some, List, length, is_some, IfOk, IfSome, OnOk, OnErr};
+ghost use Rattle.std.specs.Prelude.{◌≡◌, ℕ, [], ◌∷◌, ◌++◌, if◌then◌else◌, map, ◌⊎◌, ◌^◌, ◌<◌, true, false, Option, Some, List, length, is_some, IfOk, IfSome, OnOk, OnErr};
 ghost use Rattle.std.specs.List.{AllByRecursion};
 ghost use Rattle.std.specs.Option.{option_map};
+ghost use Rattle.seg_core.specs.SegmentView.{EntryView};
 ghost use Rattle.end_index.specs.IndexKey.{IndexKey, has, is_same};
 ghost use Rattle.row_map.specs.declared.end.By.{By};
 ghost use Rattle.row_map.specs.declared.end.By.TheVariants.{OneEnd};
-ghost use Rattle.row_map.specs.Database.{row_under};
+ghost use Rattle.row_map.specs.Database.{RowView, row_under};
 ghost use Rattle.row_map.specs.Row.{row_view, row_views};
 ghost use Rattle.row_map.specs.RowMap.{indexed_key};
 ghost use Rattle.row_map.specs.Saved.{saved_view};
@@ -62,10 +63,40 @@ pub fn isds_number(first: u64, last: u64) -> u64
 pub fn index_of(alloc: Global, by: By, rows: &RowMap) -> Result<EndIndex, AllocError>
     ensures { IfOk result (λ index. IsRowIndex (index_number by) rows.now index) }
 {
-    let _count = rows.len();
-    let mut index = EndIndex::new(alloc);
+    let mut index_rows = index_rows_of(alloc, by, rows)?;
+    index_rows.sort_unstable();
+    index_with(alloc, index_rows)
+}
+
+/// The index rows of all rows of a map, by this.
+fn index_rows_of(alloc: Global, by: By, rows: &RowMap) -> Result<Vec<IndexRow>, AllocError>
+    ensures { IfOk result (λ index_rows. IsRowIndex (index_number by) rows.now index_rows.items) }
+{
+    let mut index_rows = Vec::with_capacity(alloc, rows.len())?;
     for row in rows.rows() {
-        index.add(index_row_of(by, row)?)?;
+        index_rows.push(index_row_of(by, row)?)?;
+    }
+    Ok(index_rows)
+}
+
+/// The index of index rows. Where these are in their order, the leaves of its tree are full: every
+/// second one is added first and leaves half of each leaf empty, and the others then fill it.
+fn index_with(alloc: Global, index_rows: Vec<IndexRow>) -> Result<EndIndex, AllocError>
+    ensures { IfOk result (λ index. (end : List EntryView → Option ℕ) (rows : List RowView)
+        → IsRowIndex end rows index_rows.items → IsRowIndex end rows index) }
+{
+    let mut left = index_rows;
+    let mut index = EndIndex::new(alloc);
+    let mut others = Vec::with_capacity(alloc, left.len() / 2)?;
+    while let Some(index_row) = left.pop() {
+        if left.len() % 2 == 0 {
+            index.add(index_row)?;
+        } else {
+            others.push(index_row)?;
+        }
+    }
+    while let Some(other) = others.pop() {
+        index.add(other)?;
     }
     Ok(index)
 }

@@ -1,22 +1,16 @@
-use Rattle.std.proofs.Common.{rules, ◌≡◌, [], ◌∷◌, subst}
-use Rattle.row_map.specs.Row.{row_view}
-use Rattle.row_map.specs.EndKeys.{index_number}
-use Rattle.row_map.proofs.Appended.{HasIndexed, indexing_begins, indexing_goes_on, indexing_ends}
+use Rattle.std.proofs.Common.{List}
+use Rattle.std.proofs.lemmas.Result.{IfOk-weaker}
+use Rattle.end_index.specs.IndexKey.{IndexKey}
+use Rattle.row_map.specs.Database.{RowView}
+use Rattle.row_map.specs.EndKeys.{index_number, IsRowIndex}
+use Rattle.row_map.proofs.Appended.{row_index_permuted}
+use Rattle.row_map.proofs.IndexKeys.{EndOf}
 use Rattle.row_map.proofs.end_keys.index_of.Goals as goal
-
-pub loop-row-init : goal.loop-row-init
-loop-row-init c = rw (c.into_iter-row-iterator.ensures.into_iter_gives, c.rows-row-items.ensures, c.new-index.ensures) (indexing_begins (index_number c.args.by) c.args.rows.now)
-
-pub loop-row-preserved : goal.loop-row-preserved
-loop-row-preserved c =
-    let end = index_number c.args.by in
-    let row = row_view c.in-Some.row.now in
-    let left = c.next.new.self in
-    let is : c.loop-row.row-iterator ≡ row ∷ left = search (rules, c.in-Some) in
-    indexing_goes_on end c.args.rows.now left row c.in_ok-index_row_of.field-0 c.loop-row.index c.add.new.self c.len-count.ensures.rising c.in_ok-index_row_of.ensures c.in_ok-add.ensures.ok c.in_ok-add.ensures.rows
-    (subst (λ l. HasIndexed end c.args.rows.now l c.loop-row.index) is c.loop-row.invariant)
 
 pub returns : goal.returns
 returns c =
-    let none : c.loop-row.row-iterator ≡ [] = search (rules, c.in-None) in
-    indexing_ends (index_number c.args.by) c.args.rows.now c.loop-row.row-iterator c.loop-row.index none c.loop-row.invariant
+    let by = index_number c.args.by in
+    let sorted = c.sort_unstable.new.self.items in
+    let whole = row_index_permuted by c.args.rows.now c.in_ok-index_rows.index_rows.items sorted c.sort_unstable.ensures.permutation c.in_ok-index_rows.ensures in
+    IfOk-weaker c.index_with.result (λ (index : List IndexKey). (end : EndOf) (rows : List RowView) → IsRowIndex end rows sorted → IsRowIndex end rows index)
+    (λ (index : List IndexKey). IsRowIndex by c.args.rows.now index) (λ index made. made by c.args.rows.now whole) c.index_with.ensures

@@ -1,7 +1,0 @@
--- The index has the rows that came.
-use Rattle.row_map.specs.EndKeys.{index_number}
-use Rattle.row_map.proofs.Appended.{HasIndexed}
-use Rattle.row_map.proofs.end_keys.index_of.Given as goal
-
-abbrev pub invariant-loop-row : goal.invariant-loop-row
-invariant-loop-row l = HasIndexed (index_number l.by) l.fn.rows l.row-iterator l.index
