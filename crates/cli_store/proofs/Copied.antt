@@ -8,10 +8,10 @@ use Rattle.store_layout.specs.Layout.{Geometry}
 use Rattle.store_open.specs.PathStores.{IsStoreOf}
 use Rattle.store_open.specs.declared.folded.Folded.{Folded}
 use Rattle.store_open.specs.Folded.{IsSeenOn}
-use Rattle.store_copy.specs.Copying.{IsBeingMade, FormatsWith}
-use Rattle.store_copy.specs.declared.copying.CopyError.{CopyError}
-use Rattle.store_copy.specs.declared.copying.CopyError.TheVariants as copy
-use Rattle.store_copy.proofs.Copies.{untitled}
+use Rattle.store_open.specs.Copying.{IsBeingMade, FormatsWith}
+use Rattle.store_open.specs.declared.copying.CopyError.{CopyError}
+use Rattle.store_open.specs.declared.copying.CopyError.TheVariants as copy
+use Rattle.store_open.proofs.Copies.{untitled}
 use Rattle.whole_writes.specs.Written.{IsWrittenInPart}
 use Rattle.cli_store.specs.Text.{copied_line}
 use Rattle.cli_store.specs.Writing.{TextWriteFails}

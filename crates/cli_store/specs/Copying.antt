@@ -7,8 +7,8 @@ use Rattle.sector_dev.specs.Image.{EveryImage, IsFromImage}
 use Rattle.store_layout.specs.Layout.{Geometry}
 use Rattle.store_open.specs.Behind.{SameBehind}
 use Rattle.store_open.specs.PathStores.{IsStoreOf}
-use Rattle.store_copy.specs.Copying.{IsBlank, OpensToNothing, HoldsStoreWith, FormatsWith}
-use Rattle.store_copy.specs.declared.copying.CopyError.{CopyError}
+use Rattle.store_open.specs.Copying.{IsBlank, OpensToNothing, HoldsStoreWith, FormatsWith}
+use Rattle.store_open.specs.declared.copying.CopyError.{CopyError}
 use Rattle.whole_writes.specs.Written.{IsWrittenInPart}
 use Rattle.cli_store.specs.Text.{copied_line}
 use Rattle.cli_store.specs.Devices.{IsNotOpened}

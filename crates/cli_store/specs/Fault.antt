@@ -9,8 +9,8 @@ use Rattle.store_open.specs.declared.store_error.StoreError.{StoreError}
 use Rattle.store_open.specs.declared.store_error.StoreError.TheVariants as checkpoint
 use Rattle.store_open.specs.declared.new_store.FormatError.{FormatError}
 use Rattle.store_open.specs.declared.new_store.FormatError.TheVariants as format
-use Rattle.store_copy.specs.declared.copying.CopyError.{CopyError}
-use Rattle.store_copy.specs.declared.copying.CopyError.TheVariants as copy
+use Rattle.store_open.specs.declared.copying.CopyError.{CopyError}
+use Rattle.store_open.specs.declared.copying.CopyError.TheVariants as copy
 use Rattle.cli_store.specs.declared.error.Fault.{Fault}
 use Rattle.cli_store.specs.declared.error.Fault.TheVariants.{Format, Copy, Open, Checkpoint, File, Taken, Declined, Memory, Output}
 

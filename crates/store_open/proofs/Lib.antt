@@ -16,3 +16,5 @@ pub mod Steps
 pub mod Rests
 pub mod Back
 pub mod Bounds
+pub mod Copies
+pub mod CopySteps

@@ -16,3 +16,4 @@ pub mod Open
 pub mod Folded
 pub mod ErrorNumbers
 pub mod Titles
+pub mod Copying

@@ -27,11 +27,11 @@ use store_layout::BEFORE_ROWS;
 const WRITE_SECTORS: u64 = (PIECE / SECTOR) as u64;
 
 /// The length of the buffer in bytes: a piece and the seven greatest rows, in whole sectors.
-pub const BUFFER: usize = (PIECE + 7 * MOST_ROW_BYTES + (SECTOR - 1)) / SECTOR * SECTOR;
+pub(crate) const BUFFER: usize = (PIECE + 7 * MOST_ROW_BYTES + (SECTOR - 1)) / SECTOR * SECTOR;
 
 /// Writes the front of a checkpoint and its rows from a sector on, padded with zeros to whole
 /// sectors, piece by piece from one buffer, and syncs. Nothing may be dirty before the call.
-pub fn lay<D: Device>(
+pub(crate) fn lay<D: Device>(
     device: &mut D,
     at: u64,
     head: &[u8; 32],

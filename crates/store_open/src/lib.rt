@@ -9,6 +9,7 @@
 
 mod checkpoint;
 mod closing;
+mod copying;
 mod error;
 mod first_sector;
 mod folded;
@@ -31,21 +32,19 @@ mod store_error;
 mod taking_over;
 mod title;
 
+pub use copying::{CopyError, format_with};
 pub use error::OpenError;
 pub use first_sector::{has_title, read_geometry, titled_sizes};
 pub use folded::Folded;
 pub use in_threads::open_in_threads;
 pub use laws::closing::openings_are_kept_by_closing;
 pub use laws::new_store::new_stores_are_formatted;
-pub use laying::{BUFFER, lay};
 pub use looking::look;
 pub use new_store::{FormatError, format};
 pub use open_store::open;
 pub use reading::read_sector;
 pub use scanning::{read_piece, scan_journal};
 pub use sealed::SealedError;
-pub use sectors::title_sector;
 pub use store::Store;
 pub use store_error::StoreError;
 pub use store_layout::Geometry;
-pub use taking_over::write_through;

@@ -14,7 +14,7 @@ use store_layout::Geometry;
 
 /// Sector 0: the name (8 bytes) and the number of the layout (4), and the two sizes (4 each),
 /// big-endian.
-pub fn title_sector(geometry: Geometry) -> [u8; 512]
+pub(crate) fn title_sector(geometry: Geometry) -> [u8; 512]
     ensures { result ≡ laws.first_sector (geometry_view geometry) }
 {
     let mut sector = [0; SECTOR];

@@ -54,7 +54,11 @@ pub(crate) fn take_over<D: Device>(
 }
 
 /// Writes whole sectors, and syncs. Nothing may be dirty before the call.
-pub fn write_through<D: Device>(device: &mut D, at: u64, bytes: &[u8]) -> Result<(), DevError>
+pub(crate) fn write_through<D: Device>(
+    device: &mut D,
+    at: u64,
+    bytes: &[u8],
+) -> Result<(), DevError>
     requires whole { length bytes.now % SECTOR ≡ 0 }
     requires inside { SECTOR * at + length bytes.now ≤ SECTOR * (D.disk device.old).sectors }
     requires clean { IsHonest (D.disk device.old) → (D.disk device.old).history.now.dirty ≡ [] }

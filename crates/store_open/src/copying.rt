@@ -7,9 +7,12 @@ ghost use Rattle.sector_dev.specs.Disk.{IsHonest};
 ghost use Rattle.sector_dev.specs.Calls.{Keeps, count_after};
 ghost use Rattle.sector_dev.specs.Stretch.{Stretch};
 ghost use Rattle.store_layout.specs.Geometry.{geometry_view};
-ghost use Rattle.store_copy.specs.Copying.{IsBeingMade, HoldsStoreWith, MayHoldRows, FormatsWith};
+ghost use Rattle.store_open.specs.Copying.{IsBeingMade, HoldsStoreWith, MayHoldRows, FormatsWith};
 ghost use Rattle.store_open.specs.declared.laying.TheConstants.{BUFFER};
 
+use crate::laying::{BUFFER, lay};
+use crate::sectors::title_sector;
+use crate::taking_over::write_through;
 use byte_lists::{closed_gates, open_gate};
 use ckpt_pair::{area_room, checkpoint_head};
 use path_db::PathDb;
@@ -17,7 +20,6 @@ use path_records::written_rows_are_counted;
 use sector_dev::{DevError, Device};
 use std::alloc::Global;
 use store_layout::{Geometry, Half};
-use store_open::{BUFFER, lay, title_sector, write_through};
 use thiserror::Error;
 
 /// Why no store with these rows was made.
@@ -46,8 +48,8 @@ const EPOCH: u64 = 1;
 /// Makes a store of these sizes with these rows at this place, whatever was on the device before.
 /// The rows are in the first half's checkpoint, of epoch 1 and version `LATEST`; both journals are
 /// empty. No clause says which half, epoch and version these are. The call takes a buffer of
-/// `store_open::BUFFER` bytes.
-#[tactic(auto, using(crate::proofs::Steps::made_here))]
+/// `BUFFER` bytes.
+#[tactic(auto, using(crate::proofs::CopySteps::made_here))]
 pub fn format_with<D: Device>(
     alloc: Global,
     device: &mut D,

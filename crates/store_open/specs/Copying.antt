@@ -14,8 +14,8 @@ use Rattle.store_layout.specs.Limits.{latest}
 use Rattle.store_open.specs.PathStores.{store_format, IsStoreOf}
 use Rattle.store_open.specs.Behind.{SameBehind}
 use Rattle.store_open.specs.NewStore.{DeviceHasRoomFor}
-use Rattle.store_copy.specs.declared.copying.CopyError.{CopyError}
-use Rattle.store_copy.specs.declared.copying.CopyError.TheVariants.{BadGeometry, TooSmall, Unfit, NoMemory, Fault}
+use Rattle.store_open.specs.declared.copying.CopyError.{CopyError}
+use Rattle.store_open.specs.declared.copying.CopyError.TheVariants.{BadGeometry, TooSmall, Unfit, NoMemory, Fault}
 
 -- A content has zeros alone, as a file that was just made.
 abbrev pub IsBlank : List ℕ → Type 0

@@ -19,7 +19,7 @@ use Rattle.store_layout.proofs.Exports.{store_read, first_sector_makes_store, pa
 use Rattle.store_layout.specs.Limits.{latest}
 use Rattle.ckpt_pair.specs.Rows.{rows_format}
 use Rattle.store_open.specs.PathStores.{store_format}
-use Rattle.store_copy.specs.Copying.{IsBlank, OpensToNothing, IsNoneOrWhole, IsStoreWith}
+use Rattle.store_open.specs.Copying.{IsBlank, OpensToNothing, IsNoneOrWhole, IsStoreWith}
 use Rattle.store_open.proofs.Gates.{gates_inside, first_gate, zero_there}
 
 -- ---- contents that do not open

@@ -3,8 +3,8 @@ use Rattle.std.proofs.Common.{ap}
 use Rattle.byte_lists.specs.Sectors.{padded}
 use Rattle.store_layout.specs.Geometry.{geometry_view}
 use Rattle.store_open.proofs.AtRest.{fits_area}
-use Rattle.store_copy.proofs.Steps.{after_sync, after_first, after_second, after_title, after_rows, after_gate, all_written}
-use Rattle.store_copy.proofs.copying.lay_out_with.Goals as goal
+use Rattle.store_open.proofs.CopySteps.{after_sync, after_first, after_second, after_title, after_rows, after_gate, all_written}
+use Rattle.store_open.proofs.copying.lay_out_with.Goals as goal
 
 pub returns-in_err-sync-clause-any_moment : goal.returns-in_err-sync-clause-any_moment
 returns-in_err-sync-clause-any_moment g c =

@@ -20,9 +20,9 @@ use Rattle.ckpt_pair.specs.Rows.{rows_format}
 use Rattle.ckpt_pair.specs.Checkpoint.{written_checkpoint}
 use Rattle.store_open.specs.TakingOver.{IsTornAt}
 use Rattle.store_open.specs.Behind.{SameBehind}
-use Rattle.store_copy.specs.Copying.{IsBlank, IsNoneOrWhole, IsBeingMade, IsStoreWith, HoldsStoreWith, MayHoldRows}
+use Rattle.store_open.specs.Copying.{IsBlank, IsNoneOrWhole, IsBeingMade, IsStoreWith, HoldsStoreWith, MayHoldRows}
 use Rattle.store_open.proofs.Gates.{gates_inside}
-use Rattle.store_copy.proofs.Copies.{IsClosed, untitled, first_closed, both_closed, titled, titled_closed, first_closing, second_closing, titling, rows_keep_closed, rows_begin, gated_whole, gated_either, laying_either}
+use Rattle.store_open.proofs.Copies.{IsClosed, untitled, first_closed, both_closed, titled, titled_closed, first_closing, second_closing, titling, rows_keep_closed, rows_begin, gated_whole, gated_either, laying_either}
 
 -- before any call
 pub made_here : (geometry : Geometry) (rows : List RowView) (place : ℕ) (start : Disk) → Stretch start start (IsBeingMade geometry rows place start)
