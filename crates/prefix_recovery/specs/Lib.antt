@@ -4,3 +4,4 @@ pub mod Steps
 pub mod TraceSteps
 pub mod Recoverable
 pub mod Composition
+pub mod servers

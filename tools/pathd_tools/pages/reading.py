@@ -34,9 +34,9 @@ USE = re.compile(r"^use (\w+)::(?:\w+::)*(\{[^}]*\}|\w+);", re.M)
 # server. The clauses that are the statement, and the files of the definitions that it quotes.
 SURVIVAL = ["prefix_recovery recovery::run_traced trace", "prefix_recovery recovery::reopen_after"]
 LOOKUPS = ["prefix_recovery recovery::run_traced lookups"]
-SERVED = ["log_recovery reopening::reopen_left recovers refused"]
+SERVED = ["prefix_recovery servers::reopening::reopen_left recovers refused"]
 QUOTED = CRATES / "prefix_recovery" / "specs" / "Survival.antt"
-QUOTED_OF_SERVER = CRATES / "log_recovery" / "specs" / "Survival.antt"
+QUOTED_OF_SERVER = CRATES / "prefix_recovery" / "specs" / "servers" / "Survival.antt"
 
 # The contracts that carry each promise.
 PROMISES = [
@@ -205,7 +205,7 @@ def statement_of_server() -> str:
 def quoted(specs: list[str], path: Path) -> str:
     clauses: dict[str, list[str]] = {}
     for spec in specs:
-        clauses.setdefault(spec.split("::")[1].split(" ")[0], []).extend(text.strip("\n") for _, text in clause_texts(spec)[1:])
+        clauses.setdefault(spec.split("::")[-1].split(" ")[0], []).extend(text.strip("\n") for _, text in clause_texts(spec)[1:])
     said = [line for name, texts in clauses.items() for line in [name, *texts]]
     words = [it.text for it in source.definitions(path).values()]
     return "\n".join(["```", *said, "```", "", "```", "\n\n".join(words), "```"])

@@ -12,7 +12,7 @@ use Rattle.group_core.specs.Starting.{value_of_store}
 use Rattle.logged_state.specs.Left.{OpensToFrontOf}
 use Rattle.logged_state.specs.LeftView.{LeftView}
 use Rattle.logged_state.specs.Kept.{AllClaimsKept, AllShownKept}
-use Rattle.log_recovery.specs.Survival.{ServerView, IsStopAt, Survives, acknowledged_at, looked_at}
+use Rattle.prefix_recovery.specs.servers.Survival.{ServerView, IsStopAt, Survives, acknowledged_at, looked_at}
 
 -- What a server of this store says, by its log and claims, of the device that it hands out.
 pub record IsServed (start : StoreView) (left : LeftView) (end : Disk) : Type 0 where

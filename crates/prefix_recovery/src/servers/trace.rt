@@ -6,7 +6,7 @@ ghost use Rattle.sector_dev.specs.Stretch.{Stretch};
 ghost use Rattle.group_core.specs.Starting.{value_of_store};
 ghost use Rattle.logged_state.specs.Left.{OpensToFrontOf};
 ghost use Rattle.logged_state.specs.Kept.{AllClaimsKept, AllShownKept};
-ghost use Rattle.log_recovery.specs.Serving.{IsServed};
+ghost use Rattle.prefix_recovery.specs.servers.Serving.{IsServed};
 
 use logged_state::Left;
 use sector_dev::Device;
@@ -25,8 +25,8 @@ pub struct ServerTrace<D: Device> {
 }
 
 impl<D: Device> Model for ServerTrace<D> {
-    ghost use Rattle.log_recovery.specs.Survival.{ServerView};
-    ghost use Rattle.log_recovery.specs.Serving.{IsServed};
+    ghost use Rattle.prefix_recovery.specs.servers.Survival.{ServerView};
+    ghost use Rattle.prefix_recovery.specs.servers.Serving.{IsServed};
 
     ghost Value = { ServerView };
 

@@ -1,5 +1,5 @@
-use Rattle.log_recovery.proofs.Joined.{servers_joined, place_joined}
-use Rattle.log_recovery.proofs.composition.servers_compose.Goals as goal
+use Rattle.prefix_recovery.proofs.servers.Joined.{servers_joined, place_joined}
+use Rattle.prefix_recovery.proofs.servers.composition.servers_compose.Goals as goal
 
 pub returns : goal.returns
 returns c = λ start middle last order later claims more looked seen first second.

@@ -5,10 +5,10 @@ ghost use Rattle.sector_dev.specs.Disk.{IsHonest};
 ghost use Rattle.sector_dev.specs.Stretch.{Stretch};
 ghost use Rattle.store_open.specs.Open.{disk_after};
 ghost use Rattle.group_recovery.specs.Reopening.{SaysNothingOfTheImage};
-ghost use Rattle.log_recovery.specs.Survival.{HoldsStopAt, Recovers};
-ghost use Rattle.log_recovery.specs.Serving.{IsLeftAt, MayHoldAt, RecoversAgain};
+ghost use Rattle.prefix_recovery.specs.servers.Survival.{HoldsStopAt, Recovers};
+ghost use Rattle.prefix_recovery.specs.servers.Serving.{IsLeftAt, MayHoldAt, RecoversAgain};
 
-use crate::trace::ServerTrace;
+use crate::servers::trace::ServerTrace;
 use group_recovery::reopen;
 use sector_dev::Device;
 use std::alloc::Global;

@@ -1,6 +1,6 @@
 use Rattle.std.proofs.Common.{ap}
-use Rattle.log_recovery.proofs.Recovered.{served_so}
-use Rattle.log_recovery.proofs.trace.ServerTrace.of.Goals as goal
+use Rattle.prefix_recovery.proofs.servers.Recovered.{served_so}
+use Rattle.prefix_recovery.proofs.servers.trace.ServerTrace.of.Goals as goal
 
 pub invariant_of-result : goal.invariant_of-result
 invariant_of-result g c =

@@ -4,7 +4,7 @@ use Rattle.row_map.specs.Database.{RowView}
 use Rattle.path_db.specs.declared.command.Command.{Command}
 use Rattle.store_layout.specs.Opening.{StoreValue}
 use Rattle.command_log.specs.declared.rule.Claim.{Claim}
-use Rattle.log_recovery.specs.Survival.{Survives}
+use Rattle.prefix_recovery.specs.servers.Survival.{Survives}
 
 -- The claims of commands that follow this many others.
 abbrev pub claims_after : ℕ → List Claim → List Claim

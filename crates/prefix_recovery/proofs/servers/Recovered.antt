@@ -29,8 +29,8 @@ use Rattle.logged_state.specs.LeftView.{LeftView}
 use Rattle.logged_state.specs.Kept.{IsClaimKept, AllClaimsKept, IsFrontKept, IsShownKept, AllShownKept}
 use Rattle.prefix_recovery.specs.Survival.{IsAfterFront}
 use Rattle.prefix_recovery.proofs.Fronts.{after_front}
-use Rattle.log_recovery.specs.Survival.{ServerView, HoldsStopAt, Survives, acknowledged_at, committed_by, looked_at, Recovers}
-use Rattle.log_recovery.specs.Serving.{IsServed, IsLeftAt, MayHoldAt, RecoversAgain}
+use Rattle.prefix_recovery.specs.servers.Survival.{ServerView, HoldsStopAt, Survives, acknowledged_at, committed_by, looked_at, Recovers}
+use Rattle.prefix_recovery.specs.servers.Serving.{IsServed, IsLeftAt, MayHoldAt, RecoversAgain}
 
 -- an element is in what is left from an earlier index on
 in_rest : {X : Type 0} (list : List X) (s t : ℕ) (x : X) → s ≤ t → slice_get list t ≡ Some x → Contains (drop s list) x

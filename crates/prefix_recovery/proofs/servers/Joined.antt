@@ -10,8 +10,8 @@ use Rattle.store_layout.specs.Opening.{StoreValue}
 use Rattle.command_log.specs.declared.rule.Claim.{Claim}
 use Rattle.prefix_recovery.specs.Survival.{IsAfterFront}
 use Rattle.prefix_recovery.proofs.Fronts.{split, front_then, place_rises}
-use Rattle.log_recovery.specs.Survival.{Survives}
-use Rattle.log_recovery.specs.Composition.{claims_after, looked_after}
+use Rattle.prefix_recovery.specs.servers.Survival.{Survives}
+use Rattle.prefix_recovery.specs.servers.Composition.{claims_after, looked_after}
 
 -- a list and another, at an index of the first and of the second
 at_first : (front behind : List Command) (i : ℕ) (x : Command) → slice_get front i ≡ Some x → slice_get (front ++ behind) i ≡ Some x

@@ -1,6 +1,6 @@
 use Rattle.std.proofs.lemmas.Result.{IfOk-weaker, IfErr-weaker}
-use Rattle.log_recovery.proofs.Recovered.{recovers_so, recovers_again, refused_so, refused_again, left_again}
-use Rattle.log_recovery.proofs.reopening.reopen_left.Goals as goal
+use Rattle.prefix_recovery.proofs.servers.Recovered.{recovers_so, recovers_again, refused_so, refused_again, left_again}
+use Rattle.prefix_recovery.proofs.servers.reopening.reopen_left.Goals as goal
 
 pub returns-clause-recovers : goal.returns-clause-recovers
 returns-clause-recovers g c =
