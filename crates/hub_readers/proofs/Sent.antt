@@ -25,8 +25,8 @@ use Rattle.hub_readers.specs.contracts.published.ShownCommand as ShownCommand
 use Rattle.hub_readers.specs.contracts.reader.HubReader as HubReader
 use Rattle.hub_readers.specs.contracts.show.HubShow as HubShow
 use Rattle.seg_core.specs.contracts.segment.Segment as Segment
-use Rattle.end_index.specs.contracts.index_row.IndexRow as IndexRow
-use Rattle.end_index.specs.contracts.index.EndIndex as EndIndex
+use Rattle.row_map.specs.contracts.index_row.IndexRow as IndexRow
+use Rattle.row_map.specs.contracts.index.EndIndex as EndIndex
 use Rattle.row_map.specs.contracts.row.Row as Row
 use Rattle.path_db.specs.contracts.command.Command as Command
 use Rattle.path_db.specs.contracts.database.PathDb as PathDb

@@ -7,7 +7,7 @@ use Rattle.std.specs.Cmp.Lexicographic.{slice_cmp}
 use Rattle.std.specs.declared.cmp.Ordering.TheVariants.{Equal}
 use Rattle.std.proofs.lemmas.Cmp.{nat_cmp_total, tied_itself}
 use Rattle.std.proofs.lemmas.List.Elements.{filter_agree}
-use Rattle.end_index.specs.IndexKey.{IndexKey, stands_at, is_after_id}
+use Rattle.row_map.specs.IndexKey.{IndexKey, stands_at, is_after_id}
 use Rattle.seg_core.specs.declared.seg_type.SegType.{SegType}
 use Rattle.seg_core.specs.Registration.{type_number}
 use Rattle.row_map.specs.Database.{RowView, key_of, row_under}

@@ -12,7 +12,7 @@ use Rattle.seg_core.specs.SegmentView.{EntryView, SegmentView}
 use Rattle.seg_slots.specs.Message.{last_of}
 use Rattle.seg_core.specs.Registration.{type_number}
 use Rattle.seg_core.specs.Digest.{segment_digest}
-use Rattle.end_index.specs.IndexKey.{IndexKey, index_key_cmp, stands_at, stands_between}
+use Rattle.row_map.specs.IndexKey.{IndexKey, index_key_cmp, stands_at, stands_between}
 use Rattle.row_map.specs.declared.end.End.{End}
 use Rattle.row_map.specs.declared.end.End.TheVariants.{First, Last}
 use Rattle.row_map.specs.declared.end.By.{By}

@@ -2,7 +2,7 @@
 use Rattle.std.proofs.Common.{◌≡◌, ◌⊎◌, inl, inr, ℕ, Bool, true, false, not, ◌&&◌, List, [], ◌∷◌, map, if◌then◌else◌, Option, Some, None, Result, Ok, Err, IsOk, OnOk, OnErr, refl, sym, ap, ◌∙◌, subst}
 use Rattle.std.specs.List.{AllByRecursion}
 use Rattle.std.proofs.lemmas.Bool.{false≢true}
-use Rattle.end_index.specs.IndexKey.{IndexKey, has, is_same, AreKnown}
+use Rattle.row_map.specs.IndexKey.{IndexKey, has, is_same, AreKnown}
 use Rattle.row_map.specs.Database.{RowView, key_of, IsRising, AreWhole, IsDatabase, is_under, row_under}
 use Rattle.row_map.specs.declared.change.Change.TheVariants.{Updated, Kept}
 use Rattle.row_map.specs.Put.{is_newer, database_after_put, database_after_puts, change_of}

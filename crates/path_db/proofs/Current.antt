@@ -5,7 +5,7 @@ use Rattle.std.specs.Option.{option_map, option_to_list}
 use Rattle.std.proofs.lemmas.List.{append_assoc}
 use Rattle.std.proofs.lemmas.Bool.{false≢true}
 use Rattle.seg_core.specs.SegmentView.{SegmentView}
-use Rattle.end_index.specs.IndexKey.{IndexKey, AreKnown}
+use Rattle.row_map.specs.IndexKey.{IndexKey, AreKnown}
 use Rattle.row_map.specs.Database.{RowView, row_under}
 use Rattle.row_map.specs.RowMap.{indexed_key}
 use Rattle.row_map.specs.EndKeys.{row_of_key, IsCurrent}

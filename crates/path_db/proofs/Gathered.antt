@@ -7,7 +7,7 @@ use Rattle.std.specs.Option.{option_to_list}
 use Rattle.std.proofs.lemmas.Bool.{false≢true}
 use Rattle.std.proofs.lemmas.Map.Lookups.{exact_bytes}
 use Rattle.seg_core.specs.SegmentView.{SegmentView}
-use Rattle.end_index.specs.IndexKey.{IndexKey}
+use Rattle.row_map.specs.IndexKey.{IndexKey}
 use Rattle.row_map.specs.Database.{RowView, IsRising, is_under, row_under}
 use Rattle.row_map.specs.Left.{kept_if}
 use Rattle.row_map.specs.RowMap.{HasRowPut, indexed_key}

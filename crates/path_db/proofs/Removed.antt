@@ -5,7 +5,7 @@ use Rattle.std.specs.Ordering.{nat_cmp}
 use Rattle.std.specs.Cmp.Lexicographic.{slice_cmp}
 use Rattle.std.proofs.lemmas.Bool.{false≢true}
 use Rattle.std.proofs.lemmas.Map.Lookups.{exact_bytes}
-use Rattle.end_index.specs.IndexKey.{IndexKey, has, is_same}
+use Rattle.row_map.specs.IndexKey.{IndexKey, has, is_same}
 use Rattle.row_map.specs.Database.{RowView, IsRising, is_under, row_under}
 use Rattle.row_map.specs.Drops.{database_after_removal}
 use Rattle.row_map.specs.RowMap.{indexed_key}

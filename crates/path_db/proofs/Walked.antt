@@ -19,8 +19,8 @@ use Rattle.std.specs.Option.{option_map}
 use Rattle.seg_core.specs.SegmentView.{EntryView}
 use Rattle.seg_core.specs.Registration.{type_number}
 use Rattle.seg_core.specs.Digest.{segment_digest}
-use Rattle.end_index.specs.IndexKey.{IndexKey, index_key_cmp, is_same, has, stands_at}
-use Rattle.end_index.specs.Order.{index_key_total}
+use Rattle.row_map.specs.IndexKey.{IndexKey, index_key_cmp, is_same, has, stands_at}
+use Rattle.row_map.specs.Order.{index_key_total}
 use Rattle.row_map.specs.Database.{RowView, key_of, IsRising, is_under, row_under}
 use Rattle.row_map.specs.Left.{kept_if}
 use Rattle.row_map.specs.RowMap.{indexed_key}

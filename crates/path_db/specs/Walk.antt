@@ -5,7 +5,7 @@ use Rattle.std.specs.Borrow.{Bor}
 use Rattle.std.specs.Option.{option_map, option_to_list}
 use Rattle.isd_as.specs.IsdAs.{has_zero_part}
 use Rattle.seg_core.specs.SegmentView.{SegmentView}
-use Rattle.end_index.specs.IndexKey.{IndexKey, is_after_id}
+use Rattle.row_map.specs.IndexKey.{IndexKey, is_after_id}
 use Rattle.row_map.specs.declared.end.End.TheVariants.{First, Last}
 use Rattle.row_map.specs.declared.end.By.TheVariants.{OneEnd, BothEnds}
 use Rattle.row_map.specs.EndKeys.{index_number, IsRowIndex}

@@ -17,9 +17,8 @@ ghost use Rattle.path_db.specs.Wanted.{AllHave, answer_to_wanted, is_past, is_wa
 ghost use Rattle.path_db.specs.Walk.{IsExact, rows_in, segments_there};
 
 use crate::visits::Visits;
-use end_index::{IndexKeys, IndexRow};
 use isd_as::{IsdAs, covers};
-use row_map::{By, End, RowRange, isds_number};
+use row_map::{By, End, IndexKeys, IndexRow, RowRange, isds_number};
 use seg_check::expiry;
 use seg_core::{Entry, SegType, Segment};
 use std::alloc::{AllocError, Global};

@@ -28,10 +28,9 @@ use crate::outcome::Outcome;
 use crate::renewing::renew_indexed;
 use crate::visits::Visits;
 use crate::ways::{Indexes, shown_by_index, shown_by_rows};
-use end_index::EndIndex;
 use isd_as::IsdAs;
 use row_map::{
-    BUCKETS, BucketWalk, By, End, PurgeWalk, Row, RowMap, Rows, add_all, map_of, rows_of,
+    BUCKETS, BucketWalk, By, End, EndIndex, PurgeWalk, Row, RowMap, Rows, add_all, map_of, rows_of,
     saved_rows, sweep, take_out, touched_rows,
 };
 use seg_core::{SegType, Segment};

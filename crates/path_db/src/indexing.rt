@@ -5,8 +5,7 @@ ghost use Rattle.row_map.specs.declared.end.End.TheVariants.{First, Last};
 ghost use Rattle.row_map.specs.declared.end.By.TheVariants.{OneEnd, BothEnds};
 ghost use Rattle.row_map.specs.EndKeys.{index_number, IsRowIndex};
 
-use end_index::EndIndex;
-use row_map::{By, End, RowMap, index_of};
+use row_map::{By, End, EndIndex, RowMap, index_of};
 use std::alloc::{AllocError, Global};
 use std::thread::{Threads, join};
 

@@ -10,8 +10,7 @@ ghost use Rattle.row_map.specs.Put.{database_after_put, change_of};
 ghost use Rattle.row_map.specs.Row.{row_view};
 ghost use Rattle.row_map.specs.EndKeys.{index_number, IsRowIndex, IsRowOf};
 
-use end_index::{EndIndex, IndexRow};
-use row_map::{By, Change, End, Row, RowMap, index_row_of};
+use row_map::{By, Change, End, EndIndex, IndexRow, Row, RowMap, index_row_of};
 
 /// Replaces an older row under the same key and with the same ends, or keeps one that is as new, and
 /// has the indexes have the row that is left. Returns which of both was done. This takes no memory.

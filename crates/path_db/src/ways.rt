@@ -8,7 +8,7 @@ ghost use Rattle.std.specs.List.Sorted.{IsStrictlySortedBy};
 ghost use Rattle.isd_as.specs.IsdAs.{isd_as_number};
 ghost use Rattle.seg_core.specs.Encoding.{IsSegment};
 ghost use Rattle.seg_core.specs.Registration.{type_number};
-ghost use Rattle.end_index.specs.IndexKey.{index_key_cmp, stands_at, stands_between};
+ghost use Rattle.row_map.specs.IndexKey.{index_key_cmp, stands_at, stands_between};
 ghost use Rattle.row_map.specs.declared.end.By.TheVariants.{OneEnd};
 ghost use Rattle.row_map.specs.Database.{IsRising};
 ghost use Rattle.row_map.specs.RowMap.{HasRowPut};
@@ -20,9 +20,8 @@ ghost use Rattle.path_db.specs.Walk.{AreIndexes, IsWildcard, HasKeysOf, is_past_
 
 use crate::answers::{Wanted, first_shown, is_indexed, shown_at};
 use crate::visits::Visits;
-use end_index::{EndIndex, IndexKeys};
 use isd_as::IsdAs;
-use row_map::{By, End, Row, RowMap, RowRange};
+use row_map::{By, End, EndIndex, IndexKeys, Row, RowMap, RowRange};
 use seg_core::{SegType, Segment};
 use std::alloc::{AllocError, Global};
 

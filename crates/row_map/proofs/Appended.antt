@@ -9,7 +9,7 @@ use Rattle.std.proofs.lemmas.List.{append_assoc}
 use Rattle.std.proofs.lemmas.List.Elements.{All-from_recursion, recursion_from_All}
 use Rattle.std.proofs.lemmas.List.Folds.{list_any-append}
 use Rattle.std.proofs.lemmas.List.Sorted.{All-permutation, IsPermutation-sym, IsPermutation-trans, IsPermutation-middle, IsPermutation-to_front, list_any-IsPermutation}
-use Rattle.end_index.specs.IndexKey.{IndexKey, is_same, has, AreKnown}
+use Rattle.row_map.specs.IndexKey.{IndexKey, is_same, has, AreKnown}
 use Rattle.row_map.specs.Database.{RowView, key_of, key_order, IsRising, is_under, row_under}
 use Rattle.row_map.specs.RowMap.{indexed_key}
 use Rattle.row_map.specs.EndKeys.{is_of, is_index_key, ends_at, stands, row_of_key, IsEndIndex, IsCurrent, IsRowOf, IsRowIndex}

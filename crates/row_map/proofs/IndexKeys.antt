@@ -20,7 +20,7 @@ use Rattle.std.proofs.lemmas.List.{map-append}
 use Rattle.std.proofs.lemmas.List.Folds.{list_any-append}
 use Rattle.std.proofs.Math.Seq.{take-suc, drop-cons}
 use Rattle.seg_core.specs.SegmentView.{EntryView}
-use Rattle.end_index.specs.IndexKey.{IndexKey, is_same, has, AreKnown}
+use Rattle.row_map.specs.IndexKey.{IndexKey, is_same, has, AreKnown}
 use Rattle.row_map.specs.declared.row.Row.{Row}
 use Rattle.row_map.specs.Database.{RowView, key_of, is_under, row_under}
 use Rattle.row_map.specs.Row.{row_view, row_views}

@@ -11,3 +11,6 @@ pub mod EndKeys
 pub mod Saved
 pub mod TypeCounts
 pub mod Purge
+pub mod IndexKey
+pub mod Order
+pub mod Places

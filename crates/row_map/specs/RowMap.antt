@@ -3,7 +3,7 @@ use Rattle.std.specs.Prelude.{◌≡◌, ℕ, ◌≤◌, List, ◌∷◌, if◌t
 use Rattle.std.specs.List.{AllByRecursion}
 use Rattle.std.specs.Map.{values_of}
 use Rattle.seg_check.specs.Expiry.{expiry_of}
-use Rattle.end_index.specs.IndexKey.{IndexKey}
+use Rattle.row_map.specs.IndexKey.{IndexKey}
 use Rattle.row_map.specs.declared.row.Row.{Row}
 use Rattle.row_map.specs.declared.row_key.RowKey.{RowKey}
 use Rattle.row_map.specs.declared.expiry_bounds.ExpiryBounds.{ExpiryBounds}

@@ -4,7 +4,7 @@ ghost use Rattle.std.specs.Prelude.{◌≡◌, ℕ, [], ◌∷◌, ◌++◌, if�
 ghost use Rattle.std.specs.List.{AllByRecursion};
 ghost use Rattle.std.specs.Option.{option_map};
 ghost use Rattle.seg_core.specs.SegmentView.{EntryView};
-ghost use Rattle.end_index.specs.IndexKey.{IndexKey, has, is_same};
+ghost use Rattle.row_map.specs.IndexKey.{IndexKey, has, is_same};
 ghost use Rattle.row_map.specs.declared.end.By.{By};
 ghost use Rattle.row_map.specs.declared.end.By.TheVariants.{OneEnd};
 ghost use Rattle.row_map.specs.Database.{RowView, row_under};
@@ -14,10 +14,11 @@ ghost use Rattle.row_map.specs.Saved.{saved_view};
 ghost use Rattle.row_map.specs.EndKeys.{index_number, is_of, isds_number, stands, EndAlike, IsSeenTo, AreSeenTo, IsRowIndex, IsRowOf, HasRow, IsCovered, IsIndexGrown, HasAll, IsTakenOut};
 
 use crate::end::{By, End};
+use crate::index::EndIndex;
+use crate::index_row::IndexRow;
 use crate::row::Row;
 use crate::row_map::RowMap;
 use crate::row_puts::Saved;
-use end_index::{EndIndex, IndexRow};
 use std::alloc::{AllocError, Global};
 
 /// The index row of a row by this, which shares the segment. An error means that 2^63 rows share it

@@ -3,9 +3,9 @@
 use crate::checks::done;
 use crate::host::Host;
 use crate::rows::worked::{EXPIRY, apply, no_rows};
-use end_index::IndexRow;
 use isd_as::IsdAs;
 use path_db::{Command, PathDb, Registration};
+use row_map::IndexRow;
 use seg_core::{SegType, Segment, read_segment};
 use std::alloc::Global;
 use std::test::Fail;

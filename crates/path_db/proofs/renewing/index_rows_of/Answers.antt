@@ -1,6 +1,6 @@
 use Rattle.std.proofs.Common.{◌≡◌, Some, Result, Ok, Err, IfOk, sym, subst}
 use Rattle.std.specs.Result.{result_ok}
-use Rattle.end_index.specs.IndexKey.{IndexKey}
+use Rattle.row_map.specs.IndexKey.{IndexKey}
 use Rattle.row_map.specs.declared.end.End.TheVariants.{First, Last}
 use Rattle.row_map.specs.declared.end.By.TheVariants.{OneEnd}
 use Rattle.row_map.specs.EndKeys.{index_number, IsRowOf}

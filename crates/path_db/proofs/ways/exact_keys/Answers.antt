@@ -1,7 +1,7 @@
 use Rattle.std.proofs.Common.{◌≡◌, ◌&&◌, ℕ, List, Option, IfSome, sym, subst}
 use Rattle.std.specs.List.{filter}
 use Rattle.seg_core.specs.Registration.{type_number}
-use Rattle.end_index.specs.IndexKey.{stands_at}
+use Rattle.row_map.specs.IndexKey.{stands_at}
 use Rattle.path_db.specs.Walk.{is_past_id}
 use Rattle.path_db.proofs.ways.exact_keys.Goals as goal
 

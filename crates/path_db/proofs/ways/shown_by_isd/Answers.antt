@@ -2,7 +2,7 @@ use Rattle.std.proofs.Common.{rules, ◌≡◌, ◌+◌, ◌^◌, ◌∙◌, sub
 use Rattle.std.specs.List.{filter}
 use Rattle.isd_as.specs.IsdAs.{isd_as_number}
 use Rattle.seg_core.specs.Registration.{type_number}
-use Rattle.end_index.specs.IndexKey.{stands_between}
+use Rattle.row_map.specs.IndexKey.{stands_between}
 use Rattle.path_db.specs.Wanted.{pattern_at}
 use Rattle.path_db.specs.Walk.{IsWildcard}
 use Rattle.path_db.proofs.Asked.{keys_between, current_between}

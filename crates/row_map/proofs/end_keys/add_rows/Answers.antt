@@ -1,5 +1,5 @@
 use Rattle.std.proofs.Common.{◌≡◌, get_or, sym, subst, arith}
-use Rattle.end_index.specs.IndexKey.{IndexKey}
+use Rattle.row_map.specs.IndexKey.{IndexKey}
 use Rattle.row_map.proofs.IndexKeys.{grown_by_taken, kept_by_add, within_by_add, done_by_add, known_by_add}
 use Rattle.row_map.proofs.end_keys.add_rows.Goals as goal
 

@@ -1,5 +1,5 @@
 use Rattle.std.proofs.Common.{◌≡◌, ◌⊎◌, true, take}
-use Rattle.end_index.specs.IndexKey.{IndexKey, has}
+use Rattle.row_map.specs.IndexKey.{IndexKey, has}
 use Rattle.row_map.proofs.IndexKeys.{KeepsKnown}
 use Rattle.row_map.proofs.end_keys.add_rows.Given as goal
 

@@ -1,6 +1,6 @@
 use Rattle.std.proofs.Common.{List}
 use Rattle.std.proofs.lemmas.Result.{IfOk-weaker}
-use Rattle.end_index.specs.IndexKey.{IndexKey}
+use Rattle.row_map.specs.IndexKey.{IndexKey}
 use Rattle.row_map.specs.Database.{RowView}
 use Rattle.row_map.specs.EndKeys.{index_number, IsRowIndex}
 use Rattle.row_map.proofs.Appended.{row_index_permuted}

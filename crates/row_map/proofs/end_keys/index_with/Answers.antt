@@ -1,5 +1,5 @@
 use Rattle.std.proofs.Common.{List, [], ◌++◌, ap, ◌∙◌, subst, arith}
-use Rattle.end_index.specs.IndexKey.{IndexKey}
+use Rattle.row_map.specs.IndexKey.{IndexKey}
 use Rattle.row_map.proofs.Appended.{IsIndexWith, last_added, last_kept, all_added}
 use Rattle.row_map.proofs.Purged.{append_none}
 use Rattle.row_map.proofs.PutRow.{no_items}

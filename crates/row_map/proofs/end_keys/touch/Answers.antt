@@ -2,7 +2,7 @@ use Rattle.std.proofs.Common.{rules, ◌≡◌, Some, None, refl}
 use Rattle.std.specs.Option.{option_map}
 use Rattle.row_map.specs.Row.{row_view}
 use Rattle.row_map.specs.EndKeys.{index_number}
-use Rattle.end_index.specs.IndexKey.{is_same}
+use Rattle.row_map.specs.IndexKey.{is_same}
 use Rattle.row_map.proofs.IndexKeys.{seen_alone, seen_other}
 use Rattle.row_map.proofs.end_keys.touch.Goals as goal
 use Rattle.row_map.proofs.end_keys.touch.Goals.{in-Some+in_ok-index_row_of+in_ok-push_other, in_default}

@@ -5,7 +5,7 @@ ghost use Rattle.std.specs.List.Sorted.{IsStrictlySortedBy};
 ghost use Rattle.seg_core.specs.declared.seg_type.SegType.{SegType as SegTypeView};
 ghost use Rattle.seg_core.specs.SegmentView.{SegmentView};
 ghost use Rattle.seg_core.specs.Registration.{type_number};
-ghost use Rattle.end_index.specs.IndexKey.{IndexKey, AreKnown, index_key_cmp, has, is_same, stands_at, stands_between, is_after_id};
+ghost use Rattle.row_map.specs.IndexKey.{IndexKey, AreKnown, index_key_cmp, has, is_same, stands_at, stands_between, is_after_id};
 
 use crate::index_row::IndexRow;
 use seg_core::SegType;
@@ -23,7 +23,7 @@ pub struct EndIndex {
 
 impl Model for EndIndex {
     ghost use Rattle.std.specs.Prelude.{List};
-    ghost use Rattle.end_index.specs.IndexKey.{IndexKey};
+    ghost use Rattle.row_map.specs.IndexKey.{IndexKey};
 
     ghost Value = { List IndexKey };
 

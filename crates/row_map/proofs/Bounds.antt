@@ -9,7 +9,7 @@ use Rattle.std.specs.declared.cmp.Ordering.TheVariants.{Less, Equal, Greater}
 use Rattle.std.proofs.lemmas.Bool.{false≢true}
 use Rattle.std.proofs.lemmas.Bool.Decides.{eqb_tells, leb_tells}
 use Rattle.std.proofs.Math.Dec.{eqb, leb}
-use Rattle.end_index.specs.IndexKey.{IndexKey, stands_at, stands_between, is_after_id}
+use Rattle.row_map.specs.IndexKey.{IndexKey, stands_at, stands_between, is_after_id}
 
 abbrev pub zeros : ℕ → List ℕ
 zeros zero = []

@@ -4,8 +4,8 @@ use Rattle.std.proofs.lemmas.Bool.{false≢true}
 use Rattle.std.specs.Ordering.{is_eq, ordering_reverse}
 use Rattle.std.specs.declared.cmp.Ordering.{Ordering}
 use Rattle.std.specs.declared.cmp.Ordering.TheVariants.{Less, Equal, Greater}
-use Rattle.end_index.specs.IndexKey.{IndexKey, index_key_cmp, is_same, has}
-use Rattle.end_index.specs.Order.{index_key_total}
+use Rattle.row_map.specs.IndexKey.{IndexKey, index_key_cmp, is_same, has}
+use Rattle.row_map.specs.Order.{index_key_total}
 
 turned : (o : Ordering) → is_eq (ordering_reverse o) ≡ is_eq o
 turned Less = refl

@@ -1,8 +1,8 @@
 use Rattle.std.proofs.Common.{◌≡◌, inl, inr, true, ap, ◌∙◌, ◌||◌}
-use Rattle.end_index.specs.IndexKey.{has, is_same, AreKnown}
-use Rattle.end_index.proofs.Tests.{cond-or, cond-there, same_both_ways, unless_absent, by_result}
-use Rattle.end_index.proofs.Rows.{replace_known, renew_known}
-use Rattle.end_index.proofs.index.EndIndex.renew.Goals as goal
+use Rattle.row_map.specs.IndexKey.{has, is_same, AreKnown}
+use Rattle.row_map.proofs.Tests.{cond-or, cond-there, same_both_ways, unless_absent, by_result}
+use Rattle.row_map.proofs.IndexRows.{replace_known, renew_known}
+use Rattle.row_map.proofs.index.EndIndex.renew.Goals as goal
 
 pub returns-clause-kept : goal.returns-clause-kept
 returns-clause-kept c = λ there q.

@@ -11,8 +11,8 @@ use Rattle.std.specs.declared.cmp.Ordering.TheVariants.{Less, Equal, Greater}
 use Rattle.std.proofs.lemmas.Bool.{false≢true}
 use Rattle.seg_core.specs.declared.seg_type.SegType.{SegType}
 use Rattle.seg_core.specs.SegmentView.{SegmentView}
-use Rattle.end_index.specs.IndexKey.{IndexKey, AreKnown, index_key_cmp, is_same, has}
-use Rattle.end_index.specs.Order.{index_key_total}
+use Rattle.row_map.specs.IndexKey.{IndexKey, AreKnown, index_key_cmp, is_same, has}
+use Rattle.row_map.specs.Order.{index_key_total}
 
 -- ---- the order of two index keys, turned round
 

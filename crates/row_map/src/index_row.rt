@@ -7,10 +7,10 @@ ghost use Rattle.std.specs.Cmp.{eq_by_cmp_equiv, partial_equiv_from_equiv, parti
 ghost use Rattle.std.specs.Cmp.Lexicographic.{slice_cmp};
 ghost use Rattle.seg_core.specs.Registration.{type_number};
 ghost use Rattle.seg_core.specs.Digest.{segment_digest};
-ghost use Rattle.end_index.specs.IndexKey.{IndexKey, index_key_cmp, is_same};
+ghost use Rattle.row_map.specs.IndexKey.{IndexKey, index_key_cmp, is_same};
 ghost use Rattle.seg_check.specs.Expiry.{expiry_of};
-ghost use Rattle.end_index.specs.Places.{key_of_place, second_of, HasHead};
-ghost use Rattle.end_index.specs.Order.{index_key_total};
+ghost use Rattle.row_map.specs.Places.{key_of_place, second_of, HasHead};
+ghost use Rattle.row_map.specs.Order.{index_key_total};
 
 use seg_check::expiry;
 use seg_core::{SegType, Segment};
@@ -45,8 +45,8 @@ pub struct IndexRow {
 }
 
 impl Model for IndexRow {
-    ghost use Rattle.end_index.specs.IndexKey.{IndexKey};
-    ghost use Rattle.end_index.specs.Places.{key_of_place, HasHead};
+    ghost use Rattle.row_map.specs.IndexKey.{IndexKey};
+    ghost use Rattle.row_map.specs.Places.{key_of_place, HasHead};
 
     ghost Value = { IndexKey };
 

@@ -1,9 +1,9 @@
 use Rattle.std.proofs.Common.{◌∙◌}
 use Rattle.std.proofs.lemmas.List.Elements.{filter_agree}
 use Rattle.seg_core.specs.Registration.{type_number}
-use Rattle.end_index.specs.IndexKey.{stands_between}
-use Rattle.end_index.proofs.Bounds.{between_numbers}
-use Rattle.end_index.proofs.index.EndIndex.keys_between.Goals as goal
+use Rattle.row_map.specs.IndexKey.{stands_between}
+use Rattle.row_map.proofs.Bounds.{between_numbers}
+use Rattle.row_map.proofs.index.EndIndex.keys_between.Goals as goal
 
 pub returns-clause-same : goal.returns-clause-same
 returns-clause-same c =

@@ -6,9 +6,9 @@ use Rattle.seg_core.specs.SegmentView.{SegmentView}
 use Rattle.seg_core.specs.declared.seg_type.SegType.{SegType}
 use Rattle.seg_core.specs.declared.seg_type.SegType.TheVariants as kinds
 use Rattle.seg_check.specs.Expiry.{expiry_of}
-use Rattle.end_index.specs.declared.index_row.Place.{Place}
-use Rattle.end_index.specs.declared.index_row.Place.TheVariants.{Below, After, Up, Down, Core}
-use Rattle.end_index.specs.IndexKey.{IndexKey}
+use Rattle.row_map.specs.declared.index_row.Place.{Place}
+use Rattle.row_map.specs.declared.index_row.Place.TheVariants.{Below, After, Up, Down, Core}
+use Rattle.row_map.specs.IndexKey.{IndexKey}
 
 -- The index key of a row.
 abbrev key_of_row : SegType → ℕ → SegmentView → IndexKey

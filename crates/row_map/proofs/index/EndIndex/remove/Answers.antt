@@ -1,8 +1,8 @@
 use Rattle.std.proofs.Common.{ap, ◌∙◌, not, ◌&&◌}
-use Rattle.end_index.specs.IndexKey.{has, is_same}
-use Rattle.end_index.proofs.Tests.{cond-and, same_both_ways}
-use Rattle.end_index.proofs.Rows.{remove_known}
-use Rattle.end_index.proofs.index.EndIndex.remove.Goals as goal
+use Rattle.row_map.specs.IndexKey.{has, is_same}
+use Rattle.row_map.proofs.Tests.{cond-and, same_both_ways}
+use Rattle.row_map.proofs.IndexRows.{remove_known}
+use Rattle.row_map.proofs.index.EndIndex.remove.Goals as goal
 
 pub returns-clause-gone : goal.returns-clause-gone
 returns-clause-gone c = λ q. rw (← c.self.view_is) (c.remove.ensures.updates.0 q ∙ cond-and (is_same c.args.index_row.now q) (has c.self.inside.index_rows.keys q) ∙ ap (λ b. not b && has c.self.inside.index_rows.keys q) (same_both_ways c.args.index_row.now q))

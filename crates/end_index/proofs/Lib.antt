@@ -1,4 +1,0 @@
-pub mod Tests
-mod Bounds
-mod Rows
-pub mod Exports

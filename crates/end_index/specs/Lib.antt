@@ -1,3 +1,0 @@
-pub mod IndexKey
-pub mod Order
-pub mod Places
