@@ -23,5 +23,3 @@ pub use Rattle.row_map.proofs.After.{and_true, both_kept}
 -- what holds of each row; the rows that a purge drops
 pub use Rattle.row_map.proofs.Bucketed.{all_implied, all_both, all_before}
 pub use Rattle.row_map.proofs.Purged.{all_filtered, dropped_one, none_left, outlast_bounded}
--- the index keys between the zeros of a number and those of the next one
-pub use Rattle.row_map.proofs.Bounds.{zeros, zeros_first, IsNext, next_rank, same_number}

@@ -18,6 +18,6 @@ mod Purged
 mod Lowered
 mod Collected
 pub mod Exports
-pub mod Tests
+mod Tests
 mod Bounds
 mod IndexRows

@@ -9,7 +9,7 @@ use Rattle.std.specs.declared.cmp.Ordering.TheVariants.{Less, Equal, Greater}
 use Rattle.std.proofs.lemmas.Bool.{false≢true}
 use Rattle.std.proofs.lemmas.Bool.Decides.{eqb_tells}
 use Rattle.std.proofs.lemmas.List.Elements.{filter_agree}
-use Rattle.row_map.proofs.Exports.{zeros, zeros_first, IsNext, next_rank, same_number}
+use Rattle.row_map.proofs.Bounds.{zeros, zeros_first, IsNext, next_rank, same_number}
 use Rattle.seg_core.specs.Registration.{type_number}
 use Rattle.row_map.specs.declared.row.Row.{Row}
 use Rattle.row_map.specs.declared.row_key.RowKey.{RowKey}

@@ -1,6 +1,6 @@
 use Rattle.std.proofs.Common.{◌+◌, ◌==◌, refl, ap, ◌∙◌}
 use Rattle.std.specs.List.{filter}
-use Rattle.row_map.proofs.Exports.{zeros}
+use Rattle.row_map.proofs.Bounds.{zeros}
 use Rattle.seg_core.specs.Registration.{type_number}
 use Rattle.row_map.specs.declared.row_key.RowKey.{RowKey}
 use Rattle.row_map.specs.RowMap.{views_of}
