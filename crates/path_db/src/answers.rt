@@ -1,6 +1,6 @@
 //! The rows of a database that a lookup shows.
 
-ghost use Rattle.std.specs.Prelude.{◌≡◌, ◌+◌, ◌<◌, ◌≤◌, ◌∷◌, ◌++◌, [], length, take, filter, None, IfSome, IfOk, OnOk, OnErr, IsTrue};
+ghost use Rattle.std.specs.Prelude.{◌≡◌, ◌+◌, ◌<◌, ◌≤◌, ◌∷◌, ◌++◌, [], true, length, take, filter, None, IfSome, IfOk, OnOk, OnErr, IsTrue};
 ghost use Rattle.std.specs.List.{AllByRecursion};
 ghost use Rattle.std.specs.Option.{option_map, option_to_list};
 ghost use Rattle.isd_as.specs.IsdAs.{isd_as_number};
@@ -97,13 +97,20 @@ impl Wanted {
         Some(isds_number(self.start.to_u64(), self.end.to_u64()))
     }
 
+    /// Whether the row is known to have expired. Its segment is not read.
+    fn is_over(&self, index_row: &IndexRow) -> bool
+        ensures { result ≡ true → segments_of (filter (is_wanted self.now) (rows_in (index_row.now ∷ []))) ≡ [] }
+    {
+        index_row.expires_by(self.moment)
+    }
+
     /// The segment of an index row, where there is one and the lookup asks for it.
     pub(crate) fn shown<'a>(&self, index_row: Option<&'a IndexRow>) -> Option<&'a Segment>
         ensures { segments_there (result ∷ [])
             ≡ segments_of (filter (is_wanted self.now) (rows_in (option_to_list (option_map (λ q. q.now) index_row.entry)))) }
     {
         let index_row = index_row?;
-        if index_row.expires_by(self.moment) {
+        if self.is_over(index_row) {
             return None;
         }
         let (kind, segment) = index_row.row()?;
@@ -281,7 +288,13 @@ pub(crate) fn shown_at(
         if found.len() == limit {
             break;
         }
-        if !visits.take(4) {
+        if !visits.take(1) {
+            return Ok(None);
+        }
+        if wanted.is_over(index_row) {
+            continue;
+        }
+        if !visits.take(3) {
             return Ok(None);
         }
         let shown = next_shown(index_row, &mut index_keys, &wanted);
