@@ -214,33 +214,58 @@ def shown(program: str, store: Path) -> tuple[int, bytes, bytes]:
     return done.returncode, done.stdout, done.stderr
 
 
-class Forked:
-    """A command that is run again and again, without being loaded anew (tools/native/fork_server.c)."""
+class Again:
+    """A command over files 0 to 9, whose names its last word ends with, that is run again and again in one process (tools/native/run_again.c)."""
 
     def __init__(self, library: str, words: list[str], folder: Path) -> None:
-        self.out, self.err = folder / "out", folder / "err"
-        asked, self.asking = os.pipe()
+        self.words, self.library, self.paths = words, library, (folder / "out", folder / "err")
+        self._start()
+
+    def _start(self) -> None:
         self.told, telling = os.pipe()
-        env = {**os.environ, "LD_PRELOAD": library, "FORK_OUT": str(self.out), "FORK_ERR": str(self.err)}
-        env |= {"FORK_ASKED": str(asked), "FORK_TOLD": str(telling)}
-        self.process = subprocess.Popen(words, env=env, pass_fds=(asked, telling), stdin=subprocess.DEVNULL)
-        os.close(asked)
+        # Files to which each write appends.
+        self.files = [os.open(path, os.O_RDWR | os.O_CREAT | os.O_APPEND, 0o600) for path in self.paths]
+        env = {**os.environ, "LD_PRELOAD": self.library, "RUN_AGAIN": str(telling)}
+        given = {"stdin": subprocess.PIPE, "stdout": self.files[0], "stderr": self.files[1], "pass_fds": [telling], "bufsize": 0}
+        self.process = subprocess.Popen(self.words, env=env, **given)
         os.close(telling)
 
-    def run(self) -> tuple[int, bytes, bytes]:
-        """Status, output and errors of a run."""
-        os.write(self.asking, b"\0")
-        told = os.read(self.told, 4)
-        if len(told) != 4:
-            raise RuntimeError("the program can't be started again")
-        status = int.from_bytes(told, sys.byteorder)
-        return os.waitstatus_to_exitcode(status), self.out.read_bytes(), self.err.read_bytes()
+    def run(self, count: int = 1) -> list[tuple[int, bytes, bytes]]:
+        """Status, output and errors of the runs over the first so many files. A run that ends the process is followed by a new one."""
+        found: list[tuple[int, bytes, bytes]] = []
+        while len(found) < count:
+            for file in self.files:
+                os.ftruncate(file, 0)
+            first, at = len(found), [0, 0]
+            self.process.stdin.write(bytes(range(ord("0") + first, ord("0") + count)))
+            for _ in range(first, count):
+                told = self._next()
+                sizes = told[1:] or [os.fstat(file).st_size for file in self.files]
+                out, err = (os.pread(file, size - begun, begun) for file, size, begun in zip(self.files, sizes, at))
+                found.append((told[0] if told else self.process.wait(), out, err))
+                at = sizes
+                if not told:
+                    self.close()
+                    self._start()
+                    break
+        return found
+
+    def _next(self) -> tuple[int, ...]:
+        """What is told of the next run: its status, and the sizes of both files; nothing where the process has ended."""
+        told = b""
+        while len(told) < 12:
+            piece = os.read(self.told, 12 - len(told))
+            if not piece:
+                return ()
+            told += piece
+        return struct.unpack("=3i", told)
 
     def close(self) -> None:
-        """Ends the process that starts the others."""
-        os.close(self.asking)
-        os.close(self.told)
+        """Ends the process."""
+        self.process.stdin.close()
         self.process.wait()
+        for file in (self.told, *self.files):
+            os.close(file)
 
 
 def make_rows(keys: int) -> list[tuple[int, list[messages.Hop]]]:

@@ -19,7 +19,6 @@ first ones.
 from __future__ import annotations
 
 import multiprocessing
-import os
 import random
 import re
 import struct
@@ -467,26 +466,21 @@ def try_images(given: tuple) -> tuple[Counter, list[str]]:
     chance = random.Random(f"{seed}/images/{worker}")
     counts: Counter = Counter()
     faults: list[str] = []
-    path = folder / "image"
-    path.write_bytes(b"")
-    forked = runs.Forked(library, [program, "show", str(path)], folder)
-    file = os.open(path, os.O_RDWR)
+    files = [folder / f"image{number}" for number in range(10)]
+    again = runs.Again(library, [program, "show", str(files[0])], folder)
     while counts["images"] < count and len(faults) < 5:
-        base = chance.randrange(len(images))
-        image = mutated_image(images[base], chance)
-        os.ftruncate(file, len(image))
-        os.pwrite(file, image, 0)
-        status, out, errors = forked.run()
-        got = status, out, kind_line(errors)
-        wanted = judged_image(image)
-        counts["images"] += 1
-        counts["image: opened" if wanted[0] == 0 else f"image: {wanted[2].decode().strip()}"] += 1
-        if got != wanted:
-            kept = Path(f"/tmp/pathd-image-{seed}-{worker}-{counts['images']}")
-            kept.write_bytes(image)
-            faults.append(f"{kept}: {got[0]} {got[1][-30:]!r} {got[2]!r}, and not {wanted[0]} {wanted[1][-30:]!r} {wanted[2]!r}")
-    os.close(file)
-    forked.close()
+        mutated = [mutated_image(images[chance.randrange(len(images))], chance) for _ in files]
+        for file, image in zip(files, mutated):
+            file.write_bytes(image)
+        for image, (status, out, errors) in zip(mutated, again.run(len(files))):
+            got, wanted = (status, out, kind_line(errors)), judged_image(image)
+            counts["images"] += 1
+            counts["image: opened" if wanted[0] == 0 else f"image: {wanted[2].decode().strip()}"] += 1
+            if got != wanted:
+                kept = Path(f"/tmp/pathd-image-{seed}-{worker}-{counts['images']}")
+                kept.write_bytes(image)
+                faults.append(f"{kept}: {got[0]} {got[1][-30:]!r} {got[2]!r}, and not {wanted[0]} {wanted[1][-30:]!r} {wanted[2]!r}")
+    again.close()
     return counts, faults
 
 
@@ -513,7 +507,7 @@ def main(words: list[str]) -> int:
             counts += of_worker
             faults += found
         print(f"  {counts['frames']} frames, {len(faults)} differ, {time.monotonic() - begun:.0f} seconds", flush=True)
-        recorder, forker = runs.compiled("recorded_calls.c", folder), runs.compiled("fork_server.c", folder)
+        recorder, forker = runs.compiled("recorded_calls.c", folder), runs.compiled("run_again.c", folder)
         images = make_images(program, recorder, folder, options.seed) if options.images else []
         print(f"  {len(images)} images to be mutated", flush=True)
         given = [(program, forker, str(folder), images, options.seed, worker, options.images // options.jobs) for worker in range(options.jobs)]

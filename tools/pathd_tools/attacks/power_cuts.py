@@ -14,8 +14,8 @@ rows, so that a checkpoint has many pieces, with commands on all of these rows b
 
 Then images are made of the file after each write and each sync. Of a sector that was written since
 the last sync that covers it, an image holds what it held before, what was written, a front of the
-new bytes, zeros, 0xA5, an open gate or random bytes, sector by sector. `pathd show` opens each
-image. It has to print the rows and the place of a front of the commands, by the places of their
+new bytes, zeros, 0xA5, an open gate or random bytes, sector by sector. `pathd show` opens the images,
+many in one process (tools/native/run_again.c). It has to print the rows and the place of a front of the commands, by the places of their
 acknowledgements, that
 
 - holds every command acknowledged before the next call on the device,
@@ -49,6 +49,7 @@ import shutil
 import subprocess
 import time
 from collections import Counter
+from collections.abc import Iterator
 from pathlib import Path
 
 from pathd_model import model
@@ -62,6 +63,8 @@ SWALLOWED = ["group", "gate", "chunks", "half", "close"]
 FOUND_KINDS = SWALLOWED[:4]
 # How many losses show that this script sees those that were made on purpose.
 ENOUGH = 20
+# How many images are opened together.
+FILES = 10
 
 
 # Images
@@ -116,49 +119,80 @@ def random_image(held: dict[int, list[bytes]], chance: random.Random) -> tuple[s
     return kind, image
 
 
+def with_sectors(kept: bytes, sectors: dict[int, bytes]) -> bytes:
+    """What is kept, with these sectors in place of its own."""
+    image = bytearray(kept)
+    for sector, content in sectors.items():
+        image[sector * SECTOR : (sector + 1) * SECTOR] = content
+    return bytes(image)
+
+
 def differing(held: bytes, kept: bytes, among: set[int]) -> set[int]:
     """The sectors among some in which two images differ."""
     return {it for it in among if held[it * SECTOR : (it + 1) * SECTOR] != kept[it * SECTOR : (it + 1) * SECTOR]}
 
 
 class Cutter:
-    """Opens images by `show`, in a file of its own."""
+    """Opens images by `show`, some at one time, each in a file of its own."""
 
     def __init__(self, program: str, libraries: tuple[str, str], folder: Path, first: bytes, layout: model.Layout) -> None:
-        self.words = [program, "show", str(folder / "image")]
-        self.upgrade_words = [program, "upgrade", str(folder / "image")]
+        paths = [folder / f"image{number}" for number in range(FILES)]
+        self.words, self.upgrade_words = [program, "show", str(paths[0])], [program, "upgrade", str(paths[0])]
         self.library, self.folder = libraries[0], folder
-        self.forked = runs.Forked(libraries[1], self.words, folder)
-        self.file = os.open(folder / "image", os.O_RDWR | os.O_CREAT | os.O_TRUNC, 0o644)
-        os.pwrite(self.file, first, 0)
+        self.again = runs.Again(libraries[1], self.words, folder)
+        self.files = [os.open(path, os.O_RDWR | os.O_CREAT | os.O_TRUNC, 0o644) for path in paths]
+        self.keep({0: first})
         self.gates = gates_of(layout)
         self.losses: list[str] = []
 
-    def lay(self, sectors: dict[int, bytes]) -> None:
-        """Writes sectors to the file."""
-        for sector, content in sectors.items():
-            os.pwrite(self.file, content, sector * SECTOR)
+    def keep(self, sectors: dict[int, bytes]) -> None:
+        """Writes sectors to all files."""
+        for file in self.files:
+            self.lay(sectors, file)
 
-    def restore(self, kept: bytes, written: set[int]) -> set[int]:
-        """Makes the file what is kept again, and answers which sectors weren't; those that were written are looked at first."""
-        held = os.pread(self.file, len(kept) + SECTOR, 0)
+    def lay(self, sectors: dict[int, bytes], file: int) -> None:
+        """Writes sectors to a file."""
+        for sector, content in sectors.items():
+            os.pwrite(file, content, sector * SECTOR)
+
+    def restore(self, kept: bytes, written: set[int], file: int) -> set[int]:
+        """Makes a file what is kept again, and answers which sectors weren't; those that were written are looked at first."""
+        held = os.pread(file, len(kept) + SECTOR, 0)
         if len(held) != len(kept):
             raise RuntimeError("the file has another length")
         changed = differing(held, kept, written | self.gates)
-        self.lay({sector: kept[sector * SECTOR : (sector + 1) * SECTOR] for sector in changed})
-        held = os.pread(self.file, len(kept) + SECTOR, 0)
+        self.lay({sector: kept[sector * SECTOR : (sector + 1) * SECTOR] for sector in changed}, file)
+        held = os.pread(file, len(kept) + SECTOR, 0)
         if held != kept:
             more = differing(held, kept, set(range(len(kept) // SECTOR)))
-            self.lay({sector: kept[sector * SECTOR : (sector + 1) * SECTOR] for sector in more})
+            self.lay({sector: kept[sector * SECTOR : (sector + 1) * SECTOR] for sector in more}, file)
             changed |= more
         return changed
 
-    def show(self, env: dict | None = None, words: list[str] | None = None) -> tuple[int, bytes, bytes]:
-        """What `show` or another command answers of the file."""
-        if not env and not words:
-            return self.forked.run()
-        done = subprocess.run(words or self.words, capture_output=True, check=False, env={**os.environ, **env} if env else None)
+    def open_all(self, kept: bytes, images: list[dict[int, bytes]]) -> Iterator[tuple[tuple[int, bytes, bytes], set[int]]]:
+        """What `show` answers of each of these images over what is kept, and which sectors the file had otherwise then."""
+        for at in range(0, len(images), FILES):
+            together = images[at : at + FILES]
+            for image, file in zip(together, self.files):
+                self.lay(image, file)
+            answers = self.again.run(len(together))
+            for answer, image, file in zip(answers, together, self.files):
+                yield answer, self.restore(kept, set(image), file)
+
+    def show(self) -> tuple[int, bytes, bytes]:
+        """What `show` answers of the first file."""
+        return self.again.run()[0]
+
+    def run(self, words: list[str], env: dict | None = None) -> tuple[int, bytes, bytes]:
+        """What a command answers."""
+        done = subprocess.run(words, capture_output=True, check=False, env={**os.environ, **(env or {})})
         return done.returncode, done.stdout, done.stderr
+
+    def close(self) -> None:
+        """Ends the command, and closes the files."""
+        self.again.close()
+        for file in self.files:
+            os.close(file)
 
     def judge(self, run: Recorded, moment: Moment, answer: tuple[int, bytes, bytes], where: str) -> None:
         """Notes a loss where an answer isn't that of a front that has to be there."""
@@ -197,21 +231,19 @@ def cut_opening(cutter: Cutter, kept: bytes, image: dict[int, bytes], answer: tu
     """Records a command over an image, cuts it at each of its calls, and opens what is left; answers the number of images."""
     log = cutter.folder / "opening"
     log.unlink(missing_ok=True)
-    cutter.lay(image)
-    before = os.pread(cutter.file, len(kept), 0)
-    cutter.show({"LD_PRELOAD": cutter.library, "RECORD": str(log)}, words)
+    file = cutter.files[0]
+    cutter.lay(image, file)
+    before = os.pread(file, len(kept), 0)
+    cutter.run(words, {"LD_PRELOAD": cutter.library, "RECORD": str(log)})
     everywhere = set(range(len(kept) // SECTOR))
-    cutter.restore(kept, everywhere)
+    cutter.restore(kept, everywhere, file)
     disk, count = Disk(before), 0
     for number, call in enumerate(events_of(log)):
         disk.follow(call)
         held = disk.dirty()
         images = fixed_images(held) + [random_image(held, chance) for _ in range(6)] if held else [("old", {})]
-        for name, torn in images:
-            changed = differing(disk.kept, kept, everywhere)
-            cutter.lay({**{it: bytes(disk.kept[it * SECTOR : (it + 1) * SECTOR]) for it in changed}, **torn})
-            again = cutter.show()
-            cutter.restore(kept, changed | set(torn))
+        synced = {it: bytes(disk.kept[it * SECTOR : (it + 1) * SECTOR]) for it in differing(disk.kept, kept, everywhere)}
+        for (name, _), (again, _) in zip(images, cutter.open_all(kept, [{**synced, **torn} for _, torn in images])):
             count += 1
             if again != answer:
                 cutter.losses.append(f"{words[1]} cut at its call {number}, {name}: {again[2].decode(errors='replace').strip()} {again[1][-12:]!r}")
@@ -234,7 +266,7 @@ def cut_run(given: tuple) -> tuple[Counter, list[str]]:
         if call.letter == "s":
             before, kept = kept, bytes(disk.kept)
             changed = differing(before, kept, written)
-            cutter.lay({it: kept[it * SECTOR : (it + 1) * SECTOR] for it in changed})
+            cutter.keep({it: kept[it * SECTOR : (it + 1) * SECTOR] for it in changed})
             written = set(disk.dirty())
             seen.clear()
         elif call.letter == "W":
@@ -249,14 +281,15 @@ def cut_run(given: tuple) -> tuple[Counter, list[str]]:
             images += [random_image(held, chance) for _ in range(max(0, each - len(images)))]
         moment = run.moments[number + 1]
         counts["points"] += 1
+        unseen = []
         for name, image in images:
             key = tuple(sorted(image.items()))
-            if key in seen and name != "new":
-                continue
+            if key not in seen or name == "new":
+                unseen.append((name, image))
             seen.add(key)
-            cutter.lay(image)
-            answer = cutter.show()
-            changed = cutter.restore(kept, set(image))
+        # Openings that are cut use the files, too.
+        opened = list(cutter.open_all(kept, [image for _, image in unseen]))
+        for (name, image), (answer, changed) in zip(unseen, opened):
             counts["images"] += 1
             counts[f"image: {name}"] += 1
             if len(held) > 1 or call.letter == "W":
@@ -273,18 +306,18 @@ def cut_run(given: tuple) -> tuple[Counter, list[str]]:
             cut_upgrade(cutter, kept, chance, counts)
         if len(cutter.losses) >= (ENOUGH if options.swallowed else options.enough):
             break
-    cutter.forked.close()
+    cutter.close()
     return counts, cutter.losses
 
 
 def cut_upgrade(cutter: Cutter, kept: bytes, chance: random.Random, counts: Counter) -> None:
     """Cuts an upgrade of what is kept at each of its calls."""
-    everywhere = set(range(len(kept) // SECTOR))
+    everywhere, file = set(range(len(kept) // SECTOR)), cutter.files[0]
     answer = cutter.show()
-    cutter.restore(kept, everywhere)
-    upgraded = cutter.show(words=cutter.upgrade_words)
+    cutter.restore(kept, everywhere, file)
+    upgraded = cutter.run(cutter.upgrade_words)
     if upgraded[0] == 0 and upgraded[1] == b"version 2\n":
-        held = os.pread(cutter.file, len(kept), 0)
+        held = os.pread(file, len(kept), 0)
         if model.open_image(held).version != 2:
             cutter.losses.append("an upgraded store isn't of version 2")
         after = cutter.show()
@@ -292,7 +325,7 @@ def cut_upgrade(cutter: Cutter, kept: bytes, chance: random.Random, counts: Coun
             cutter.losses.append("an upgraded store shows something else")
     elif not upgraded[2].endswith(b": the journal is sealed\nerror: device 2\n"):
         cutter.losses.append(f"upgrade: {upgraded}")
-    cutter.restore(kept, everywhere)
+    cutter.restore(kept, everywhere, file)
     counts["images of cut upgrades"] += cut_opening(cutter, kept, {}, answer, chance, cutter.upgrade_words)
 
 
@@ -350,19 +383,17 @@ def cut_copy(program: str, libraries: tuple[str, str], folder: Path, old: bytes,
             continue
         held = disk.dirty()
         kept = bytes(disk.kept)
-        cutter.restore(kept, set(range(layout.sectors)))
-        for name, image in (fixed_images(held) + [random_image(held, chance) for _ in range(each)]) if held else [("kept", {})]:
-            cutter.lay(image)
-            laid = os.pread(cutter.file, len(kept), 0)
-            answer = cutter.show()
-            cutter.restore(kept, set(image))
+        for opened in cutter.files:
+            cutter.restore(kept, set(), opened)
+        images = (fixed_images(held) + [random_image(held, chance) for _ in range(each)]) if held else [("kept", {})]
+        for (name, image), (answer, _) in zip(images, cutter.open_all(kept, [image for _, image in images])):
             counts["images of cut copies"] += 1
             counts["images of cut copies that open"] += answer == whole
-            if answer != whole and not opens_to_nothing(laid, answer):
+            if answer != whole and not opens_to_nothing(with_sectors(kept, image), answer):
                 cutter.losses.append(f"{where}, call {number}, {name}: {answer[0]} {answer[1][-12:]!r} {answer[2]!r}")
-    if os.pread(cutter.file, len(disk.kept) + 1, 0) != copied.read_bytes() or cutter.show() != whole:
+    if os.pread(cutter.files[0], len(disk.kept) + 1, 0) != copied.read_bytes() or cutter.show() != whole:
         cutter.losses.append(f"{where}: what is synced is not the whole copy")
-    cutter.forked.close()
+    cutter.close()
     shutil.rmtree(folder / "copy")
     return counts, cutter.losses
 
@@ -394,10 +425,7 @@ def left_of(run: Recorded, chance: random.Random) -> bytes:
     for call in run.calls[: chance.randrange(len(run.calls) // 4, len(run.calls))]:
         disk.follow(call)
     held = disk.dirty()
-    image = bytearray(disk.kept)
-    for sector, content in (random_image(held, chance)[1] if held else {}).items():
-        image[sector * SECTOR : (sector + 1) * SECTOR] = content
-    return bytes(image)
+    return with_sectors(disk.kept, random_image(held, chance)[1] if held else {})
 
 
 def cut_lives(program: str, libraries: tuple[str, str], folder: Path, version: int, options: argparse.Namespace) -> tuple[Counter, list[str]]:
@@ -462,7 +490,7 @@ def main(words: list[str]) -> int:
     total, losses = Counter(), []
     print(f"{runs.commit_name(program)}, seed {options.seed}")
     with runs.scratch() as folder:
-        libraries = runs.compiled("recorded_calls.c", folder), runs.compiled("fork_server.c", folder)
+        libraries = runs.compiled("recorded_calls.c", folder), runs.compiled("run_again.c", folder)
         while not losses and (not total or time.monotonic() < begun + 60 * options.minutes):
             counts, losses = cut_seed(program, libraries, folder, options)
             total += counts + Counter({"seeds": 1})
