@@ -1,17 +1,11 @@
 """Fills a server with rows: down segments of two entries from 1-ff00:0:110 to 1-ff00:0:111, each
-with interfaces of its own.
-
-    bench/pathd-bench server-rows PORT ROWS [--signature BYTES]
-
-A segment has 88 bytes, and 220 with signatures of 64 bytes. A registration has 16 segments; 64
-registrations are sent before their replies are read. It ends with the status 1 where one isn't
-acknowledged.
+with interfaces of its own. A segment has 88 bytes, and 220 with signatures of 64 bytes.
 """
 from __future__ import annotations
 
 import socket
 
-from pathd_tools import messages, toolbox
+from pathd_tools import messages
 from pathd_tools.messages import DOWN, Hop
 
 IN_A_REGISTRATION = 16
@@ -46,13 +40,3 @@ def fill(port: int, rows: int, signature: bytes = b"") -> bool:
                 if replies.read(REPLY)[4:5] != b"\x81":
                     return False
     return True
-
-
-def main(words: list[str]) -> int:
-    """Fills the server of a port."""
-    parser = toolbox.parser(__doc__)
-    parser.add_argument("port", type=int, metavar="PORT")
-    parser.add_argument("rows", type=int, metavar="ROWS")
-    parser.add_argument("--signature", type=int, default=0, metavar="BYTES", help="the bytes of an entry's signature [0]")
-    options = parser.parse_args(words)
-    return 0 if fill(options.port, options.rows, bytes(options.signature)) else 1

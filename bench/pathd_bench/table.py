@@ -303,7 +303,7 @@ def kept_frames(bench: Bench, what: str, times: int) -> Path:
     name = f"{what}-{times}"
     if name not in bench.kept:
         bench.kept[name] = bench.folder / name
-        bench.kept[name].write_bytes(b"".join(frames.frames_of(what, times, [])))
+        bench.kept[name].write_bytes({"pairs": frames.pairs, "registrations": frames.batches}[what](times))
     return bench.kept[name]
 
 

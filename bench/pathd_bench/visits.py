@@ -14,7 +14,7 @@ import subprocess
 import tempfile
 from pathlib import Path
 
-from pathd_bench import crates, walks_rows
+from pathd_bench import crates, frames
 from pathd_tools import building, need, toolbox
 
 ROWS = [1_000, 10_000, 100_000, 1_000_000]
@@ -32,10 +32,10 @@ TITLES = [
 
 def counts_of(program: Path, folder: Path, rows: int) -> list[tuple[int, int]]:
     """The rows that each call shows or drops, and those that it visits."""
-    leaves = str(max(rows // EACH, 1))
-    walks_rows.main([str(folder / "rows"), str(rows), "0", leaves])
-    walks_rows.main(["--earlier", str(EARLIER), str(folder / "new"), str(NEW), str(rows), leaves])
-    (folder / "expiry").write_text(str(walks_rows.EXPIRY - 2 * EARLIER))
+    leaves = max(rows // EACH, 1)
+    frames.write_rows(folder / "rows", range(rows), leaves)
+    frames.write_rows(folder / "new", range(rows, rows + NEW), leaves, EARLIER)
+    (folder / "expiry").write_text(str(frames.EXPIRY - 2 * EARLIER))
     done = subprocess.run([program], cwd=folder, capture_output=True, text=True, check=True)
     return [tuple(map(int, line.split())) for line in done.stdout.splitlines()]
 

@@ -11,11 +11,12 @@
 # round takes SECONDS_EACH seconds, 1 where that variable is not set.
 #
 #     bench/pathd-bench gateway [ROUNDS [PROGRAM [TARGET ..]]]
-source "$(dirname "${BASH_SOURCE[0]}")/common.sh"
-need protoc go protoc-gen-go protoc-gen-go-grpc golang-google-protobuf-dev \
+set -euo pipefail
+root=$(cd "$(dirname "${BASH_SOURCE[0]}")/../.." && pwd)
+"$root/tools/pathd-tools" need protoc go protoc-gen-go protoc-gen-go-grpc golang-google-protobuf-dev \
   golang-github-golang-protobuf-1-5-dev golang-google-grpc-dev golang-golang-x-net-dev
 rounds=${1:-5}
-program=$(built "${2:-}")
+program=$(realpath "${2:-$root/crates/pathd/out/pathd}")
 shift "$(($# < 2 ? $# : 2))"
 work=$(mktemp -d)
 store=$(mktemp -d -p /dev/shm)

@@ -3,12 +3,11 @@
 # order that docs/STORE.md has, for C = 2 and J = 516: which sectors are written, and where the
 # syncs are between them. It needs Debian's strace, and is no part of the gate.
 #
-#     tools/pathd-tools syscalls [PROGRAM [GROUPS]]
+#     tools/pathd-tools syscalls [PROGRAM]
 #
-# PROGRAM is crates/pathd/out/pathd if left out, which `rt run` builds. GROUPS is the program that
-# `bench/pathd-bench groups` copies to its third argument; with it the calls of two groups of 32
-# registrations are compared, too. Offsets and lengths are counted in sectors of 512 bytes. Reads in
-# a row are one line. What differs is printed as diff does, the calls that were made with '+'.
+# PROGRAM is crates/pathd/out/pathd if left out, which `rt run` builds. Offsets and lengths are counted
+# in sectors of 512 bytes. Reads in a row are one line. What differs is printed as diff does, the calls
+# that were made with '+'.
 set -euo pipefail
 top=$(cd "$(dirname "${BASH_SOURCE[0]}")/../.." && pwd)
 "$top/tools/pathd-tools" need strace perl || exit
@@ -33,8 +32,8 @@ calls_made() { # what was traced, as the lines below
       : /^fadvise64\(\d+<$store>, 0, 0, (\w+)\)/ ? "advise $1"
       : /^ftruncate\(\d+<$store>, (\d+)\)/ ? "length " . sectors($1)
       : /^pread64\(\d+<$store>/ ? "read"
-      : /^pwrite64\(\d+<$store>, .*, (\d+), (\d+)\)/ ? "write " . sectors($1) . " at " . sectors($2)
-      : /^(fsync|fdatasync)\(\d+<$store>\)/ ? $1
+      : /^pwrite64\(\d+<$store>, .*, (\d+), (\d+)(?:\)| <unfinished)/ ? "write " . sectors($1) . " at " . sectors($2)
+      : /^(fsync|fdatasync)\(\d+<$store>(?:\)| <unfinished)/ ? $1
       : /^fsync\(\d+<$folder>\)/ ? "fsync of the folder"
       : /^write\(1</ ? "print"
       : /<$store>/ ? $_ : next;
@@ -155,45 +154,43 @@ fdatasync
 print
 LINES
 
-# Two groups in a store of C = 64: each is its payload with the next gate, closed, and then its own gate, open; each write is synced
-# before the next one.
-commits() { # the program of `bench/pathd-bench groups`
-  local folder=$work/groups sectors
-  mkdir "$folder" || exit 2
-  "$top/bench/pathd-bench" walks-rows "$folder/segments" 32 0 32
-  echo "64 516 2" >"$folder/plan"
-  truncate -s $((512 * (1 + 2 * (64 + 1 + 516)))) "$folder/store"
-  sectors=$(((16 + $(stat -c %s "$folder/segments") + 7 * 32 + 511) / 512 + 1))
-  (cd "$folder" && strace -y -s 8 -o "$work/trace" -e trace=pread64,pwrite64,fsync,fdatasync "$1" >/dev/null) \
-    || differences=$((differences + 1))
+# A server that takes two registrations, one after the other: each group is its payload with the next gate, closed, and then its own
+# gate, open; each write is synced before the next one.
+serve() {
+  local port
+  cat >"$work/segment" <<'END'
+{"type":"down","segment":"0a080880d0acf30e100112290a270a251223089082808080e07f109182808080e07f1a0e0a0c1001183f220600000000000028c00b12210a1f0a1d121b089182808080e07f1a0e0a0c0802183f220600000000000028c00b"}
+END
+  strace -f -y -s 8 -o "$work/trace" -e trace=$calls "$program" run "$store" --listen 127.0.0.1:0 --sessions 2 >/dev/null 2>"$work/lines" &
+  until port=$(sed -n 's/.* at 127.0.0.1:\([0-9]*\): version.*/\1/p' "$work/lines") && [ -n "$port" ]; do sleep 0.1; done
+  for _ in 1 2; do "$program" ask "127.0.0.1:$port" register "$work/segment" >/dev/null; done
+  wait $!
   traces=$((traces + 1))
-  store=$folder/store calls_made >"$work/made"
-  diff -u --label drawn --label "two groups" - "$work/made" <<LINES || differences=$((differences + 1))
-write 1 at 0
-write 1 at 1
-write 1 at 65
-write 1 at 66
-write 1 at 646
-write 1 at 647
-fdatasync
-fdatasync
-read
-fdatasync
-write $sectors at 67
-fdatasync
-write 1 at 66
-fdatasync
-write $sectors at $((67 + sectors))
-fdatasync
-write 1 at $((66 + sectors))
-fdatasync
-fdatasync
-read
-fdatasync
-LINES
+  calls_made >"$work/made"
 }
 
-[ $# -lt 2 ] || commits "$(realpath "$2")"
+"$program" format "$store" --checkpoint 2 --journal 516 --force >/dev/null
+serve
+diff -u --label drawn --label run - "$work/made" <<'LINES' || differences=$((differences + 1))
+open O_RDWR
+lock LOCK_EX|LOCK_NB
+advise POSIX_FADV_DONTNEED
+fdatasync
+read
+fdatasync
+print
+write 2 at 5
+fdatasync
+write 1 at 4
+fdatasync
+write 2 at 7
+fdatasync
+write 1 at 6
+fdatasync
+print
+print
+print
+LINES
 
 echo "$traces commands, $differences differ"
 [ "$differences" = 0 ]
