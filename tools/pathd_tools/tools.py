@@ -84,7 +84,6 @@ OTHERS = [
     Tool("try", "trying", "shows the program at work in a minute; builds it first, without its proofs, where it is not built"),
     Tool("test", "testing.together", "every test without a proof, in minutes: of crates, pages and clients; or of the crates that are named"),
     Tool("gate", "gate", "the gate of a merge: `rt ci` without the proofs of the tests, or with them"),
-    Tool("gate-time", "gate_time", "runs the gate, and prints the seconds of each crate's proof, edits and tests"),
     Tool("need", "need", "what the tools need and is missing on this machine"),
     Tool("all", "everything", "`test`, and the checks of the program that need packages or root"),
 ]
