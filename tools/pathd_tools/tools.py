@@ -8,7 +8,6 @@ PAGES = [
     Tool("proofs", "pages.proofs", "each contract, clause, file and edit that docs/PROOFS.md and the crates' pages name exists"),
     Tool("reading", "pages.reading", "which definitions a reader of the contracts has to believe; --check, --write"),
     Tool("words", "pages.words", "prints every definition of specs/ from A to Z, with its place"),
-    Tool("program", "pages.program", "prints the code of crates without contracts, ghosts and laws"),
     Tool("complete", "pages.complete", "each public function, and each word that a public contract cites, is on its crate's page"),
     Tool("widths", "pages.widths", "prose of 100 columns, tables of 160, sentences of 40 words; --write"),
     Tool("uses", "pages.uses", "each use on a crate's page is in the sources that the page links"),
@@ -76,8 +75,7 @@ ATTACKS = [
 LOAD = [
     Tool("load", "load.load", "puts a load on a server, and checks each reply"),
     Tool("plot", "load.plot", "draws a series of `load` over time"),
-    Tool("layout", "load.layout", "draws the regions of a store's file"),
-    Tool("short-load", "short_load.sh", "load, plot and layout, for two seconds"),
+    Tool("short-load", "short_load.sh", "load and plot, for two seconds"),
 ]
 
 OTHERS = [

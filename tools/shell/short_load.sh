@@ -1,8 +1,7 @@
 #!/usr/bin/env bash
 # Has tools/pathd-tools load make a load on a server of the built program for two seconds, each
-# reply checked, over a store so small that checkpoints count meanwhile; tools/pathd-tools plot
-# draws the series, and tools/pathd-tools layout the store that is left. It needs gcc and Python 3,
-# uses the loopback alone, and is no part of the gate.
+# reply checked, over a store so small that checkpoints count meanwhile; tools/pathd-tools plot draws
+# the series. It needs gcc and Python 3, uses the loopback alone, and is no part of the gate.
 #
 #     tools/pathd-tools short-load [PROGRAM]
 #
@@ -39,5 +38,3 @@ wait "$server" 2>/dev/null || true
 server=
 "$top/tools/pathd-tools" plot "$work/series" "$work/load.svg"
 is_picture "$work/load.svg"
-"$top/tools/pathd-tools" layout "$work/store" "$work/layout.svg" --program "$program"
-is_picture "$work/layout.svg"
