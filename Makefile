@@ -26,9 +26,9 @@ SETTINGS = $(DESTDIR)/etc/default/pathd
 GATEWAY_DOC = $(DESTDIR)$(PREFIX)/share/doc/pathd-gateway
 GATEWAY_SETTINGS = $(DESTDIR)/etc/default/pathd-gateway
 
-PAGES = README.md CHANGELOG.md docs/CLI.md docs/PROTOCOL.md docs/STORE.md docs/POWER-CUT.md \
+PAGES = deploy/debian/README.md CHANGELOG.md docs/CLI.md docs/PROTOCOL.md docs/STORE.md docs/POWER-CUT.md \
   docs/WATCHING.md docs/NETWORK.md docs/CAPACITY.md docs/LIMITS.md docs/GATEWAY.md docs/codes.csv docs/segments.proto \
-  docs/load.svg docs/place.svg docs/frame.svg docs/syncs.svg docs/states.svg docs/memory.svg
+  docs/frame.svg docs/syncs.svg docs/states.svg docs/memory.svg
 TASKS = $(wildcard docs/operating/*.md)
 PICTURES = docs/plots.png docs/plots-dark.png
 EXAMPLES = deploy/pathd.nft deploy/pathd.rules.yml deploy/grafana-dashboard.json \
@@ -40,7 +40,7 @@ PLACED = sed 's|/usr/local/|$(PREFIX)/|g'
 # not installed is left out, and its text stays; a link's text may have two lines.
 nothing =
 NAMES = $(subst $(nothing) ,|,$(strip $(notdir $(PAGES) $(TASKS) $(PICTURES) $(EXAMPLES))))
-LINKED = sed -zE 's!\]\(docs/!](!g; s!\]\(\.\./(\.\./)?(README|CHANGELOG)\.md!](\1\2.md!g; \
+LINKED = sed -zE 's!\]\((\.\./)*docs/!](!g; s!\]\(\.\./(\.\./)?(README|CHANGELOG)\.md!](\1\2.md!g; \
   s!\]\((\.\./)?((\.\./)?)deploy/([^)]*/)?!](\2examples/!g; \
   s!\]\(((\.\./|operating/|examples/|\.\./examples/)?($(NAMES))(\#[^)]*)?|\#[^)]*|https?:[^)]*)\)!]\x01\1\x02!g; \
   s!\[([^][]*)\]\([^)]*\)!\1!g; s/\x01/(/g; s/\x02/)/g; \
@@ -83,7 +83,7 @@ uninstall:
 	rm -rf $(LIB) $(DOC)
 
 deb: $(PROGRAM)
-	deploy/debian/make-deb $(PROGRAM)
+	deploy/debian/make-deb pathd $(PROGRAM)
 
 $(GATEWAY):
 	mkdir -p $(dir $(GATEWAY))
@@ -110,6 +110,6 @@ uninstall-gateway:
 	rm -rf $(GATEWAY_DOC)
 
 gateway-deb: $(GATEWAY)
-	deploy/debian/make-gateway-deb $(GATEWAY)
+	deploy/debian/make-deb pathd-gateway $(GATEWAY)
 
 .PHONY: help install install-pages uninstall deb install-gateway uninstall-gateway gateway-deb

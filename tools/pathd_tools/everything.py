@@ -20,7 +20,7 @@ from pathd_tools import TOP, need, runs, toolbox
 
 # What each check of the program needs, and its words, in which PROGRAM is the program's path.
 PROGRAMS = [
-    ("root debootstrap make", "package PROGRAM"),
+    ("root debootstrap make lintian", "package PROGRAM"),
     ("gcc python3", "refused-memory PROGRAM"),
     ("strace python3", "locks PROGRAM"),
     ("strace perl", "syscalls PROGRAM"),

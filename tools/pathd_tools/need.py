@@ -105,6 +105,7 @@ THINGS = [
     program("promtool", "prometheus"),
     program("chromium", "chromium"),
     program("debootstrap", "debootstrap"),
+    program("lintian", "lintian"),
     program("ip", "iproute2"),
     program("glusterd", "glusterfs-server glusterfs-client"),
     program("wg", "wireguard-tools"),

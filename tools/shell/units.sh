@@ -1,9 +1,9 @@
 #!/usr/bin/env bash
 # Tries the steps of docs/operating and the units of deploy/ in a container of this machine's own
-# system, whose first process is systemd: the first hour, installing, the unit's walls, purges, stops
-# and signals, statuses, a backup, the gateway, a volume as DEV, a fault of that device, the firewall,
-# and a restart of the container. `tools/pathd-tools units-inside` has the list, and runs the blocks
-# of those pages as they are written.
+# system, whose first process is systemd: the first hour, installing by `make` and by the Debian
+# packages, the unit's walls, purges, stops and signals, statuses, a backup, the gateway, a volume as
+# DEV, a fault of that device, the firewall, and a restart of the container.
+# `tools/pathd-tools units-inside` has the list, and runs the blocks of those pages as they are written.
 #
 #     tools/pathd-tools units [PROGRAM [GATEWAY]]
 #
@@ -62,10 +62,11 @@ mkdir "$work/ram/upper" "$work/ram/work" "$work/ram/$name"
 root=$work/ram/$name
 mount -t overlay -o "lowerdir=/,upperdir=$work/ram/upper,workdir=$work/ram/work" overlay "$root"
 repository=$root/srv/pathd
-mkdir -p "$repository/crates/pathd/out" "$repository/gateway/out" "$root/var/lib" "$root/tmp"
+mkdir -p "$repository/crates/pathd/out" "$repository/out" "$root/var/lib" "$root/tmp"
 cp "$program" "$repository/crates/pathd/out/pathd"
-[ ! -x "$gateway" ] || cp "$gateway" "$repository/gateway/out/pathd-gateway"
-cp "$top"/gateway/*.proto "$repository/gateway"
+make --silent -C "$top" deb PROGRAM="$program"
+[ ! -x "$gateway" ] || make --silent -C "$top" gateway-deb GATEWAY="$gateway"
+cp "$top"/out/pathd{,-gateway}_"$("$top/deploy/debian/version")"_*.deb "$repository/out" || [ ! -x "$gateway" ]
 cp -r "$top"/*.md "$top/Makefile" "$top/deploy" "$top/docs" "$top/clients" "$top/tools" "$repository"
 rm -rf "$root/var/lib/pathd" "$root/var/log/journal" "$root"/usr/local/bin/pathd{,-gateway} "$root"/etc/default/pathd{,-gateway}
 sed -i '/^pathd\(-gateway\)\?:/d' "$root/etc/passwd" "$root/etc/group" "$root/etc/shadow" "$root/etc/gshadow" 2>/dev/null || true

@@ -1,7 +1,8 @@
 """Tries the steps of docs/operating, and the unit of the gateway, on a system whose first process is
 systemd; tools/pathd-tools units starts it in a container. It carries out the blocks of
-docs/operating/install.md, first-hour.md and run.md and of docs/WATCHING.md that are marked by `units`,
-and those of the first hour that are marked by `steps`.
+docs/operating/install.md, first-hour.md and run.md, of docs/WATCHING.md and of the package's README
+that are marked by `units`, and those of the first hour that are marked by `steps`. The programs are
+those of the Debian packages in out/; `make install` is tried before.
 
     tools/pathd-tools units-inside --loop DEVICE
     tools/pathd-tools units-inside --after-restart
@@ -42,7 +43,9 @@ SETTINGS = Path("/etc/default/pathd")
 REPORT = Path("/etc/pathd/on-failure")
 PORT = 30252
 NUMBERS_PORT = 30253
-GATEWAY = TOP / "gateway/out/pathd-gateway"
+LOOKUPS_PORT = 30254
+PATHD = "/usr/bin/pathd"
+README = "share/doc/pathd/README.md"
 GATEWAY_UNIT = "pathd-gateway.service"
 GATEWAY_SETTINGS = Path("/etc/default/pathd-gateway")
 GATEWAY_PORT = 30262
@@ -53,7 +56,8 @@ PAGE_BYTES = 4096
 # Segments of now, as the settings bound times after it, and how long after its timestamp one expires.
 MADE = int(time.time())
 LASTS = 675 * 64 // 2
-FULL = 64
+# The seats of the unit's two listeners.
+FULL, FULL_OF_LOOKUPS = 48, 16
 
 
 class Steps:
@@ -99,15 +103,15 @@ def text_of(page: str) -> str:
     return (DOCS / f"{page}.md").read_text(encoding="utf-8")
 
 
-def block(page: str, heading: str) -> Block:
-    """The first block below a heading of a page."""
+def block(page: str, heading: str, number: int = 0) -> Block:
+    """A block below a heading of a page: the first, or the one of a number from 0."""
     begin = text_of(page).split(f"\n## {heading}\n")[0].count("\n") + 2
-    return next(it for it in blocks(DOCS / f"{page}.md") if it.line > begin)
+    return [it for it in blocks(DOCS / f"{page}.md") if it.line > begin][number]
 
 
-def run_block(page: str, heading: str) -> subprocess.CompletedProcess:
+def run_block(page: str, heading: str, number: int = 0) -> subprocess.CompletedProcess:
     """Runs a block of a page as it is written, at the top of the repository."""
-    chosen = block(page, heading)
+    chosen = block(page, heading, number)
     CARRIED_OUT.add(chosen.place)
     return run("bash", "-euo", "pipefail", "-c", chosen.text, cwd=TOP)
 
@@ -189,8 +193,8 @@ def journal(unit: str, since: float) -> str:
 class Session:
     """A session with the server."""
 
-    def __init__(self, host: str = "127.0.0.1", timeout: float = 10) -> None:
-        self.socket = socket.create_connection((host, PORT), timeout)
+    def __init__(self, host: str = "127.0.0.1", timeout: float = 10, port: int = PORT) -> None:
+        self.socket = socket.create_connection((host, port), timeout)
         self.rest = b""
 
     def read(self) -> bytes:
@@ -263,7 +267,7 @@ ROWS = Rows()
 
 def shown(store: Path = STORE) -> str:
     """What `show` prints of a store at rest."""
-    return must("/usr/local/bin/pathd", "show", store)
+    return must(PATHD, "show", store)
 
 
 # The steps, each a part of the page
@@ -278,18 +282,33 @@ def first_hour() -> None:
             CARRIED_OUT.update([it.place] if it.how == NAME else [])
 
 
-def install() -> None:
-    """'Installing', as it is written."""
-    begun = time.time()
+def install_programs() -> None:
+    """'Steps': from the repository, and then by the package, which stays; and the README that it installs."""
+    done = run_block("operating/install", "Steps", 1)
+    STEPS.expect("the block of the repository installs the program", done.returncode == 0 and os.access("/usr/local/bin/pathd", os.X_OK), done.stdout + done.stderr)
+    must("make", "-C", TOP, "uninstall")
+    left = [it for it in Path("/usr/local").rglob("*pathd*") if not it.is_dir()]
+    STEPS.expect("`make uninstall` leaves none of its files", not left, left)
     done = run_block("operating/install", "Steps")
-    STEPS.expect("the block of 'Installing' runs", done.returncode == 0, done.stdout + done.stderr)
+    STEPS.expect("the block of the package installs it", done.returncode == 0 and os.access(PATHD, os.X_OK), done.stdout + done.stderr)
+    CARRIED_OUT.add(blocks(TOP / "deploy/debian/README.md")[0].place)
+    done = run("bash", "-euo", "pipefail", "-c", blocks(Path("/usr") / README)[0].text, cwd="/", stdin=subprocess.DEVNULL)
+    STEPS.expect("the block of the README that it installs shows the program at work", done.returncode == 0, done.stdout + done.stderr)
+
+
+def install() -> None:
+    """'The store', as it is written."""
+    install_programs()
+    begun = time.time()
+    done = run_block("operating/install", "The store")
+    STEPS.expect("the block of 'The store' runs", done.returncode == 0, done.stdout + done.stderr)
     STEPS.expect("the unit is active, and the server listens", until(is_up), run("systemctl", "status", "pathd").stdout)
     text = journal("pathd", begun)
     STEPS.expect("the journal has `ready` and the line of the address", "ready" in text and "at 127.0.0.1:30252: version 2, place 0, 0 rows" in text, text)
     STEPS.expect("the file has its room on the disk", STORE.stat().st_blocks * 512 >= STORE.stat().st_size)
     made = STORE.stat().st_ino
     ROWS.register_many(3)
-    done = run_block("operating/install", "Steps")
+    done = run_block("operating/install", "The store")
     STEPS.expect("the block runs again, and leaves the store and its server", done.returncode == 0 and STORE.stat().st_ino == made and until(is_up), done.stdout + done.stderr)
     text = SETTINGS.read_text()
     STEPS.expect("the settings have the core ASes", "\nCORES=1-ff00:0:110\n" in text, text)
@@ -311,7 +330,7 @@ def look_at_walls() -> None:
     STEPS.expect("the server runs as the user pathd", status["Uid"].split() == [uid] * 4, status["Uid"])
     STEPS.expect("it has no capability, no new privileges, and a filter of calls", (int(status["CapEff"], 16), int(status["CapBnd"], 16), status["NoNewPrivs"], status["Seccomp"]) == (0, 0, "1", "2"), status)
     within = ["nsenter", "-t", pid, "-m", "sh", "-c"]
-    for path in ("/etc", "/usr/local/bin", "/var/lib", "/home", "/opt"):
+    for path in ("/etc", "/usr/bin", "/usr/local/bin", "/var/lib", "/home", "/opt"):
         STEPS.expect(f"in its view {path} can't be written", run(*within, f"touch {path}/.pathd-units").returncode != 0)
     STEPS.expect("in its view /var/lib/pathd can be written", run(*within, "touch /var/lib/pathd/.new && rm /var/lib/pathd/.new").returncode == 0)
     devices = run(*within, "find /dev -type b").stdout
@@ -328,7 +347,7 @@ def look_at_walls() -> None:
         else:
             STEPS.leave_out(f"{file} of the unit", f"this hierarchy of cgroups has no controller {controller}")
     for unit in ("pathd.service", "pathd-failed@.service"):
-        done = run("systemd-analyze", "verify", TOP / "deploy" / unit)
+        done = run("systemd-analyze", "verify", f"/usr/lib/systemd/system/{unit}")
         lines = [line for line in done.stderr.splitlines() if "pathd" in line]
         STEPS.expect(f"systemd-analyze verify prints nothing of {unit}", not lines, lines)
     rated = re.search(r"exposure level for pathd.service: (\S+)", must("systemd-analyze", "security", "--no-pager", "pathd.service"))
@@ -337,12 +356,15 @@ def look_at_walls() -> None:
 
 
 def fill_sessions() -> None:
-    """64 sessions under the limits of the unit, and the 65th."""
+    """All sessions of both listeners under the limits of the unit, and one more of each."""
     nothing = messages.lookup_frame(LEAF, CORE)
-    held = [Session() for _ in range(FULL)]
-    STEPS.expect("64 sessions are served at one time under the unit's limits", all(session.ask(nothing)[0] == 0x82 for session in held))
-    with Session() as one_more:
-        STEPS.expect("the 65th gets 0x61", one_more.read() == b"\xff\x61")
+    seats = {PORT: FULL, LOOKUPS_PORT: FULL_OF_LOOKUPS}
+    held = [Session(port=port) for port, count in seats.items() for _ in range(count)]
+    STEPS.expect("48 and 16 sessions are served at one time under the unit's limits", all(session.ask(nothing)[0] == 0x82 for session in held))
+    for port in seats:
+        with Session(port=port) as one_more:
+            STEPS.expect(f"one more at {port} gets 0x61", one_more.read() == b"\xff\x61")
+    STEPS.expect("a command at the listener for lookups gets 0x64", held[-1].ask(messages.command_frame(row(0))) == b"\xff\x64")
     for session in held:
         session.socket.close()
 
@@ -388,7 +410,7 @@ def end_by_status() -> None:
     STEPS.expect("it is up by itself once the address is free", until(is_up))
     STEPS.expect("the journal has `error: net`", "error: net" in journal("pathd", begun), journal("pathd", begun))
     must("systemctl", "stop", "pathd")
-    words = drop_in("words", "[Service]\nExecStart=\nExecStart=/usr/local/bin/pathd run\n")
+    words = drop_in("words", f"[Service]\nExecStart=\nExecStart={PATHD} run\n")
     run("systemctl", "reset-failed", "pathd")
     run("systemctl", "start", "pathd")
     until(is_down)
@@ -477,7 +499,7 @@ def back_up() -> None:
     ROWS.register_many(5)
     must("systemctl", "stop", "pathd")
     must(*words)
-    status = must("/usr/local/bin/pathd", "status", copy)
+    status = must(PATHD, "status", copy)
     text = shown()
     STEPS.expect("`status` of a copy at rest prints its place", f"place {text.split()[-1]}\n" in status, status)
     start()
@@ -538,21 +560,20 @@ def start_gateway() -> bool:
 
 def serve_by_gateway() -> None:
     """'Running it' of docs/GATEWAY.md: the unit of the gateway, before the server."""
-    if not os.access(GATEWAY, os.X_OK):
-        STEPS.leave_out(GATEWAY_UNIT, f"there is no {GATEWAY}")
+    packages = list(TOP.glob("out/pathd-gateway_*.deb"))
+    if not packages:
+        STEPS.leave_out(GATEWAY_UNIT, "there is no package of it")
         return
-    done = run("make", "install-gateway", cwd=TOP)
-    STEPS.expect("`make install-gateway` installs the gateway", done.returncode == 0, done.stderr)
-    done = run("sh", TOP / "deploy/debian/gateway/postinst", "configure")
-    STEPS.expect("its user is made as its package makes it", done.returncode == 0 and run("id", "pathd-gateway").returncode == 0, done.stderr)
+    done = run("dpkg", "--install", *packages)
+    STEPS.expect("the gateway's package is installed, and has made its user", done.returncode == 0 and run("id", "pathd-gateway").returncode == 0, done.stderr)
     begun = time.time()
     STEPS.expect("the unit of the gateway starts", start_gateway(), run("systemctl", "status", GATEWAY_UNIT).stdout)
     STEPS.expect("the journal has the line of its address", until(lambda: f"serves at 127.0.0.1:{GATEWAY_PORT}" in journal("pathd-gateway", begun)), journal("pathd-gateway", begun))
     STEPS.expect("a lookup by Connect finds segments", look_up_by_gateway() > 0)
     look_at_walls_of_gateway()
     end_gateway()
-    must("make", "-C", TOP, "uninstall-gateway")
-    must("systemctl", "daemon-reload")
+    done = run("dpkg", "--purge", "pathd-gateway")
+    STEPS.expect("its package is removed, and its unit with it", done.returncode == 0 and property_of("LoadState", GATEWAY_UNIT) == "not-found", done.stderr)
 
 
 def look_at_walls_of_gateway() -> None:
@@ -571,7 +592,7 @@ def look_at_walls_of_gateway() -> None:
     STEPS.expect("it listens at 127.0.0.1 alone", listens.count("\n") == 1 and f"127.0.0.1:{GATEWAY_PORT}" in listens, listens)
     limits = Path(f"/proc/{pid}/limits").read_text()
     STEPS.expect("it may have 4096 descriptors", re.search(r"Max open files +4096 +4096", limits) is not None, limits)
-    done = run("systemd-analyze", "verify", TOP / "deploy" / GATEWAY_UNIT)
+    done = run("systemd-analyze", "verify", f"/usr/lib/systemd/system/{GATEWAY_UNIT}")
     lines = [line for line in done.stderr.splitlines() if "pathd" in line]
     STEPS.expect("systemd-analyze verify prints nothing of its unit", not lines, lines)
 
@@ -639,7 +660,7 @@ def serve_volume(device: str) -> None:
     """A volume as DEV under the unit, by the lines of the page for its service."""
     service = block("operating/install", "A volume as DEV").text.partition("[Service]\n")[2].replace("/dev/DISK", device)
     must("chown", "pathd", device)
-    must("runuser", "-u", "pathd", "--", "/usr/local/bin/pathd", "format", device, "--checkpoint", "64", "--journal", "4096")
+    must("runuser", "-u", "pathd", "--", PATHD, "format", device, "--checkpoint", "64", "--journal", "4096")
     set_settings(STORE=device)
     begun = time.time()
     run("systemctl", "reset-failed", "pathd")

@@ -1,7 +1,6 @@
 """Installs the pages alone into a folder that is thrown away, as `make install` does, and tries what
 is on them. It prints each link that leads nowhere, and each line of a block that names a folder of
-the repository, which a server from the package lacks; and nothing else. The blocks of README.md are
-for the repository.
+the repository, which a server from the package lacks; and nothing else.
 
     tools/pathd-tools installed [--folder FOLDER]
 
@@ -35,8 +34,7 @@ def faults(folder: Path) -> list[str]:
     for page in sorted(folder.glob("**/*.md")):
         name = page.relative_to(folder)
         found += [f"{name}: {link}" for link in LINK.findall(prose(page)) if is_dead(page, link, folder)]
-        if page.name != "README.md":
-            found += [f"{name}: {line.strip()}" for line in blocks(page) if LACKING.search(line)]
+        found += [f"{name}: {line.strip()}" for line in blocks(page) if LACKING.search(line)]
     return found
 
 

@@ -16,7 +16,7 @@ END = "<!-- end -->"
 def pages() -> list[Path]:
     """README.md and what is beside it, docs/, the crates' pages and what is beside them, and those of clients, tools and the gateway."""
     found = [*TOP.glob("*.md"), *(TOP / "docs").glob("**/*.md"), *CRATES.glob("*.md"), *CRATES.glob("*/README.md")]
-    found += [*TOP.glob("clients/**/*.md"), *TOP.glob("tools/**/*.md"), *TOP.glob("bench/*.md"), *TOP.glob("deploy/*.md"), *TOP.glob("gateway/*.md")]
+    found += [*TOP.glob("clients/**/*.md"), *TOP.glob("tools/**/*.md"), *TOP.glob("bench/*.md"), *TOP.glob("deploy/**/*.md"), *TOP.glob("gateway/*.md")]
     return sorted(found)
 
 
