@@ -106,10 +106,12 @@ def compiler_words(words: list[str], kit: Path, kept: Path, level: int) -> list[
     return [str(clang), *(sysroot if word.startswith("--sysroot=") else changed.get(word, word) for word in left), f"-O{level}"]
 
 
-def build(crate: Path, program: Path, level: int = 1, has_tests: bool = False, begin: Callable[[str], None] = lambda _: None) -> None:
+def build(
+    crate: Path, program: Path, level: int = 1, has_tests: bool = False, begin: Callable[[str], None] = lambda _: None, objects: Sequence[Path] = ()
+) -> None:
     """Builds the program of a crate's folder, or that of its tests, by LLVM at an optimization level; else it raises NotBuilt.
 
-    `begin` is called with the name of each stage as it begins.
+    `begin` is called with the name of each stage as it begins. The objects are linked into the program.
     """
     kit = kit_of_rt()
     with tempfile.TemporaryDirectory(prefix="pathd-build-") as name:
@@ -122,4 +124,4 @@ def build(crate: Path, program: Path, level: int = 1, has_tests: bool = False, b
         libraries = [str(kit / "c" / it) for it in ("libos_c.a", "liblibc_c.a")]
         begin(LINKER)
         linker = [str(kit / "bin" / "rattle-link"), "--target", TARGET, "--toolchain", str(kit / "toolchain")]
-        step([*linker, "-o", str(program), str(module), *libraries], f"the linker for {crate.name}", program)
+        step([*linker, "-o", str(program), str(module), *objects, *libraries], f"the linker for {crate.name}", program)
