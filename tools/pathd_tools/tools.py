@@ -8,7 +8,7 @@ PAGES = [
     Tool("proofs", "pages.proofs", "each contract, clause, file and edit that docs/PROOFS.md and the crates' pages name exists"),
     Tool("reading", "pages.reading", "which definitions a reader of the contracts has to believe; --check, --write"),
     Tool("words", "pages.words", "prints every definition of specs/ from A to Z, with its place"),
-    Tool("complete", "pages.complete", "each public function, and each word that a public contract cites, is on its crate's page"),
+    Tool("complete", "pages.complete", "each public function, and each word that a public contract cites, has a comment"),
     Tool("widths", "pages.widths", "prose of 100 columns, tables of 160, sentences of 40 words; --write"),
     Tool("uses", "pages.uses", "each use on a crate's page is in the sources that the page links"),
     Tool("blocks", "pages.blocks", "each block of commands has a tool that carries it out, or says why none does; --list"),

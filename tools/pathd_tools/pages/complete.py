@@ -1,6 +1,6 @@
-"""Prints what the pages of crates lack: each public function of a crate, and each definition of its
-specs/ that a public contract cites, of this crate or of another, which is not between backticks on
-the page of its crate. It prints nothing where nothing is lacking.
+"""Prints each public function of a crate, and each definition of its specs/ that a public contract cites,
+of this crate or of another, which has no comment, and each library without a page. It prints nothing
+where nothing is lacking.
 
 A public contract is the signature and the clauses of a `pub fn` or of a method of a public trait, and
 the ghost members of a trait or an `impl`: the relations that it gives, and what contracts see of a
@@ -15,7 +15,6 @@ from functools import cache
 from pathlib import Path
 
 from pathd_tools.pages import source
-from pathd_tools.pages.pages import quoted
 from pathd_tools.pages.reading import resolve
 from pathd_tools.pages.source import CRATES, Definition, Function
 from pathd_tools.toolbox import parser
@@ -65,20 +64,20 @@ def words_of(crate: str) -> list[Definition]:
     return [it for path in files for it in source.definitions(path).values() if (path, it.name) in cited()]
 
 
+def has_comment(path: Path, line: int, mark: str) -> bool:
+    """Whether a comment that begins with this mark is before a line, with attributes alone between them, or on the file's first line."""
+    lines = source.lines_of(path)
+    before = (it.strip() for it in reversed(lines[: line - 1]))
+    return next((it for it in before if not it.startswith("#[")), "").startswith(mark) or lines[0].startswith(mark)
+
+
 def lacking(crate: str) -> list[str]:
-    """The public functions, and the words of public contracts, that are not on the page of their crate."""
-    page = CRATES / crate / "README.md"
-    if not page.is_file():
+    """The public functions, and the words of public contracts, that have no comment."""
+    if not (CRATES / crate / "README.md").is_file():
         return [f"crates/{crate} has no README.md"]
-    known = quoted(page)
-    found = []
-    for it in source.functions(crate):
-        if it.is_public and not it.is_test and it.name not in known:
-            found.append(f"crates/{crate}/README.md lacks the function `{it.name}` of {it.path.relative_to(CRATES / crate)}:{it.line}")
-    for word in words_of(crate):
-        if word.name.strip("◌") not in known and word.name not in known:
-            found.append(f"crates/{crate}/README.md lacks `{word.name}` of {word.path.relative_to(CRATES / crate)}:{word.line}")
-    return found
+    functions = [it for it in source.functions(crate) if it.is_public and not it.is_test and not has_comment(it.path, it.line, "///")]
+    words = [it for it in words_of(crate) if not has_comment(it.path, it.line, "--")]
+    return [f"{it.path.relative_to(CRATES.parent)}:{it.line}: `{it.name}` has no comment" for it in [*functions, *words]]
 
 
 def main(words: list[str]) -> int:

@@ -26,18 +26,6 @@ def prose(path: Path) -> str:
     return re.sub(r"^( *)```.*?^\1```", "", path.read_text(), flags=re.S | re.M)
 
 
-@cache
-def quoted(path: Path) -> frozenset[str]:
-    """What is between backticks on a page, and the words of it."""
-    found = set()
-    for it in re.findall(r"`([^`]+)`", prose(path)):
-        text = " ".join(it.split())
-        found.add(text)
-        found.update(re.split(r"[\s,;()]+", text))
-        found.update(re.split(r"::|\.|/", text))
-    return frozenset(found)
-
-
 def put_block(path: Path, begin: str, made: str, writes: bool) -> int:
     """Writes the block of a page after the mark `begin`, or says that the page has another one: 1 where it has. The mark names the tool that writes."""
     text = path.read_text()
