@@ -3,10 +3,11 @@
 use std::array;
 use std::sync::Condvar;
 
-/// The number of condition variables: twice the most commands of a group.
-pub(crate) const CONDVARS: usize = 64;
+/// The number of condition variables. The commands of 64 sessions that are 8 ahead each have one
+/// each, so that a thread is woken for its own answer alone.
+pub(crate) const CONDVARS: usize = 512;
 
-/// The condition variables: the command of number n has the one of index n modulo 64.
+/// The condition variables: the command of number n has the one of index n modulo 512.
 #[derive(Drop)]
 pub(crate) struct Condvars {
     condvars: [Condvar; CONDVARS],
@@ -20,8 +21,8 @@ impl Condvars {
         }
     }
 
-    /// The condition variable of the command of a number. Each 64th command after it has
-    /// the same one.
+    /// The condition variable of the command of a number. Each 512th command after it has the same
+    /// one.
     pub fn of(&self, number: u64) -> &Condvar {
         &self.condvars[(number % CONDVARS as u64) as usize]
     }

@@ -6,6 +6,12 @@ use std::sync::atomic::{AtomicBool, Ordering};
 use std::sync::{Condvar, Mutex, Wait};
 use std::time::Duration;
 
+/// The bits of a word.
+const BITS: usize = 64;
+
+/// The number of words that have a bit for each condition variable.
+const WORDS: usize = CONDVARS / BITS;
+
 /// The longest sleep of the thread that notifies, in milliseconds.
 const LONGEST_SLEEP: u64 = 10;
 
@@ -16,8 +22,8 @@ const LONGEST_SLEEP: u64 = 10;
 #[derive(Drop)]
 pub struct Waker {
     condvars: Condvars,
-    /// For each condition variable, whether it must be notified.
-    due: Mutex<[bool; CONDVARS]>,
+    /// For each condition variable, a bit that says whether it must be notified.
+    due: Mutex<[u64; WORDS]>,
     calls: Condvar,
     has_thread: AtomicBool,
     is_over: AtomicBool,
@@ -28,7 +34,7 @@ impl Waker {
     pub fn new() -> Waker {
         Waker {
             condvars: Condvars::new(),
-            due: Mutex::new([false; CONDVARS]),
+            due: Mutex::new([0; WORDS]),
             calls: Condvar::new(),
             has_thread: AtomicBool::new(false),
             is_over: AtomicBool::new(false),
@@ -42,7 +48,8 @@ impl Waker {
 
     /// Notes that the condition variable of a number must be notified.
     pub fn note<R: Wait>(&self, rt: &R, number: u64) {
-        self.due.lock(rt)[(number % CONDVARS as u64) as usize] = true;
+        let index = (number % CONDVARS as u64) as usize;
+        self.due.lock(rt)[index / BITS] |= 1 << (index % BITS);
     }
 
     /// Has the noted condition variables notified: by the waker's thread, where it has one and
@@ -83,16 +90,23 @@ impl Waker {
     }
 
     /// The number of condition variables that are noted.
-    fn count_due<R: Wait>(&self, rt: &R) -> usize {
-        self.due.lock(rt).iter().filter(|is_due| **is_due).count()
+    fn count_due<R: Wait>(&self, rt: &R) -> u32 {
+        let mut count = 0u32;
+        for word in self.due.lock(rt).iter() {
+            count = count.saturating_add(word.count_ones());
+        }
+        count
     }
 
     /// Notifies the condition variables that are noted.
     fn notify_due<R: Wait>(&self, rt: &R) {
-        let due = replace(&mut *self.due.lock(rt), [false; CONDVARS]);
-        for (index, is_due) in due.iter().enumerate() {
-            if *is_due {
-                self.condvars.of(index as u64).notify_all();
+        let due = replace(&mut *self.due.lock(rt), [0; WORDS]);
+        for (word, bits) in due.iter().enumerate() {
+            let mut left = *bits;
+            for _ in 0..left.count_ones() {
+                let index = (BITS * word) as u64 + u64::from(left.trailing_zeros());
+                self.condvars.of(index).notify_all();
+                left &= left.wrapping_sub(1);
             }
         }
     }

@@ -10,8 +10,8 @@ use std::time::{Clock, Duration, Instant};
 use std::{array, thread};
 
 /// How many condition variables there are: the command of a number has the condition variable of
-/// the number modulo 64.
-const CONDVARS: u64 = 64;
+/// the number modulo 512.
+const CONDVARS: u64 = 512;
 
 /// Sees how often the condition variables were notified: those of 3 and of 5 this often, and the
 /// others never.
