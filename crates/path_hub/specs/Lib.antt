@@ -1,2 +1,3 @@
 pub mod HubLeftView
+pub mod Judging
 pub mod Sending

@@ -18,7 +18,7 @@ use sector_dev::Device;
 use std::alloc::Global;
 use std::collections::VecDeque;
 use std::sync::atomic::Ordering;
-use std::sync::{Arc, MutexGuard, Wait};
+use std::sync::{Arc, Wait};
 use std::time::Clock;
 use store_loops::Awaited;
 
@@ -165,14 +165,6 @@ impl<D: Device, N: HubName, R: Wait + Clock> Hub<D, N, R> {
         let mut locked = self.lock_state();
         self.take_commands(&mut locked, u64::MAX);
         self.end_call(locked, Done::Nothing);
-    }
-
-    /// Judges a command by the state.
-    pub(crate) fn judge(&self, command: &Command) -> Result<(), SubmitError> {
-        let locked = self.lock_state();
-        let judged = locked.state.judge(command);
-        MutexGuard::unlock(locked);
-        judged
     }
 
     /// Answers all commands whose outcome is known: those that are committed, and all others where

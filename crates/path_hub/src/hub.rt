@@ -10,6 +10,7 @@ ghost use Rattle.hub_status.specs.Numbers.{AreNumbers};
 
 use crate::guarded::Locked;
 use crate::handing::submit_error;
+use crate::judging::judge_by;
 use command_queue::{CommandQueue, EndedSenders, NotQueued, Sender, Senders};
 use group_core::{Numbers, SubmitError};
 use hub_claims::{HubClaim, HubError, HubName, Patient, Slot, Waiter};
@@ -137,10 +138,10 @@ impl<D: Device, N: HubName, R: Wait + Clock> Hub<D, N, R> {
 
     /// Hands a command of a sender in, and returns a claim on its answer. The sender notes the
     /// command, and is as it was where the command is refused. The state's lock is not taken,
-    /// unless the command is refused or the hub has no thread for its flusher. A command is refused
-    /// as the state would refuse it. It is also refused as busy where 8,448 commands wait, and for
-    /// want of memory where no room is given for the command and its answer. Commands are submitted
-    /// in the order in which they were handed in.
+    /// unless the hub has no thread for its flusher. A command is refused as busy where 8,448
+    /// commands wait, and for want of memory where no room is given for the command and its answer,
+    /// unless the state would refuse it for a reason that comes before. Commands are submitted in
+    /// the order in which they were handed in.
     pub fn hand_in(&self, sender: &mut Sender<N>, command: Command) -> Result<HubClaim<N>, HubError>
         ensures claim { IfOk result (λ claim. claim ≡ command) }
         ensures sent { NotesTaken command result sender.old sender.new }
@@ -229,13 +230,18 @@ impl<D: Device, N: HubName, R: Wait + Clock> Hub<D, N, R> {
         Ok((slot, reply_to))
     }
 
-    /// Why a command is refused that was not queued. What the state itself would refuse comes
-    /// first.
+    /// Why a command is refused that was not queued. A queue is closed once the state has stopped.
+    /// Else what the state would refuse comes first, by its numbers at the end of the last guarded
+    /// call. The state's lock is not taken.
     fn refusal(&self, command: &Command, why: NotQueued) -> SubmitError {
-        if let Err(refusal) = self.judge(command) {
-            return refusal;
+        if why == NotQueued::Closed {
+            return SubmitError::Stopped;
         }
-        submit_error(why)
+        let (numbers, _completed) = self.numbers();
+        match judge_by(&numbers, command) {
+            Ok(()) => submit_error(why),
+            Err(refusal) => refusal,
+        }
     }
 
     /// The numbers of the state at the end of the last guarded call, and how much both actors had

@@ -21,6 +21,7 @@
 mod guarded;
 mod handing;
 mod hub;
+mod judging;
 mod left;
 mod making;
 mod new_name;

@@ -5,7 +5,7 @@
 use crate::checks::{assert_same, assert_true};
 use crate::host::Host;
 use crate::queues::said::{Handed, Said, hand_in, push, room, settle};
-use crate::workloads::{Errand, Tasks, attended, nap};
+use crate::workloads::{Errand, Tasks, attended};
 use group_core::SubmitError;
 use hub_claims::{HubError, HubName};
 use path_db::Command;
@@ -27,20 +27,12 @@ use test_hub_scripts::stores::{
 /// How many commands are handed in while a sync is held: the queue grows several times.
 const AHEAD: u64 = 100;
 
-/// How many naps the sync is held for at least, where not all commands are handed in: a command
-/// that is refused waits for the state's lock, which the sync has.
-const NAPS: u64 = 10;
-
-/// How many naps the second task waits for a sync to be held.
-const MOST_NAPS: u64 = 400;
-
-/// The first task hands a purge in, waits until its sync is held, hands more in, and sees that
-/// they are committed in their order. The second task lets the sync go on where it has to.
+/// Hands a purge in, waits until its sync is held, hands more in, and sees that they are committed
+/// in their order.
 #[derive(Drop)]
 struct Grows<'a> {
     alloc: Global,
     door: &'a Door,
-    handed: AtomicU64,
     settled: AtomicU64,
 }
 
@@ -69,42 +61,9 @@ impl Grows<'_> {
         assert_true(rt, is_held, "a sync is held");
         for _ in 0..AHEAD {
             push(rt, &mut all, hand_in_again(hub, senders));
-            self.handed.fetch_add(1, Ordering::SeqCst);
         }
         self.door.open(rt);
         all
-    }
-
-    /// Hands all purges in, and sees that they are committed.
-    fn settle_all<D: Device, N: HubName, R: Wait + Clock + Abort>(
-        &self,
-        hub: &Hub<D, N, R>,
-        senders: &Senders<N>,
-    ) {
-        let mut place = 0;
-        for handed in self.hand_in(hub, senders) {
-            let (said, _outcome) = settle(hub, handed);
-            assert_same(hub.handle(), &said, &Said::Committed(place), &"said");
-            place = place.saturating_add(1);
-        }
-        self.settled.store(place, Ordering::SeqCst);
-    }
-
-    /// Opens the door once all purges are handed in, or after some naps.
-    fn go_on<R: Wait + Clock>(&self, rt: &R) {
-        for _ in 0..MOST_NAPS {
-            if self.door.latch(rt) == Latch::Held {
-                break;
-            }
-            nap(rt);
-        }
-        for _ in 0..NAPS {
-            if self.handed.load(Ordering::SeqCst) == AHEAD {
-                break;
-            }
-            nap(rt);
-        }
-        self.door.open(rt);
     }
 }
 
@@ -113,13 +72,15 @@ impl Errand for Grows<'_> {
         &self,
         hub: &Hub<D, N, R>,
         senders: &Senders<N>,
-        task: u64,
+        _task: u64,
     ) {
-        if task == 0 {
-            self.settle_all(hub, senders);
-        } else {
-            self.go_on(hub.handle());
+        let mut place = 0;
+        for handed in self.hand_in(hub, senders) {
+            let (said, _outcome) = settle(hub, handed);
+            assert_same(hub.handle(), &said, &Said::Committed(place), &"said");
+            place = place.saturating_add(1);
         }
+        self.settled.store(place, Ordering::SeqCst);
     }
 }
 
@@ -137,7 +98,7 @@ fn held_store<R: Wait + Clock + Abort + Copy>(
     )
 }
 
-/// A hub with both tasks over a device whose syncs are held: the device, and how many tasks there
+/// A hub with the task over a device whose syncs are held: the device, and how many tasks there
 /// were.
 fn held<R: Wait + Clock + Threads + Abort + Copy + Drop + Send + Sync>(
     rt: R,
@@ -163,11 +124,11 @@ fn grown_again<R: Wait + Clock + Threads + Abort + Copy + Drop + Send + Sync>(
     let store = held_store(rt, alloc, tasks.errand.door, device);
     assert_contents(&Host(rt), contents_of(&store), Contents::empty_at(0));
     let (device, again) = held(rt, alloc, store, tasks);
-    assert_same(&rt, &again, &Ok(2), &"attended");
+    assert_same(&rt, &again, &Ok(1), &"attended");
     device
 }
 
-/// A hub with both tasks, and once more where memory is refused for it: the device.
+/// A hub with the task, and once more where memory is refused for it: the device.
 fn grown<R: Wait + Clock + Threads + Abort + Copy + Drop + Send + Sync>(
     rt: R,
     alloc: Global,
@@ -190,13 +151,12 @@ fn refused_commands_may_be_handed_in_again(rt: HostRuntime) {
     let grows = Grows {
         alloc,
         door: &door,
-        handed: AtomicU64::new(0),
         settled: AtomicU64::new(0),
     };
-    let tasks = Tasks::new(2, grows);
+    let tasks = Tasks::new(1, grows);
     let device = grown(&rt, alloc, &tasks);
     let settled = tasks.errand.settled.load(Ordering::SeqCst);
-    // Where no thread was given for the first task, nobody has handed a purge in.
+    // Where no thread was given for the task, nobody has handed a purge in.
     let is_right = settled == AHEAD + 1 || (settled == 0 && tasks.missed() == 1);
     assert_same(&rt, &is_right, &true, &settled);
     let _device = assert_opens_to(&host, alloc, device, Contents::empty_at(settled));
