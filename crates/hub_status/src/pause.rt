@@ -4,7 +4,7 @@ ghost use Rattle.std.specs.Prelude.{◌≤◌};
 ghost use Rattle.std.specs.Duration.{as_nanos};
 
 use crate::changes::LONGEST_REST;
-use std::sync::atomic::{AtomicU64, Ordering};
+use std::sync::atomic::{AtomicBool, AtomicU64, Ordering};
 use std::time::Duration;
 
 /// A pause is at most this part of the last sync.
@@ -24,12 +24,14 @@ const MOST_AWAITED: u64 = 16;
 /// about as long to send again.
 const LEAST_PAUSE: u64 = 100;
 
-/// How many sessions may be about to send again, and how long the flusher may wait for them. The
-/// flusher alone writes these numbers.
+/// How many sessions may be about to send again, and how long the flusher may wait for them. Who
+/// makes the flusher's steps writes these numbers.
 #[derive(Drop)]
 pub struct Pause {
     /// The commands of the last group that was published, until the flusher has paused for them.
     answered: AtomicU64,
+    /// Whether the last group that was published had one command.
+    was_alone: AtomicBool,
     /// The time that the last sync took, in microseconds.
     sync: AtomicU64,
     /// How many more groups follow without a pause.
@@ -43,15 +45,24 @@ impl Pause {
     pub(crate) fn new() -> Pause {
         Pause {
             answered: AtomicU64::new(0),
+            was_alone: AtomicBool::new(false),
             sync: AtomicU64::new(0),
             skipped: AtomicU64::new(0),
             last_skipped: AtomicU64::new(0),
         }
     }
 
-    /// Notes that a group of this many commands was published.
+    /// Notes that a group of this many commands was published, or a seal, which has none.
     pub fn note_answered(&self, commands: u64) {
         self.answered.store(commands, Ordering::SeqCst);
+        if commands > 0 {
+            self.was_alone.store(commands == 1, Ordering::SeqCst);
+        }
+    }
+
+    /// Whether the last group that was published had one command. It is not so before the first.
+    pub fn was_alone(&self) -> bool {
+        self.was_alone.load(Ordering::SeqCst)
     }
 
     /// The number of commands that were answered since this was last asked.

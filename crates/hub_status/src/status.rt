@@ -121,6 +121,12 @@ impl HubStatus {
         (shown.numbers, shown.completed)
     }
 
+    /// Whether no command was pending at the end of the last guarded call. No clause can say that:
+    /// what the status shows is under a lock.
+    pub fn is_idle<R: Wait>(&self, rt: &R) -> bool {
+        self.shown.lock(rt).numbers.pending == 0
+    }
+
     /// The call of the device that is under way, and the time that it has taken so far, in
     /// microseconds. The result is `None` where no call is under way, or the clock cannot be read.
     pub fn under_way<R: Wait + Clock>(&self, rt: &R) -> Option<(DeviceCall, u64)> {

@@ -149,7 +149,9 @@ impl<D: Device, N: HubName, R: Wait + Clock> Hub<D, N, R> {
     {
         match self.queue_up(sender, command) {
             Ok(claim) => {
-                self.changes.announce(Awaited::Work);
+                if !self.may_lead() {
+                    self.changes.announce(Awaited::Work);
+                }
                 if !self.has_flusher.load(Ordering::SeqCst) {
                     self.take_at_once();
                 }
@@ -162,7 +164,8 @@ impl<D: Device, N: HubName, R: Wait + Clock> Hub<D, N, R> {
     /// Waits for the answer to a command that was handed in. The receipt shows the command, and its
     /// note a place above the command's own. A command that is not accepted is refused. Where the
     /// state stops before the command is committed, the error has the command's place, and it is
-    /// not known whether the store keeps the command. The state's lock is not taken.
+    /// not known whether the store keeps the command. Where no other command waits and nothing is in
+    /// flight, this thread may commit the command itself. Otherwise the state's lock is not taken.
     #[tactic(auto, using(crate::proofs::Committed::refuses))]
     pub fn settle(&self, claim: HubClaim<N>) -> Result<HubReceipt<N>, HubError>
         ensures committed { IfOk result (ReceiptShows N.opening claim) }
@@ -173,8 +176,9 @@ impl<D: Device, N: HubName, R: Wait + Clock> Hub<D, N, R> {
 
     /// Waits for the answer as `settle` does, and gives up where who waits for it has left. The
     /// waiter is asked after each rest, of at most 10 milliseconds, after which there is no answer.
-    /// One that had left before is asked before the first rest, too.
-    /// Where the wait is given up, the command goes on: it is committed or refused as any other.
+    /// One that had left before is asked before the first rest, too. It is not asked while this
+    /// thread commits the command itself. Where the wait is given up, the command goes on: it is
+    /// committed or refused as any other.
     #[tactic(auto, using(crate::proofs::Committed::ends_waiting))]
     pub fn settle_for<W: Waiter>(
         &self,
@@ -195,8 +199,10 @@ impl<D: Device, N: HubName, R: Wait + Clock> Hub<D, N, R> {
             if is_asked && waiter.has_left() {
                 return Err(HubError::NotAwaited);
             }
-            condvar.sleep(&self.rt, seen, Duration::from_millis(LONGEST_REST));
-            is_asked = true;
+            if !self.lead() {
+                condvar.sleep(&self.rt, seen, Duration::from_millis(LONGEST_REST));
+                is_asked = true;
+            }
         }
         unreachable!()
     }

@@ -22,6 +22,7 @@ mod guarded;
 mod handing;
 mod hub;
 mod judging;
+mod leading;
 mod left;
 mod making;
 mod new_name;

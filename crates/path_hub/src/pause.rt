@@ -50,7 +50,7 @@ impl<D: Device, N: HubName, R: Wait + Clock> Hub<D, N, R> {
     }
 
     /// The number of commands that wait in the queue.
-    fn waiting(&self) -> u64 {
+    pub(crate) fn waiting(&self) -> u64 {
         self.queue.lock(&self.rt).len() as u64
     }
 

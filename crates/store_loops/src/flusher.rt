@@ -2,7 +2,7 @@
 
 use crate::retrying::retry;
 use crate::steps::{Awaited, Steps};
-use crate::watch::{Actor, Watch, note_memory};
+use crate::watch::{Actor, Silent, Watch, note_memory};
 use group_core::{Commit, Following, Opened, PublishError, Stable, StageError, Staged};
 use std::sync::Wait;
 
@@ -31,6 +31,16 @@ pub fn flusher_loop<R: Wait, S: Steps, W: Watch>(rt: &R, steps: &S, watch: &W)
         }
     }
     unreachable!()
+}
+
+/// Takes what is staged through all its steps in place of the flusher, to which the next group is
+/// left. A state that stops in between spends the value.
+pub fn commit_once<R: Wait, S: Steps>(rt: &R, steps: &S, staged: Staged) {
+    if let Some(stable) = make_stable(rt, steps, staged)
+        && let Some(opened) = retry(rt, steps, stable, |value| steps.open_gate(value))
+    {
+        commit_alone(rt, steps, &Silent, opened);
+    }
 }
 
 /// Takes what is staged through all its steps, and after it each group that follows. A state that

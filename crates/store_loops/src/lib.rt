@@ -18,6 +18,6 @@ mod watch;
 pub use calls::DeviceCall;
 pub use checkpointer::checkpointer_loop;
 pub use commits::{BUCKETS, Bucket, CommitTimes, SECOND};
-pub use flusher::flusher_loop;
+pub use flusher::{commit_once, flusher_loop};
 pub use steps::{Awaited, Steps};
 pub use watch::{Actor, Notice, Silent, Watch};

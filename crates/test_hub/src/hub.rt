@@ -3,6 +3,7 @@
 //! where memory or the device is refused.
 
 mod ahead;
+mod alone;
 mod given_up;
 mod held;
 mod learnt;
