@@ -44,8 +44,8 @@ type Result struct {
 	Err error
 }
 
-// NotAcknowledged is the error of a command that too few servers have acknowledged: before the
-// context ended, or for good. It wraps the error of the context.
+// NotAcknowledged is the error of a command that too few servers have acknowledged. It wraps the error
+// of the context that ended before, ErrClosed, or else the first refusal, as Full, or an ErrDropped.
 type NotAcknowledged struct {
 	Results []Result // one for each server
 	cause   error
@@ -62,7 +62,7 @@ func (e *NotAcknowledged) Error() string {
 	return text
 }
 
-// Unwrap answers the error of the context, where it ended.
+// Unwrap answers what it wraps.
 func (e *NotAcknowledged) Unwrap() error {
 	return e.cause
 }
@@ -74,6 +74,26 @@ func acknowledged(results []Result) (count int) {
 		}
 	}
 	return count
+}
+
+// firstAck answers the acknowledgement of the first server that has one.
+func firstAck(results []Result) Ack {
+	for _, it := range results {
+		if it.Err == nil {
+			return it.Ack
+		}
+	}
+	return Ack{}
+}
+
+// refusalAmong answers the first error of a server that does not take a command.
+func refusalAmong(results []Result) error {
+	for _, it := range results {
+		if it.Err != nil && it.Err != ErrWaiting {
+			return it.Err
+		}
+	}
+	return nil
 }
 
 // delivery is a command that goes to several servers.

@@ -66,6 +66,14 @@ func ReadAck(body []byte) (Ack, error) {
 	return Ack{binary.BigEndian.Uint64(body), number(8), number(12), number(16), number(20)}, nil
 }
 
+func ackBody(ack Ack) []byte {
+	body := binary.BigEndian.AppendUint64(nil, ack.Place)
+	for _, it := range []uint32{ack.Inserted, ack.Updated, ack.Kept, ack.Purged} {
+		body = binary.BigEndian.AppendUint32(body, it)
+	}
+	return body
+}
+
 // ReadFound reads the body of the reply to a lookup: segments of the three types that there are.
 func ReadFound(body []byte) (*pb.SegmentsResponse, error) {
 	found := new(pb.SegmentsResponse)

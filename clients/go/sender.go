@@ -118,6 +118,7 @@ func (s *sender) settle(batch []*delivery, results []Result, err error) error {
 	}
 	s.queue.end(settled)
 	s.state.Err = err
+	s.link.counts.repeated.Add(uint64(len(batch) - settled))
 	s.servers.notify()
 	return err
 }

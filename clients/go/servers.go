@@ -47,6 +47,7 @@ type Servers struct {
 	options Options
 	senders []*sender
 	lookups []*link
+	counts  struct{ lookups, commands counts }
 	end     context.CancelFunc
 	running sync.WaitGroup
 
@@ -65,9 +66,9 @@ func NewServers(addresses []string, options Options) (*Servers, error) {
 	ctx, end := context.WithCancel(context.Background())
 	s := &Servers{options: options.filled(), end: end, changed: make(chan struct{})}
 	for number, address := range addresses {
-		s.lookups = append(s.lookups, newLink(address, options.Dialer, 0, window, new(counts)))
+		s.lookups = append(s.lookups, newLink(address, options.Dialer, 0, window, &s.counts.lookups))
 		s.senders = append(s.senders, &sender{
-			servers: s, number: number, link: newLink(address, options.Dialer, 0, window, new(counts)),
+			servers: s, number: number, link: newLink(address, options.Dialer, 0, window, &s.counts.commands),
 			queue: queue{most: s.options.Commands, mostBytes: s.options.Bytes},
 		})
 	}
@@ -129,6 +130,19 @@ func (s *Servers) Lookup(ctx context.Context, source, destination IsdAs) (*pb.Se
 		return nil, err
 	}
 	return ReadFound(body)
+}
+
+// Ask answers the body of the reply to a request, whose own body is sent as it is: of one server, as
+// Lookup does, or the acknowledgement of the first in the list of those that have taken a command.
+func (s *Servers) Ask(ctx context.Context, kind Kind, body []byte) ([]byte, error) {
+	if !kind.isCommand() {
+		return s.query(ctx, kind, body)
+	}
+	results, err := s.command(ctx, byte(kind), body)
+	if err != nil {
+		return nil, err
+	}
+	return ackBody(firstAck(results)), nil
 }
 
 // query answers the body of the reply to a lookup or a list.
@@ -198,10 +212,15 @@ func (s *Servers) command(ctx context.Context, kind byte, body []byte) ([]Result
 	}
 	err := s.wait(ctx, func() bool { return s.closed || s.isDecided(d) })
 	results := append([]Result(nil), d.results...)
-	if !s.isEnough(d) {
-		return results, &NotAcknowledged{results, err}
+	switch {
+	case s.isEnough(d):
+		return results, nil
+	case err == nil && s.isDecided(d):
+		err = refusalAmong(results)
+	case err == nil:
+		err = ErrClosed
 	}
-	return results, nil
+	return results, &NotAcknowledged{results, err}
 }
 
 // isEnough answers whether as many servers as it needs have acknowledged a command. The lock is held.
@@ -215,16 +234,24 @@ func (s *Servers) isEnough(d *delivery) bool {
 	return acknowledged(d.results) >= by.needed(len(d.results))
 }
 
-// isDecided answers whether enough servers have acknowledged a command, or can't any more. The lock is
-// held.
+// isDecided answers whether enough servers have acknowledged a command, or won't: those that are away are
+// not waited for by Present, where another one has refused it. The lock is held.
 func (s *Servers) isDecided(d *delivery) bool {
-	count := 0 // of those that have acknowledged it, or may
-	for _, it := range d.results {
-		if it.Err == nil || it.Err == ErrWaiting {
-			count++
+	waiting, waitedFor := 0, 0
+	for number, it := range d.results {
+		if it.Err != ErrWaiting {
+			continue
+		}
+		waiting++
+		if s.senders[number].state.Err == nil {
+			waitedFor++
 		}
 	}
-	return s.isEnough(d) || count < s.options.Acknowledge.needed(len(d.results))
+	if s.options.Acknowledge == Present {
+		return waitedFor == 0 && waiting < len(d.results)
+	}
+	count, needed := acknowledged(d.results), s.options.Acknowledge.needed(len(d.results))
+	return count >= needed || count+waiting < needed
 }
 
 func (s *Servers) put(d *delivery) error {

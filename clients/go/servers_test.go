@@ -60,10 +60,11 @@ func TestEachServerGetsEachCommandInOneOrder(t *testing.T) {
 	all.Wait()
 	servers.Remove(ctx, pb.SegmentType_SEGMENT_TYPE_UP, [32]byte{})
 	servers.Register(ctx, &pb.SegmentsRegistrationRequest{})
+	servers.Ask(ctx, KindRegister, []byte("a body"))
 	ofOne, _ := one.came()
 	ofOther, _ := other.came()
-	if len(ofOne) != 102 || !reflect.DeepEqual(ofOne, ofOther) {
-		t.Errorf("%d and %d commands", len(ofOne), len(ofOther))
+	if len(ofOne) != 103 || !reflect.DeepEqual(ofOne, ofOther) || string(ofOne[102]) != "\x01a body" {
+		t.Errorf("%d and %d commands, %q", len(ofOne), len(ofOther), ofOne[len(ofOne)-1])
 	}
 }
 
@@ -172,6 +173,10 @@ func TestAServerThatIsStartedAgain(t *testing.T) {
 	if commands, _ := store.came(); len(commands) != 2 || !reflect.DeepEqual(commands[0], commands[1]) {
 		t.Errorf("%x", commands)
 	}
+	lookups, commands := servers.Numbers()
+	if commands.Repeated -= commands.Failed; lookups != (Numbers{}) || commands != (Numbers{Open: 1, Opened: 2, Failed: commands.Failed, Ended: 1, Repeated: 1}) {
+		t.Errorf("%+v, %+v", lookups, commands)
+	}
 }
 
 func TestTooFewAcknowledge(t *testing.T) {
@@ -202,7 +207,12 @@ func TestRefusalsOfServers(t *testing.T) {
 	servers, ctx := serversOf(t, Options{}, up, full)
 	results, err := servers.Purge(ctx, Moment(1).Time())
 	var few *NotAcknowledged
-	if !errors.As(err, &few) || few.Unwrap() != nil || results[1].Err != Full {
+	if !errors.As(err, &few) || !errors.Is(err, Full) || results[1].Err != Full {
+		t.Errorf("%v, %v", results, err)
+	}
+	// One that is away is not waited for: what it would answer does not matter.
+	some, ctx := serversOf(t, Options{Acknowledge: Present}, full, newStore(t, taken))
+	if results, err := some.Purge(ctx, Moment(1).Time()); !errors.Is(err, Full) || results[1].Err != ErrWaiting {
 		t.Errorf("%v, %v", results, err)
 	}
 	for _, code := range []Code{NoMemory, Busy, Stopped, Unsettled, NotAwaited} {
@@ -237,6 +247,34 @@ func TestFullQueues(t *testing.T) {
 	dropping, ctx := serversOf(t, Options{Bytes: 1, Drop: true}, up)
 	if results, err := dropping.Purge(ctx, Moment(0).Time()); err == nil || results[0].Err != ErrDropped || dropping.States()[0].Dropped != 1 {
 		t.Errorf("%v, %v", results, err)
+	}
+}
+
+// The first server refuses each command.
+func TestWhatSeveralServersAreAsked(t *testing.T) {
+	full := running(t, refuses(Full))
+	up := running(t, func(content []byte) []byte {
+		if Kind(content[0]).isCommand() {
+			return append([]byte{replied | content[0]}, ackBody(Ack{1 << 40, 2, 3, 4, 5})...)
+		}
+		return []byte{replied | content[0], 7}
+	})
+	servers, ctx := serversOf(t, Options{Acknowledge: Present}, full, up)
+	for _, kind := range []Kind{KindRegister, KindPurge, KindRemove} {
+		reply, err := servers.Ask(ctx, kind, nil)
+		if ack, fault := ReadAck(reply); err != nil || fault != nil || ack != (Ack{1 << 40, 2, 3, 4, 5}) {
+			t.Errorf("%x, %v, %v", reply, err, fault)
+		}
+	}
+	full.stop()
+	for _, kind := range []Kind{KindLookup, KindList} {
+		if reply, err := servers.Ask(ctx, kind, nil); err != nil || string(reply) != "\x07" {
+			t.Errorf("%x, %v", reply, err)
+		}
+	}
+	up.setAnswer(refuses(Expired))
+	if _, err := servers.Ask(ctx, KindRegister, nil); !errors.Is(err, Expired) {
+		t.Error(err)
 	}
 }
 
@@ -303,7 +341,7 @@ func TestClosingServers(t *testing.T) {
 		servers.Close()
 	}()
 	var few *NotAcknowledged
-	if _, err := servers.Purge(ctx, Moment(1).Time()); !errors.As(err, &few) {
+	if _, err := servers.Purge(ctx, Moment(1).Time()); !errors.As(err, &few) || !errors.Is(err, ErrClosed) {
 		t.Error(err)
 	}
 	if _, err := servers.Purge(ctx, Moment(1).Time()); err != ErrClosed {
