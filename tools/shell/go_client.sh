@@ -36,7 +36,7 @@ go test -race -count=1 ./pathdb
 "$top/tools/pathd-tools" examples --program "$program" "$top/clients/go/README.md" "$top/clients/go/pathdb/README.md"
 if "$top/tools/pathd-tools" need golang-github-mattn-go-sqlite3-dev 2>/dev/null; then
   go vet -tags sqlite ./pathdb
-  go test -tags sqlite -run '^$' -bench '/^1000$' -benchtime 1x ./pathdb
+  go test -tags sqlite -count=1 -run BesideSQLite ./pathdb
 else
   echo "skipped: the measurements beside SQLite, for want of golang-github-mattn-go-sqlite3-dev"
 fi

@@ -5,8 +5,11 @@ package pathdb
 import (
 	"context"
 	"database/sql"
+	"flag"
 	"fmt"
 	"path/filepath"
+	"sort"
+	"sync"
 	"sync/atomic"
 	"testing"
 	"time"
@@ -17,12 +20,15 @@ import (
 	pb "pathd/segmentspb"
 )
 
-// The measurements beside SQLite, with the driver of Debian's golang-github-mattn-go-sqlite3-dev. A round
-// is a run of
+// The measurements beside SQLite, with the driver of Debian's golang-github-mattn-go-sqlite3-dev:
 //
-//	PATHD=.. go test -tags sqlite -run '^$' -bench . -benchtime 200x ./pathdb
+//	PATHD=.. go test -tags sqlite -run BesideSQLite -v ./pathdb -rounds 25 -calls 100
 //
 // SQLite has the tables that scionproto's path database has, as they are remembered.
+var (
+	rounds = flag.Int("rounds", 1, "rounds of a measurement, in each of which the databases take turns")
+	turns  = flag.Int("calls", 2, "calls in a round, and a tenth as many transactions of 64")
+)
 
 // compared is a database with segments.
 type compared interface {
@@ -47,89 +53,117 @@ func ofNumbers(t testing.TB, from, to int) (metas []*Meta) {
 	return metas
 }
 
-func BenchmarkDatabases(b *testing.B) {
-	for _, size := range []int{1000, 10_000} {
-		for _, it := range []struct {
-			name string
-			open func(b *testing.B) compared
-		}{
-			{"pathd", openPathd},
-			{"sqlite-full", func(b *testing.B) compared { return openSQLite(b, "FULL") }},
-			{"sqlite-normal", func(b *testing.B) compared { return openSQLite(b, "NORMAL") }},
-		} {
-			b.Run(fmt.Sprintf("%d/%s", size, it.name), func(b *testing.B) { measure(b, size, it.open(b)) })
-		}
-	}
+// measured are calls, of which each measurement makes some and answers how long one took in the mean. What is
+// inserted is deleted again, which is not timed.
+var measured = []struct {
+	name string
+	take func(t *testing.T, ctx context.Context, size int, db compared) time.Duration
+}{
+	{"`Insert`", insertByOne},
+	{"a transaction of 64", insertBy64},
+	{"`Insert` by 16 goroutines, for each", insertBySixteen},
+	{"`Get` by both ends, which finds one", getOne},
 }
 
-// measure measures a database with so many segments. What is inserted is deleted again, which is not
-// timed.
-func measure(b *testing.B, size int, db compared) {
+// TestBesideSQLite prints the rows of the page's table, for databases of 10,000 segments: milliseconds of a
+// call of pathd's, and how many times as long SQLite's takes. Each is the median of the rounds, with the least
+// and the most of them.
+func TestBesideSQLite(t *testing.T) {
+	const size = 10_000
 	ctx := context.Background()
-	for from := 0; from < size; from += 200 {
-		check(b, db.insert(ctx, ofNumbers(b, from, from+200)))
+	databases := []compared{openPathd(t), openSQLite(t, "FULL"), openSQLite(t, "NORMAL")}
+	for _, db := range databases {
+		for from := 0; from < size; from += 200 {
+			check(t, db.insert(ctx, ofNumbers(t, from, from+200)))
+		}
 	}
-	b.Run("insert-1", func(b *testing.B) {
-		metas := ofNumbers(b, size, size+b.N)
-		b.ResetTimer()
-		for number := range metas {
-			check(b, db.insert(ctx, metas[number:number+1]))
-		}
-		b.StopTimer()
-		check(b, db.clear(ctx, size, size+b.N))
-	})
-	b.Run("insert-64", func(b *testing.B) {
-		var took time.Duration
-		for turn := 0; turn < b.N; turn++ {
-			metas := ofNumbers(b, size, size+64)
-			begun := time.Now()
-			check(b, db.insert(ctx, metas))
-			took += time.Since(begun)
-			check(b, db.clear(ctx, size, size+64))
-		}
-		b.ReportMetric(float64(took.Nanoseconds())/float64(b.N), "ns/op")
-	})
-	b.Run("16-insert-1", func(b *testing.B) { insertBySixteen(b, ctx, size, db) })
-	b.Run("get", func(b *testing.B) {
-		for number := 0; number < b.N; number++ {
-			count, err := db.get(ctx, start, IA(1<<48|uint64(number*7%size+1000)))
-			if check(b, err); count != 1 {
-				b.Fatalf("%d segments", count)
+	for _, it := range measured {
+		own, full, normal := []float64{}, []float64{}, []float64{}
+		for round := 0; round < *rounds; round++ {
+			var took [3]float64
+			for turn := range databases {
+				number := (round + turn) % len(databases)
+				took[number] = float64(it.take(t, ctx, size, databases[number]))
 			}
+			own = append(own, took[0]/float64(time.Millisecond))
+			full, normal = append(full, took[1]/took[0]), append(normal, took[2]/took[0])
 		}
-	})
+		t.Logf("| %s | %s | %s | %s |", it.name, spread(own), spread(full), spread(normal))
+	}
 }
 
-// insertBySixteen has 16 goroutines insert by one where there are four processors.
-func insertBySixteen(b *testing.B, ctx context.Context, size int, db compared) {
-	metas := ofNumbers(b, size, size+b.N)
+func spread(of []float64) string {
+	sort.Float64s(of)
+	return fmt.Sprintf("%.2f (%.2f-%.2f)", of[len(of)/2], of[0], of[len(of)-1])
+}
+
+func insertByOne(t *testing.T, ctx context.Context, size int, db compared) time.Duration {
+	metas := ofNumbers(t, size, size+*turns)
+	begun := time.Now()
+	for number := range metas {
+		check(t, db.insert(ctx, metas[number:number+1]))
+	}
+	took := time.Since(begun)
+	check(t, db.clear(ctx, size, size+*turns))
+	return took / time.Duration(*turns)
+}
+
+func insertBy64(t *testing.T, ctx context.Context, size int, db compared) (took time.Duration) {
+	metas, count := ofNumbers(t, size, size+64), (*turns+9)/10
+	for turn := 0; turn < count; turn++ {
+		begun := time.Now()
+		check(t, db.insert(ctx, metas))
+		took += time.Since(begun)
+		check(t, db.clear(ctx, size, size+64))
+	}
+	return took / time.Duration(count)
+}
+
+func insertBySixteen(t *testing.T, ctx context.Context, size int, db compared) time.Duration {
+	metas := ofNumbers(t, size, size+*turns)
 	var next atomic.Int64
-	b.SetParallelism(4)
-	b.ResetTimer()
-	b.RunParallel(func(turns *testing.PB) {
-		for turns.Next() {
-			number := next.Add(1)
-			if err := db.insert(ctx, metas[number-1:number]); err != nil {
-				b.Error(err)
+	var all sync.WaitGroup
+	begun := time.Now()
+	for number := 0; number < 16; number++ {
+		all.Add(1)
+		go func() {
+			defer all.Done()
+			for at := next.Add(1); at <= int64(len(metas)); at = next.Add(1) {
+				if err := db.insert(ctx, metas[at-1:at]); err != nil {
+					t.Error(err)
+				}
 			}
-		}
-	})
-	b.StopTimer()
-	check(b, db.clear(ctx, size, size+b.N))
+		}()
+	}
+	all.Wait()
+	took := time.Since(begun)
+	check(t, db.clear(ctx, size, size+*turns))
+	return took / time.Duration(*turns)
 }
 
-func check(b *testing.B, err error) {
-	b.Helper()
+func getOne(t *testing.T, ctx context.Context, size int, db compared) time.Duration {
+	begun := time.Now()
+	for number := 0; number < *turns; number++ {
+		count, err := db.get(ctx, start, IA(1<<48|uint64(number*7%size+1000)))
+		if check(t, err); count != 1 {
+			t.Fatalf("%d segments", count)
+		}
+	}
+	return time.Since(begun) / time.Duration(*turns)
+}
+
+func check(t *testing.T, err error) {
+	t.Helper()
 	if err != nil {
-		b.Fatal(err)
+		t.Fatal(err)
 	}
 }
 
 type byPathd struct{ *Backend }
 
-func openPathd(b *testing.B) compared {
-	db := New(pathd.NewClient(newServer(b).Address, pathd.ClientOptions{}))
-	b.Cleanup(func() { db.Close() })
+func openPathd(t *testing.T) compared {
+	db := New(pathd.NewClient(newServer(t).Address, pathd.ClientOptions{}))
+	t.Cleanup(func() { db.Close() })
 	return byPathd{db}
 }
 
@@ -150,17 +184,23 @@ func (d byPathd) insert(ctx context.Context, metas []*Meta) error {
 	return tx.Commit()
 }
 
-func (d byPathd) clear(ctx context.Context, from, to int) error {
+func (d byPathd) clear(ctx context.Context, from, to int) (fault error) {
+	ended := make(chan error, to-from)
 	for number := from; number < to; number++ {
-		path, err := pathd.ParsePath(fmt.Sprintf("1-ff00:0:110 %d>1 1-%d", number%65535+1, number+1000))
-		if err != nil {
-			return err
-		}
-		if err := d.remove(ctx, key{TypeDown, path.ID()}); err != nil {
-			return err
+		go func(number int) {
+			path, err := pathd.ParsePath(fmt.Sprintf("1-ff00:0:110 %d>1 1-%d", number%65535+1, number+1000))
+			if err == nil {
+				err = d.remove(ctx, key{TypeDown, path.ID()})
+			}
+			ended <- err
+		}(number)
+	}
+	for number := from; number < to; number++ {
+		if err := <-ended; err != nil {
+			fault = err
 		}
 	}
-	return nil
+	return fault
 }
 
 func (d byPathd) get(ctx context.Context, start, end IA) (int, error) {
@@ -186,14 +226,14 @@ CREATE TABLE HPGroupIDs(SegRowID INTEGER NOT NULL, GroupID INTEGER NOT NULL, UNI
 type bySQLite struct{ *sql.DB }
 
 // openSQLite opens a database with a log of writes, which each commit syncs where synchronous is FULL.
-func openSQLite(b *testing.B, synchronous string) compared {
-	file := filepath.Join(b.TempDir(), "path.db")
+func openSQLite(t *testing.T, synchronous string) compared {
+	file := filepath.Join(t.TempDir(), "path.db")
 	db, err := sql.Open("sqlite3", "file:"+file+"?_foreign_keys=on&_journal_mode=WAL&_synchronous="+synchronous)
-	check(b, err)
-	b.Cleanup(func() { db.Close() })
+	check(t, err)
+	t.Cleanup(func() { db.Close() })
 	db.SetMaxOpenConns(1)
 	_, err = db.Exec(schema)
-	check(b, err)
+	check(t, err)
 	return bySQLite{db}
 }
 

@@ -13,6 +13,6 @@
 // # Errors
 //
 // A segment or a command that the server refused is a pathd.Code, and a call without a reply a
-// *pathd.SessionError or the error of its context. A commit that failed is a *CommitError, which wraps one
-// of these. A transaction that is over answers sql.ErrTxDone.
+// *pathd.SessionError or the error of its context. With several servers a *pathd.NotAcknowledged wraps one of
+// these, and so does a *CommitError, the error of a commit. A transaction that is over answers sql.ErrTxDone.
 package pathdb

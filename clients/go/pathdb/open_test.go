@@ -4,6 +4,7 @@ import (
 	"context"
 	"errors"
 	"testing"
+	"time"
 
 	"pathd"
 )
@@ -20,6 +21,9 @@ func TestOpen(t *testing.T) {
 			t.Error(err)
 		}
 		finds(t, ctx, db, nil, "UP "+two)
+		if _, err := db.Insert(ctx, meta(t, TypeUp, three, now.Add(-7*time.Hour))); !errors.Is(err, pathd.Expired) {
+			t.Error(err)
+		}
 		db.Close()
 	}
 	for _, wrong := range []string{"", "pathd://", "pathd:127.0.0.1:1", "/var/lib/path.db", "pathd://127.0.0.1:1,", "pathd://,127.0.0.1:1"} {

@@ -35,7 +35,7 @@ func TestAServerThatIsStartedAgain(t *testing.T) {
 	finds(t, ctx, db, nil, "UP "+one, "DOWN "+two)
 }
 
-// load is goroutines that insert and look up.
+// load is goroutines that insert, every other time in a transaction, and look up.
 type load struct {
 	all           sync.WaitGroup
 	end           atomic.Bool
@@ -53,7 +53,7 @@ func (l *load) begin(t *testing.T, ctx context.Context, db *Backend) {
 			defer l.all.Done()
 			for ; !l.end.Load(); l.inserted[number]++ {
 				path := numbered(10_000*(number+1) + l.inserted[number])
-				if _, err := db.Insert(ctx, meta(t, TypeDown, path, now)); err != nil {
+				if err := l.insert(ctx, db, meta(t, TypeDown, path, now), l.inserted[number]%2 == 1); err != nil {
 					t.Errorf("%s: %v", path, err)
 					return
 				}
@@ -72,6 +72,21 @@ func (l *load) begin(t *testing.T, ctx context.Context, db *Backend) {
 			}
 		}()
 	}
+}
+
+func (l *load) insert(ctx context.Context, db *Backend, it *Meta, inTransaction bool) error {
+	if !inTransaction {
+		_, err := db.Insert(ctx, it)
+		return err
+	}
+	tx, err := db.BeginTransaction(ctx, nil)
+	if err != nil {
+		return err
+	}
+	if _, err := tx.Insert(ctx, it); err != nil {
+		return err
+	}
+	return tx.Commit()
 }
 
 // wait ends the load, and answers the paths that were inserted, `one` among them.
@@ -172,6 +187,9 @@ func TestWhatIsSaidOfAServerThatIsAway(t *testing.T) {
 	finds(t, ctx, db, nil, "UP "+one, "UP "+two)
 	if state := servers.States()[0]; state.Address != away.Address || state.Waiting != 2 || state.Err == nil {
 		t.Errorf("%+v", state)
+	}
+	if _, err := db.Insert(ctx, meta(t, TypeUp, one, now.Add(-7*time.Hour))); !errors.Is(err, pathd.Expired) {
+		t.Error(err) // the other one is not waited for
 	}
 	away.Restart()
 	if err := servers.Drain(ctx); err != nil {
