@@ -3,7 +3,7 @@
 
 _arguments \
   '--listen[the address to listen at]:ADDR:' \
-  '--pathd[the address of pathd]:ADDR:' \
+  '--pathd[the address of pathd, or of several]:ADDR,..:' \
   '--lookups[sessions with pathd for lookups]:N:' \
   '--registrations[sessions with pathd for registrations]:N:' \
   '--most-segments[segments that a lookup is answered with]:N:' \

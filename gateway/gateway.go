@@ -15,7 +15,6 @@ import (
 	"google.golang.org/grpc"
 	"google.golang.org/grpc/health"
 
-	"pathd"
 	"pathd/gateway/internal/calls"
 	"pathd/gateway/internal/connectapi"
 	"pathd/gateway/internal/door"
@@ -23,11 +22,10 @@ import (
 	"pathd/gateway/internal/roles"
 	"pathd/gateway/internal/settings"
 	"pathd/gateway/internal/trust"
+	"pathd/gateway/internal/upstream"
 )
 
 const (
-	dialLimit   = 2 * time.Second  // to connect to pathd
-	attempts    = 2                // of a request
 	headerLimit = 10 * time.Second // to send the headers of a request by HTTP/1
 	owedByOne   = 8 << 20
 	owedByAll   = 128 << 20
@@ -46,8 +44,7 @@ type gateway struct {
 	certificates *certificates // nil without TLS
 	keeper       *trust.Keeper // nil without trust material
 	roles        *roles.Roles  // nil where all clients may make all calls
-	pathd        *pathd.Client
-	lists        *pathd.Client // has a session of its own, for lists alone
+	servers      *upstream.Servers
 	desk         *calls.Desk
 	methods      []*calls.Method
 	checks       *health.Server
@@ -77,7 +74,9 @@ func newGateway(s *settings.Settings, listener net.Listener) (g *gateway, err er
 			return nil, err
 		}
 	}
-	g.pathd, g.lists = clientOf(s, s.Lookups), clientOf(s, 1)
+	if g.servers, err = serversOf(s); err != nil {
+		return nil, err
+	}
 	g.door = door.New(listener, door.Options{
 		Connections: s.Connections, PeerConnections: s.PeerConnections,
 		OwedByOne: owedByOne, OwedByAll: owedByAll,
@@ -85,7 +84,7 @@ func newGateway(s *settings.Settings, listener net.Listener) (g *gateway, err er
 	}, g.serveHTTP2)
 	g.desk = g.newDesk()
 	g.methods = methodsOf(g.desk, g.keeper)
-	g.watcher = &watcher{asker: g.pathd, address: s.Pathd, checks: g.checks, services: g.services()}
+	g.watcher = newWatcher(g.servers.Each(), g.checks, g.services())
 	g.grpc = grpcapi.NewServer(g.desk, g.methods, g.checks, grpcapi.Options{Streams: uint32(s.Streams), Idle: s.Idle})
 	return g, g.makeWeb()
 }
@@ -93,7 +92,7 @@ func newGateway(s *settings.Settings, listener net.Listener) (g *gateway, err er
 func (g *gateway) newDesk() *calls.Desk {
 	s := g.settings
 	options := calls.Options{
-		Pathd: g.pathd, Lists: g.lists, MostSegments: s.MostSegments, Deadline: s.Deadline,
+		Pathd: g.servers, MostSegments: s.MostSegments, Deadline: s.Deadline,
 		Calls: s.Calls, Registrations: s.Registrations, Roles: g.roles,
 	}
 	if g.keeper != nil {
@@ -105,11 +104,9 @@ func (g *gateway) newDesk() *calls.Desk {
 	return calls.NewDesk(options)
 }
 
-// clientOf answers a client of pathd with so many sessions for lookups and lists.
-func clientOf(s *settings.Settings, lookups int) *pathd.Client {
-	return pathd.NewClient(s.Pathd, pathd.ClientOptions{
-		Dialer: pathd.Dialer{Timeout: dialLimit}, Lookups: lookups, Commands: s.Registrations,
-		Window: calls.OfSession, Patience: s.Deadline, Attempts: attempts,
+func serversOf(s *settings.Settings) (*upstream.Servers, error) {
+	return upstream.New(upstream.Options{
+		Addresses: s.Pathd, Lookups: s.Lookups, Registrations: s.Registrations, Window: calls.OfSession, Deadline: s.Deadline,
 	})
 }
 
@@ -209,6 +206,5 @@ func (g *gateway) drain() {
 	}
 	g.web.Close()
 	g.door.End() // with the connections that gRPC has left
-	g.pathd.Close()
-	g.lists.Close()
+	g.servers.Close()
 }

@@ -23,7 +23,7 @@ func (g *gateway) serveNumbers(listener net.Listener) *http.Server {
 		w.Write(g.page().Bytes())
 	})
 	paths.HandleFunc("/healthz", func(w http.ResponseWriter, r *http.Request) {
-		if !g.watcher.isUp.Load() {
+		if !g.watcher.isUp() {
 			http.Error(w, "pathd does not answer", http.StatusServiceUnavailable)
 			return
 		}
@@ -44,8 +44,8 @@ func (g *gateway) page() *numbers.Page {
 	p.Row("pathd_gateway_info", fmt.Sprintf("version=%q", version), 1)
 	p.Gauge("pathd_gateway_uptime_seconds", "Seconds since the start.")
 	p.Row("pathd_gateway_uptime_seconds", "", float64(int(time.Since(g.begun).Seconds())))
-	p.Gauge("pathd_gateway_pathd_up", "1 while pathd answers a lookup each second.")
-	p.Row("pathd_gateway_pathd_up", "", number(g.watcher.isUp.Load()))
+	p.Gauge("pathd_gateway_pathd_up", "1 while pathd answers a lookup each second, or one of several does.")
+	p.Row("pathd_gateway_pathd_up", "", number(g.watcher.isUp()))
 	var each []*numbers.Method
 	for _, m := range g.methods {
 		each = append(each, m.Numbers())
@@ -54,6 +54,7 @@ func (g *gateway) page() *numbers.Page {
 	g.writeCalls(p)
 	g.writeDoor(p)
 	g.writeUpstream(p)
+	g.writeServers(p)
 	g.writeFiles(p)
 	return p
 }
@@ -94,8 +95,7 @@ func (g *gateway) writeDoor(p *numbers.Page) {
 }
 
 func (g *gateway) writeUpstream(p *numbers.Page) {
-	lookups, registrations := g.pathd.Numbers()
-	lists, _ := g.lists.Numbers()
+	lookups, registrations, lists := g.servers.Numbers()
 	pools := []struct {
 		name string
 		n    pathd.Numbers
@@ -117,6 +117,25 @@ func (g *gateway) writeUpstream(p *numbers.Page) {
 	each("pathd_gateway_connects_failed_total", func(n pathd.Numbers) float64 { return float64(n.Failed) })
 	p.Counter("pathd_gateway_requests_repeated_total", "Requests that were tried a second time.")
 	each("pathd_gateway_requests_repeated_total", func(n pathd.Numbers) float64 { return float64(n.Repeated) })
+}
+
+// writeServers writes what several servers come to, and of one whether it answers.
+func (g *gateway) writeServers(p *numbers.Page) {
+	p.Gauge("pathd_gateway_server_up", "1 while the pathd at an address answers a lookup each second.")
+	for _, it := range g.watcher.servers {
+		p.Row("pathd_gateway_server_up", fmt.Sprintf("server=%q", it.Address()), number(it.isUp.Load()))
+	}
+	states := g.servers.States()
+	p.Gauge("pathd_gateway_registrations_waiting", "Registrations that wait for one of several servers, or are under way there.")
+	for _, it := range states {
+		p.Row("pathd_gateway_registrations_waiting", fmt.Sprintf("server=%q", it.Address), float64(it.Waiting))
+	}
+	const notTaken = "pathd_gateway_registrations_not_taken_total"
+	p.Counter(notTaken, "Registrations that one of several servers has refused for good, and those that were dropped for want of room to wait.")
+	for _, it := range states {
+		p.Row(notTaken, fmt.Sprintf(`server=%q,why="refused"`, it.Address), float64(it.Refused))
+		p.Row(notTaken, fmt.Sprintf(`server=%q,why="dropped"`, it.Address), float64(it.Dropped))
+	}
 }
 
 func (g *gateway) writeFiles(p *numbers.Page) {

@@ -16,7 +16,7 @@ import (
 	"pathd/gateway/internal/shares"
 )
 
-// Asker asks a pathd, as a client does.
+// Asker asks pathd, as a client does.
 type Asker interface {
 	// Ask answers the body of the reply to a request. Where the context ends first the request may
 	// have been carried out.
@@ -42,8 +42,8 @@ const (
 
 // Options of a Desk.
 type Options struct {
-	// Pathd asks pathd, and Lists asks it for lists over sessions of its own.
-	Pathd, Lists Asker
+	// Pathd asks pathd, for lists over sessions of their own.
+	Pathd Asker
 	// Verifier verifies registrations before pathd gets them. Nil is none.
 	Verifier Verifier
 	// Roles has who may make which calls, and Journal a line for each registration and each refusal. Nil is
@@ -76,7 +76,7 @@ type Desk struct {
 func NewDesk(options Options) *Desk {
 	all, commands := int64(options.Calls), int64(options.Registrations*OfSession)
 	return &Desk{
-		options: options, pages: pages{lists: lists{pathd: options.Lists}, most: options.MostSegments},
+		options: options, pages: pages{lists: lists{pathd: options.Pathd}, most: options.MostSegments},
 		calls:    shares.New(shares.Bounds{All: all, OfPeer: shares.Quarter(all), Patience: patience}),
 		lookups:  shares.NewTurns(lookupsAtOnce, lookupsAtOnce),
 		commands: shares.NewTurns(int(commands), int(shares.Quarter(commands))),

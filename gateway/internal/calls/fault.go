@@ -68,7 +68,7 @@ func FaultOf(err error) *Fault {
 		return NewFault(codes.Internal, "%v", err)
 	case errors.Is(err, pathd.ErrStuck):
 		return NewFault(codes.DeadlineExceeded, "%v", err)
-	case errors.As(err, &ended), errors.Is(err, pathd.ErrClosed):
+	case errors.As(err, &ended), errors.Is(err, pathd.ErrClosed), errors.Is(err, pathd.ErrDropped):
 		return NewFault(codes.Unavailable, "%v", err)
 	case errors.Is(err, context.DeadlineExceeded):
 		return NewFault(codes.DeadlineExceeded, "there was no reply in time")

@@ -54,6 +54,25 @@ func (a adder) address(to *string, name, otherwise, text string) {
 	a.help.add(name, "ADDR", fmt.Sprintf("%s [%s]", text, otherwise))
 }
 
+func (a adder) addresses(to *[]string, name, otherwise, text string) {
+	*to = []string{otherwise}
+	a.set.Var(&value{otherwise, func(text string) error {
+		*to = strings.Split(text, ",")
+		known := map[string]bool{}
+		for _, it := range *to {
+			if known[it] {
+				return fmt.Errorf("%q is there twice", it)
+			}
+			known[it] = true
+			if err := checkAddress(it); err != nil {
+				return err
+			}
+		}
+		return nil
+	}}, name, text)
+	a.help.add(name, "ADDR,..", fmt.Sprintf("%s [%s]", text, otherwise))
+}
+
 func (a adder) number(to *int, name string, otherwise, least, most int, text string) {
 	*to = otherwise
 	a.set.Var(&value{strconv.Itoa(otherwise), func(text string) (err error) {

@@ -28,7 +28,8 @@ const (
 
 // Settings are what the command line says.
 type Settings struct {
-	Listen, Pathd, Status      string
+	Listen, Status             string
+	Pathd                      []string // an address at least, and none of them twice
 	Lookups, Registrations     int
 	MostSegments               int
 	Deadline, Idle             time.Duration
@@ -78,7 +79,7 @@ func Read(words []string, out io.Writer) (*Settings, error) {
 // add adds the options that have a value.
 func (s *Settings) add(add adder) {
 	add.address(&s.Listen, "listen", "127.0.0.1:30262", "where it listens; port 0 is any free one")
-	add.address(&s.Pathd, "pathd", "127.0.0.1:30252", "the address of pathd, which may be started later")
+	add.addresses(&s.Pathd, "pathd", "127.0.0.1:30252", "the address of pathd, which may be started later, or of several that all get the registrations")
 	add.number(&s.Lookups, "lookups", 2, 1, mostSessions, "sessions with pathd for lookups")
 	add.number(&s.Registrations, "registrations", 1, 1, mostSessions, "sessions with pathd for registrations")
 	add.number(&s.MostSegments, "most-segments", 256, pathd.MostFound, mostSegments, "segments that a lookup is answered with")
@@ -114,6 +115,8 @@ func (s *Settings) check() error {
 		return errors.New("--log is text or json")
 	case s.TrustServer != "" && s.Trust == "":
 		return errors.New("--trust-server needs --trust: the folder has the TRCs to begin with")
+	case len(s.Pathd) > 1 && s.Registrations > 1:
+		return errors.New("--registrations is 1 where --pathd has several addresses")
 	case s.Lookups+s.Registrations > mostSessions:
 		return fmt.Errorf("pathd has no room for %d sessions", s.Lookups+s.Registrations)
 	}
