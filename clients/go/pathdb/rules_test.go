@@ -13,9 +13,11 @@ import (
 	"time"
 
 	"pathd"
+	"pathd/internal/testpathd"
 )
 
-// The rules of a path database, each tried with a database and in a transaction. The segments that
+// The rules of a path database, each tried with a database, in a transaction, and while the server is killed
+// and started again. The segments that
 // EncodeSegment makes expire six hours after their timestamp.
 var rules = map[string]func(t *testing.T, ctx context.Context, db ReadWrite){
 	"the newest of a type and hops": theNewest,
@@ -52,7 +54,26 @@ func TestRules(t *testing.T) {
 				t.Errorf("%v, and not %v", got, wanted)
 			}
 		})
+		t.Run(name+" with kills in between", func(t *testing.T) {
+			db, server, ctx := started(t)
+			rule(t, ctx, &killed{Backend: db, server: server})
+		})
 	}
+}
+
+// killed is a database whose server is killed and started again before each eighth Get, from the first one on.
+type killed struct {
+	*Backend
+	server *testpathd.Server
+	reads  int
+}
+
+func (k *killed) Get(ctx context.Context, params *Params) (Results, error) {
+	if k.reads++; k.reads%8 == 1 {
+		k.server.Kill()
+		k.server.Restart()
+	}
+	return k.Backend.Get(ctx, params)
 }
 
 const (
