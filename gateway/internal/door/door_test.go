@@ -95,6 +95,30 @@ func TestWhatAConnectionSpeaks(t *testing.T) {
 	}
 }
 
+// TestConnectionsThatMayHaveBoth has a first request of gRPC that is for reflection, or of a client of Connect.
+func TestConnectionsThatMayHaveBoth(t *testing.T) {
+	const grpc = "application/grpc+proto"
+	for number, c := range []struct {
+		path, contentType, agent string
+		wanted                   Kind
+	}{
+		{"/a/b", grpc, "grpc-go/1.61.0", GRPC},
+		{"/a/b", grpc, "", GRPC},
+		{"/a/b", grpc, "grpc-go-connect/1.11.1 (go1.20.6)", HTTP2},
+		{"/grpc.reflection.v1.ServerReflection/ServerReflectionInfo", grpc, "grpcurl/v1.9.1 grpc-go/1.61.0", HTTP2},
+		{"/grpc.reflection.v1alpha.ServerReflection/ServerReflectionInfo", grpc, "", HTTP2},
+		{"/a/b", "application/proto", "grpc-go/1.61.0", HTTP2},
+	} {
+		var its http2.MetaHeadersFrame
+		for _, field := range [][2]string{{":method", "POST"}, {":path", c.path}, {"user-agent", c.agent}, {"content-type", c.contentType}} {
+			its.Fields = append(its.Fields, hpack.HeaderField{Name: field[0], Value: field[1]})
+		}
+		if got := kindOf(&its); got != c.wanted {
+			t.Errorf("case %d: %d", number, got)
+		}
+	}
+}
+
 func TestHTTP1(t *testing.T) {
 	for _, text := range []string{"POST / HTTP/1.1\r\n\r\n", "PRI * HTTP/1.1\r\n\r\n", "G"} {
 		conn, _ := connOf(bytes.NewReader([]byte(text)))

@@ -109,13 +109,20 @@ func (c *Conn) firstRequest() (Kind, error) {
 	}
 }
 
+// kindOf answers what a connection speaks by its first request. Clients of Connect have calls of gRPC, too,
+// and tools ask for reflection by gRPC before they call by Connect: theirs may have both.
 func kindOf(headers *http2.MetaHeadersFrame) Kind {
-	for _, field := range headers.RegularFields() {
-		if field.Name == "content-type" && strings.HasPrefix(field.Value, "application/grpc") {
-			return GRPC
+	kind := HTTP2
+	for _, field := range headers.Fields {
+		switch {
+		case field.Name == "content-type" && strings.HasPrefix(field.Value, "application/grpc"):
+			kind = GRPC
+		case field.Name == ":path" && strings.HasPrefix(field.Value, "/grpc.reflection."),
+			field.Name == "user-agent" && strings.Contains(field.Value, "connect"):
+			return HTTP2
 		}
 	}
-	return HTTP2
+	return kind
 }
 
 // goAway tells a peer of HTTP/2 why its connection is about to be closed. A peer that has been sent a

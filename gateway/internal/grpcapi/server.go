@@ -82,11 +82,13 @@ func NewServer(desk *calls.Desk, methods []*calls.Method, checks *health.Server,
 	return server
 }
 
-// Handler answers what has a server serve the calls of connections that it has not accepted itself.
+// Handler answers what has a server serve the calls of connections that it has not accepted itself. Version 1
+// of reflection, which grpc-go of Debian 12 lacks, has the messages of v1alpha.
 func Handler(server *grpc.Server, limit time.Duration) http.Handler {
 	return http.HandlerFunc(func(w http.ResponseWriter, r *http.Request) {
 		conn := door.FromContext(r.Context())
 		if hasEnd(r.URL.Path) {
+		r.URL.Path = strings.Replace(r.URL.Path, "/grpc.reflection.v1.", "/grpc.reflection.v1alpha.", 1)
 			conn.ReadUntil(w, time.Now().Add(limit))
 		}
 		var stop context.CancelFunc = func() { conn.ReadUntil(w, door.Past) }
