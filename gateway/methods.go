@@ -20,7 +20,7 @@ const (
 func methodsOf(desk *calls.Desk, keeper *trust.Keeper) []*calls.Method {
 	methods := []*calls.Method{
 		{
-			Service: calls.LookupService, Name: "Segments", File: segmentsFile, Serve: desk.Segments, Action: roles.LookUp,
+			Service: calls.LookupService, Name: "Segments", File: segmentsFile, Serve: desk.Segments, IsSafe: true, Action: roles.LookUp,
 			Request:  func() proto.Message { return new(segmentspb.SegmentsRequest) },
 			Response: func() proto.Message { return new(segmentspb.SegmentsResponse) },
 		},
@@ -34,11 +34,11 @@ func methodsOf(desk *calls.Desk, keeper *trust.Keeper) []*calls.Method {
 		return methods
 	}
 	return append(methods, &calls.Method{
-		Service: calls.TrustService, Name: "TRC", File: trustFile, Serve: keeper.TRC,
+		Service: calls.TrustService, Name: "TRC", File: trustFile, Serve: keeper.TRC, IsSafe: true,
 		Request:  func() proto.Message { return new(control.TRCRequest) },
 		Response: func() proto.Message { return new(control.TRCResponse) },
 	}, &calls.Method{
-		Service: calls.TrustService, Name: "Chains", File: trustFile, Serve: keeper.Chains,
+		Service: calls.TrustService, Name: "Chains", File: trustFile, Serve: keeper.Chains, IsSafe: true,
 		Request:  func() proto.Message { return new(control.ChainsRequest) },
 		Response: func() proto.Message { return new(control.ChainsResponse) },
 	})

@@ -34,7 +34,12 @@ func clients() map[string]*http.Client {
 // post answers the status, the headers and the body of a response.
 func post(t *testing.T, client *http.Client, url string, body []byte, headers ...string) (int, http.Header, string) {
 	t.Helper()
-	request, err := http.NewRequest(http.MethodPost, url, bytes.NewReader(body))
+	return do(t, client, http.MethodPost, url, body, headers...)
+}
+
+func do(t *testing.T, client *http.Client, method, url string, body []byte, headers ...string) (int, http.Header, string) {
+	t.Helper()
+	request, err := http.NewRequest(method, url, bytes.NewReader(body))
 	if err != nil {
 		t.Fatal(err)
 	}
@@ -51,6 +56,12 @@ func post(t *testing.T, client *http.Client, url string, body []byte, headers ..
 		t.Fatal(err)
 	}
 	return response.StatusCode, response.Header, string(content)
+}
+
+// get answers the same of a GET.
+func get(t *testing.T, client *http.Client, url string, headers ...string) (int, http.Header, string) {
+	t.Helper()
+	return do(t, client, http.MethodGet, url, nil, headers...)
 }
 
 func TestConnect(t *testing.T) {
@@ -102,7 +113,8 @@ func TestWhatConnectRefuses(t *testing.T) {
 			"another type":     {lookupPath, nil, []string{"Content-Type", "text/plain"}, 415, ""},
 			"another charset":  {lookupPath, nil, []string{"Content-Type", "application/json; charset=latin1"}, 415, ""},
 			"another version":  {lookupPath, nil, append([]string{"Connect-Protocol-Version", "2"}, kind...), 400, "invalid_argument"},
-			"an encoding":      {lookupPath, nil, append([]string{"Content-Encoding", "gzip"}, kind...), 501, "unimplemented"},
+			"an encoding":      {lookupPath, nil, append([]string{"Content-Encoding", "br"}, kind...), 501, "unimplemented"},
+			"no gzip":          {lookupPath, []byte{8, 1}, append([]string{"Content-Encoding", "gzip"}, kind...), 400, "invalid_argument"},
 			"a long timeout":   {lookupPath, nil, append([]string{"Connect-Timeout-Ms", "12345678901"}, kind...), 400, "invalid_argument"},
 			"a bad timeout":    {lookupPath, nil, append([]string{"Connect-Timeout-Ms", "-1"}, kind...), 400, "invalid_argument"},
 			"no time":          {lookupPath, []byte{8, 1}, append([]string{"Connect-Timeout-Ms", "0"}, kind...), 504, "deadline_exceeded"},
@@ -115,9 +127,22 @@ func TestWhatConnectRefuses(t *testing.T) {
 				t.Errorf("%s, %s: %d %s", name, what, code, text)
 			}
 		}
-		response, err := client.Get(at + lookupPath)
-		if err != nil || response.StatusCode != 405 {
-			t.Error(name, response, err)
+		for query, wanted := range map[string]struct {
+			status int
+			text   string
+		}{
+			registrationPath + "?connect=v1&encoding=proto&message=": {405, ""},
+			lookupPath:                                                         {415, ""},
+			lookupPath + "?encoding=text&message=":                             {415, ""},
+			lookupPath + "?encoding=proto":                                     {400, "invalid_argument"},
+			lookupPath + "?encoding=proto&message=*&base64=1":                  {400, "invalid_argument"},
+			lookupPath + "?encoding=proto&message=&connect=v2":                 {400, "invalid_argument"},
+			lookupPath + "?encoding=proto&message=CAE&base64=1&compression=br": {501, "unimplemented"},
+			lookupPath + "?encoding=json&message=%7B%22dstIsdAs%22:%221%22%7D": {200, "{}"},
+		} {
+			if code, _, text := get(t, client, at+query); code != wanted.status || !strings.Contains(text, wanted.text) {
+				t.Errorf("%s, %s: %d %s", name, query, code, text)
+			}
 		}
 	}
 }

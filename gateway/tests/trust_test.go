@@ -71,7 +71,8 @@ func TestTrustMaterial(t *testing.T) {
 	one := isd.AS(t, elliptic.P256(), "1-ff00:0:110")
 	isd.WriteTRC(t, folder)
 	isd.WriteChain(t, folder, "one", one)
-	conn, ctx := dial(t, gateway(t, fake(t, healthy), "--trust", folder).address)
+	at := gateway(t, fake(t, healthy), "--trust", folder).address
+	conn, ctx := dial(t, at)
 	client := control.NewTrustMaterialServiceClient(conn)
 	for _, request := range []*control.TRCRequest{{Isd: 1}, {Isd: 1, Base: 1, Serial: 1}} {
 		if got, err := client.TRC(ctx, request); err != nil || string(got.Trc) != string(isd.TRC) {
@@ -80,6 +81,12 @@ func TestTrustMaterial(t *testing.T) {
 	}
 	if _, err := client.TRC(ctx, &control.TRCRequest{Isd: 1, Base: 1, Serial: 2}); status.Code(err) != codes.NotFound {
 		t.Error(err)
+	}
+	for path, wanted := range map[string]string{"TRC?encoding=json&message={%22isd%22:1}": "trc", "Chains?encoding=json&message={%22isdAs%22:561850441793808}": "chains"} {
+		code, _, text := get(t, clients()["HTTP/1.1"], "http://"+at+"/proto.control_plane.v1.TrustMaterialService/"+path)
+		if code != 200 || !strings.HasPrefix(text, `{"`+wanted+`":`) {
+			t.Error(path, code, text)
+		}
 	}
 	got, err := client.Chains(ctx, &control.ChainsRequest{IsdAs: core, SubjectKeyId: one.SubjectKeyId})
 	if err != nil || len(got.Chains) != 1 || string(got.Chains[0].AsCert) != string(one.Raw) || string(got.Chains[0].CaCert) != string(isd.CA1.Raw) {

@@ -35,6 +35,8 @@ type Method struct {
 	Serve func(ctx context.Context, request []byte) (Response, error)
 	// Action is what a client needs a rule for, where there are roles. Empty is none.
 	Action roles.Action
+	// IsSafe is true where a call changes nothing: Connect then has it by GET, too.
+	IsSafe bool
 	// Request and Response answer empty messages, by which JSON is read and written.
 	Request, Response func() proto.Message
 

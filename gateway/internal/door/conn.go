@@ -194,6 +194,13 @@ func (c *Conn) Owe(bytes int) bool {
 	return isFree
 }
 
+// OweLess notes that so many bytes of what was owed are not written, as the reply was compressed.
+func (c *Conn) OweLess(bytes int) {
+	if c != nil && bytes > 0 {
+		c.owed.Give(int64(bytes))
+	}
+}
+
 // Owed answers how many bytes of replies the peer has not taken yet.
 func (c *Conn) Owed() int64 { return c.owed.Amount() }
 

@@ -22,6 +22,7 @@ import (
 	"pathd/gateway/internal/calls"
 	"pathd/gateway/internal/door"
 	"pathd/gateway/internal/numbers"
+	"pathd/gateway/internal/packing"
 	"pathd/gateway/internal/refusal"
 	"pathd/gateway/internal/shares"
 )
@@ -88,6 +89,7 @@ func Handler(server *grpc.Server, limit time.Duration) http.Handler {
 	return http.HandlerFunc(func(w http.ResponseWriter, r *http.Request) {
 		conn := door.FromContext(r.Context())
 		if hasEnd(r.URL.Path) {
+		if hasEnd(r.URL.Path) {
 		r.URL.Path = strings.Replace(r.URL.Path, "/grpc.reflection.v1.", "/grpc.reflection.v1alpha.", 1)
 			conn.ReadUntil(w, time.Now().Add(limit))
 		}
@@ -123,7 +125,9 @@ func stopOf(ctx context.Context) context.CancelFunc {
 }
 
 // isOfDesk answers whether a method is one that a desk serves, and bounds.
-func isOfDesk(path string) bool { return strings.HasPrefix(path, "/proto.control_plane.v1.") }
+func isOfDesk(path string) bool {
+	return strings.HasPrefix(path, "/proto.control_plane.v1.") || strings.HasPrefix(path, "/"+calls.RemovalService)
+}
 
 // bounded has a place for each call that no desk bounds, from its first byte on. The oldest one ends
 // where its place is needed.
@@ -173,6 +177,7 @@ func description(desk *calls.Desk, service string, methods []*calls.Method) *grp
 // handler serves a method by its bytes, as one of streams: grpc-go calls the handlers of others once the
 // request has come, and the desk would not bound how many are still to come.
 func handler(desk *calls.Desk, m *calls.Method) grpc.StreamHandler {
+		conn := connOf(stream.Context())
 	return func(_ any, stream grpc.ServerStream) error {
 		response, fault := desk.Serve(stream.Context(), m, calls.Call{
 			By:   numbers.GRPC,
