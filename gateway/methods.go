@@ -14,9 +14,11 @@ import (
 const (
 	segmentsFile = "control_plane.proto"
 	trustFile    = "trust_material.proto"
+	removalFile  = "removal.proto"
 )
 
-// methodsOf answers what is served. keeper is nil where there is no trust material.
+// methodsOf answers what is served. keeper is nil where there is no trust material. Segments are removed
+// where there are roles alone, as a rule has to allow it.
 func methodsOf(desk *calls.Desk, keeper *trust.Keeper) []*calls.Method {
 	methods := []*calls.Method{
 		{
@@ -29,6 +31,13 @@ func methodsOf(desk *calls.Desk, keeper *trust.Keeper) []*calls.Method {
 			Request:  func() proto.Message { return new(segmentspb.SegmentsRegistrationRequest) },
 			Response: func() proto.Message { return new(control.SegmentsRegistrationResponse) },
 		},
+	}
+	if desk.HasRoles() {
+		methods = append(methods, &calls.Method{
+			Service: calls.RemovalService, Name: "Remove", File: removalFile, Serve: desk.Removal, Action: roles.Remove,
+			Request:  func() proto.Message { return new(control.RemoveRequest) },
+			Response: func() proto.Message { return new(control.RemoveResponse) },
+		})
 	}
 	if keeper == nil {
 		return methods

@@ -232,6 +232,8 @@ func healthy(content []byte) []byte {
 		return []byte{0xff, 0x41}
 	case content[0] == 2:
 		return []byte{0x82}
+	case content[0] == 4:
+		return append([]byte{0x84}, make([]byte, 24)...)
 	}
 	return append([]byte{0x81}, make([]byte, 24)...)
 }

@@ -131,13 +131,18 @@ func (d *Desk) Registration(ctx context.Context, request []byte) (Response, erro
 }
 
 func (d *Desk) register(ctx context.Context, request []byte) error {
+	_, err := d.command(ctx, pathd.KindRegister, request)
+	return err
+}
+
+// command has pathd carry a command out, once it is its peer's turn, and answers the acknowledgement.
+func (d *Desk) command(ctx context.Context, kind pathd.Kind, body []byte) ([]byte, error) {
 	end, err := d.commands.Enter(ctx, door.FromContext(ctx).Peers())
 	if err != nil {
-		return err
+		return nil, err
 	}
 	defer end()
-	_, err = d.options.Pathd.Ask(ctx, pathd.KindRegister, request)
-	return err
+	return d.options.Pathd.Ask(ctx, kind, body)
 }
 
 // Call is a call as whoever serves it has it.

@@ -16,6 +16,7 @@ import (
 
 	"pathd"
 	"pathd/gateway/internal/door"
+	control "pathd/gateway/internal/pb/controlplanepb"
 	"pathd/gateway/internal/roles"
 	"pathd/segmentspb"
 )
@@ -29,7 +30,7 @@ const (
 	JSON Format = "json"
 )
 
-// Journal has a line for each registration, and for each call that was refused.
+// Journal has a line for each registration, each removal, and each call that was refused.
 type Journal struct {
 	format Format
 	lines  *log.Logger
@@ -52,7 +53,8 @@ type line struct {
 	Reason   string    `json:"reason,omitempty"`
 }
 
-// segment is one of a registration. Path and ID are empty where it can't be read.
+// segment is one of a registration or a removal. Path and ID are empty where it can't be read, and Path is
+// in a removal.
 type segment struct {
 	Type string `json:"type"`
 	Path string `json:"path,omitempty"`
@@ -62,7 +64,7 @@ type segment struct {
 // note writes the line of a call that has ended, where it is to have one. request is nil where it was not
 // whole.
 func (j *Journal) note(m *Method, conn *door.Conn, request []byte, fault *Fault) {
-	if j == nil || fault == nil && m.Action != roles.Register {
+	if j == nil || fault == nil && m.Action != roles.Register && m.Action != roles.Remove {
 		return
 	}
 	it := line{Time: time.Now().UTC().Format(time.RFC3339Nano), Method: m.Path(), Status: codes.OK.String()}
@@ -72,8 +74,11 @@ func (j *Journal) note(m *Method, conn *door.Conn, request []byte, fault *Fault)
 	if certificate := conn.Certificate(); certificate != nil {
 		it.Client = roles.NameOf(certificate)
 	}
-	if m.Action == roles.Register {
+	switch m.Action {
+	case roles.Register:
 		it.Segments = segmentsIn(request)
+	case roles.Remove:
+		it.Segments = removedBy(request)
 	}
 	if fault != nil {
 		it.Status, it.Code, it.Reason = fault.Status.String(), fault.number(), fault.Text
@@ -93,7 +98,7 @@ func segmentsIn(registration []byte) (found []segment) {
 	}
 	for kind, list := range read.Segments {
 		for _, one := range list.GetSegments() {
-			it := segment{Type: strings.ToLower(strings.TrimPrefix(segmentspb.SegmentType(kind).String(), "SEGMENT_TYPE_"))}
+			it := segment{Type: nameOf(segmentspb.SegmentType(kind))}
 			if its, err := pathd.DecodeSegment(one); err == nil {
 				id := its.ID()
 				it.Path, it.ID = its.Path.String(), hex.EncodeToString(id[:])
@@ -105,6 +110,18 @@ func segmentsIn(registration []byte) (found []segment) {
 	return found
 }
 
+func removedBy(removal []byte) []segment {
+	read := new(control.RemoveRequest)
+	if proto.Unmarshal(removal, read) != nil || len(removal) == 0 {
+		return nil
+	}
+	return []segment{{Type: nameOf(read.Type), ID: hex.EncodeToString(read.Id)}}
+}
+
+func nameOf(kind segmentspb.SegmentType) string {
+	return strings.ToLower(strings.TrimPrefix(kind.String(), "SEGMENT_TYPE_"))
+}
+
 // text answers a line for readers. What a peer has sent is quoted.
 func (l line) text() string {
 	out := fmt.Sprintf("%s: %s from %s", l.Method[strings.LastIndexByte(l.Method, '/')+1:], l.Status, l.Address)
@@ -112,7 +129,11 @@ func (l line) text() string {
 		out += fmt.Sprintf(", client %q", l.Client)
 	}
 	for _, one := range l.Segments {
-		out += fmt.Sprintf(", %s %q", one.Type, one.Path)
+		what := one.Path
+		if what == "" {
+			what = one.ID
+		}
+		out += fmt.Sprintf(", %s %q", one.Type, what)
 	}
 	if l.Reason != "" {
 		out += fmt.Sprintf(": %q", l.Reason)

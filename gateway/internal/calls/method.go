@@ -2,6 +2,7 @@ package calls
 
 import (
 	"context"
+	"strings"
 	"sync"
 
 	"google.golang.org/protobuf/proto"
@@ -10,11 +11,12 @@ import (
 	"pathd/gateway/internal/roles"
 )
 
-// The services, whose names are those that daemons of SCION hosts call.
+// The services, whose names are those that daemons of SCION hosts call, and that of removals.
 const (
 	LookupService       = "proto.control_plane.v1.SegmentLookupService"
 	RegistrationService = "proto.control_plane.v1.SegmentRegistrationService"
 	TrustService        = "proto.control_plane.v1.TrustMaterialService"
+	RemovalService      = "pathd.gateway.v1.SegmentRemovalService"
 )
 
 // MoreKey is the key of the trailing metadata, and the header of Connect, of a response that is marked:
@@ -33,10 +35,10 @@ type Method struct {
 	Service, Name, File string
 	// Serve answers the response to the body of a request.
 	Serve func(ctx context.Context, request []byte) (Response, error)
-	// Action is what a client needs a rule for, where there are roles. Empty is none.
-	Action roles.Action
 	// IsSafe is true where a call changes nothing: Connect then has it by GET, too.
 	IsSafe bool
+	// Action is what a client needs a rule for, where there are roles. Empty is none.
+	Action roles.Action
 	// Request and Response answer empty messages, by which JSON is read and written.
 	Request, Response func() proto.Message
 
@@ -46,7 +48,9 @@ type Method struct {
 
 // Numbers answers the method's numbers.
 func (m *Method) Numbers() *numbers.Method {
-	m.once.Do(func() { m.numbers = numbers.NewMethod(m.Service[len("proto.control_plane.v1."):] + "/" + m.Name) })
+	m.once.Do(func() {
+		m.numbers = numbers.NewMethod(m.Service[strings.LastIndexByte(m.Service, '.')+1:] + "/" + m.Name)
+	})
 	return m.numbers
 }
 

@@ -88,9 +88,8 @@ func NewServer(desk *calls.Desk, methods []*calls.Method, checks *health.Server,
 func Handler(server *grpc.Server, limit time.Duration) http.Handler {
 	return http.HandlerFunc(func(w http.ResponseWriter, r *http.Request) {
 		conn := door.FromContext(r.Context())
-		if hasEnd(r.URL.Path) {
-		if hasEnd(r.URL.Path) {
 		r.URL.Path = strings.Replace(r.URL.Path, "/grpc.reflection.v1.", "/grpc.reflection.v1alpha.", 1)
+		if hasEnd(r.URL.Path) {
 			conn.ReadUntil(w, time.Now().Add(limit))
 		}
 		var stop context.CancelFunc = func() { conn.ReadUntil(w, door.Past) }
@@ -177,11 +176,11 @@ func description(desk *calls.Desk, service string, methods []*calls.Method) *grp
 // handler serves a method by its bytes, as one of streams: grpc-go calls the handlers of others once the
 // request has come, and the desk would not bound how many are still to come.
 func handler(desk *calls.Desk, m *calls.Method) grpc.StreamHandler {
-		conn := connOf(stream.Context())
 	return func(_ any, stream grpc.ServerStream) error {
+		conn := connOf(stream.Context())
 		response, fault := desk.Serve(stream.Context(), m, calls.Call{
 			By:   numbers.GRPC,
-			Conn: connOf(stream.Context()),
+			Conn: conn,
 			Stop: stopOf(stream.Context()),
 			Read: func(context.Context) (request []byte, err error) {
 				err = stream.RecvMsg((*Raw)(&request))
@@ -192,7 +191,12 @@ func handler(desk *calls.Desk, m *calls.Method) grpc.StreamHandler {
 			stream.SetTrailer(metadata.Pairs(calls.MoreKey, "true"))
 		}
 		if fault == nil {
-			return stream.SendMsg(Raw(response.Body))
+			body := response.Body
+			if isInGzip(stream.Context()) {
+				body = packing.Compress(body)
+				conn.OweLess(len(response.Body) - len(body))
+			}
+			return stream.SendMsg(Raw(body))
 		}
 		if fault.Code != 0 {
 			stream.SetTrailer(metadata.Pairs(calls.CodeKey, refusal.NumberOf(fault.Code)))

@@ -20,6 +20,7 @@ type Action string
 const (
 	LookUp   Action = "look-up"
 	Register Action = "register"
+	Remove   Action = "remove"
 )
 
 // Roles are the rules of a file.
@@ -72,8 +73,8 @@ func (r *Roles) Read() error {
 func parse(line string) (rule, error) {
 	action, who, _ := strings.Cut(strings.Join(strings.Fields(line), " "), " ")
 	it := rule{action: Action(action)}
-	if it.action != LookUp && it.action != Register {
-		return it, fmt.Errorf("%q is neither %s nor %s", action, LookUp, Register)
+	if it.action != LookUp && it.action != Register && it.action != Remove {
+		return it, fmt.Errorf("%q is none of %s, %s and %s", action, LookUp, Register, Remove)
 	}
 	kind, value, _ := strings.Cut(who, " ")
 	var err error

@@ -26,6 +26,7 @@ func TestWhoMayDoWhat(t *testing.T) {
 		{"look-up as 1-ff00:0:111\nregister name monitor", false, false, true, true},
 		{"register any\nlook-up name Monitor", false, true, false, true},
 		{"look-up as 2-ff00:0:110\nlook-up name 1-ff00:0:110", false, false, false, false},
+		{"remove any", false, false, false, false},
 	} {
 		pki.Must(t, os.WriteFile(file, []byte(c.rules), 0o600))
 		r, err := Open(file)
@@ -42,7 +43,7 @@ func TestFaultyRules(t *testing.T) {
 	pki.Must(t, os.WriteFile(file, []byte("look-up any"), 0o600))
 	r, err := Open(file)
 	pki.Must(t, err)
-	for _, line := range []string{"remove any", "look-up", "look-up all", "register as", "register as 1-x", "register name", "register any one", "LOOK-UP any"} {
+	for _, line := range []string{"purge any", "look-up", "look-up all", "register as", "register as 1-x", "register name", "register any one", "LOOK-UP any"} {
 		pki.Must(t, os.WriteFile(file, []byte("register any\n"+line), 0o600))
 		if err := r.Read(); err == nil {
 			t.Errorf("%q is not refused", line)
