@@ -79,7 +79,7 @@ func Entries(segment []byte) ([]*Entry, error) {
 	for _, message := range messages {
 		entry, err := readEntry(message)
 		if err != nil {
-			return nil, err
+			return nil, fmt.Errorf("entry %d: %w", len(found)+1, err)
 		}
 		entry.before = before[:len(before):len(before)]
 		before = append(before, entry.headerAndBody, entry.signature)
@@ -143,10 +143,18 @@ func (e *Entry) readBody(body []byte) error {
 			e.Local = ISDAS(it.value)
 		case it.number == fieldHopEntry:
 			hop = it.content
+		case it.number == fieldPeerEntry:
+			return checkPeer(it.content)
 		}
 		return nil
 	})
 	if err != nil {
+		return err
+	}
+	if err := checkNumbers(body, limitsOfBody); err != nil {
+		return err
+	}
+	if err := checkNumbers(hop, limitsOfHop); err != nil {
 		return err
 	}
 	fields, err := contents(hop, fieldHopField)

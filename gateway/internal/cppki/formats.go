@@ -74,8 +74,14 @@ const (
 	fieldKeyTRCSerial  = 4
 	fieldLocalISDAS    = 1
 	fieldHopEntry      = 3
+	fieldPeerEntry     = 4
+	fieldMTU           = 5
 	fieldHopField      = 1 // of a HopEntry
+	fieldIngressMTU    = 2
 	fieldExpTime       = 3 // of a HopField
+	fieldPeerISDAS     = 1 // of a PeerEntry
+	fieldPeerInterface = 2
+	fieldPeerMTU       = 3
 	fieldInfo          = 1 // of a PathSegment
 	fieldTimestamp     = 1 // of a SegmentInformation
 	fieldEntry         = 2
@@ -90,6 +96,8 @@ const (
 	expiryUnit    = 337_500 * time.Millisecond
 	mostExpTime   = 255
 	mostTimestamp = 1<<32 - 1 // seconds since 1970
+	mostMTU       = 1<<31 - 1
+	mostInterface = 1<<16 - 1
 )
 
 // hashOf has the hash of each signature algorithm: ECDSA with it.

@@ -57,6 +57,8 @@ type Hop struct {
 	Signer       *Signer
 	IsdAS, KeyOf uint64
 	Base, Serial uint64
+	// Body is that of the entry, where it is not one that is made for the hop.
+	Body []byte
 }
 
 // Algorithms has the hash of each algorithm.
@@ -75,7 +77,12 @@ func Bytes(to []byte, field protowire.Number, value []byte) []byte {
 // Segment answers a PathSegment with an entry for each hop, signed with an algorithm.
 func Segment(t testing.TB, at time.Time, algorithm uint64, hops ...Hop) []byte {
 	t.Helper()
-	info := Number(Number(nil, 1, uint64(at.Unix())), 2, 7)
+	return SegmentOf(t, Number(Number(nil, 1, uint64(at.Unix())), 2, 7), algorithm, hops...)
+}
+
+// SegmentOf answers such a segment with a SegmentInformation.
+func SegmentOf(t testing.TB, info []byte, algorithm uint64, hops ...Hop) []byte {
+	t.Helper()
 	out := Bytes(nil, 1, info)
 	associated := append([]byte(nil), info...)
 	for i, hop := range hops {
@@ -94,6 +101,9 @@ func Segment(t testing.TB, at time.Time, algorithm uint64, hops ...Hop) []byte {
 }
 
 func body(hops []Hop, i int) []byte {
+	if hops[i].Body != nil {
+		return hops[i].Body
+	}
 	hop := []byte(nil)
 	if i > 0 {
 		hop = Number(hop, 1, 2)

@@ -23,6 +23,10 @@ func (k *Keeper) Verify(ctx context.Context, registration []byte) error {
 	err := cppki.Segments(registration, func(content []byte) error {
 		segment++
 		entries, err := cppki.Entries(content)
+		var outside *cppki.RangeError
+		if errors.As(err, &outside) {
+			return calls.Refuse(pathd.Range, fmt.Sprintf("segment %d: %v", segment, err))
+		}
 		if err != nil {
 			return k.refuse("segment %d: %v", segment, err)
 		}
