@@ -8,10 +8,12 @@
 #     make install-gateway [DESTDIR=..] [PREFIX=/usr/local]
 #     make uninstall-gateway [DESTDIR=..] [PREFIX=/usr/local]
 #     make gateway-deb
+#     make packages
 #
-# The last three are of pathd-gateway, which they build where it is not there (gateway/build).
-# `make deb` needs dpkg-deb, git and readelf, and writes out/pathd_VERSION_ARCH.deb. Settings that
-# are there are kept by both.
+# The last makes the packages of the program, the gateway and the clients, with their checksums
+# (deploy/packages). It and the three before it build pathd-gateway where it is not there
+# (gateway/build). `make deb` needs dpkg-deb, git and readelf, and writes out/pathd_VERSION_ARCH.deb.
+# Settings that are there are kept by both.
 PREFIX = /usr/local
 PROGRAM = crates/pathd/out/pathd
 GATEWAY = gateway/out/pathd-gateway
@@ -99,7 +101,7 @@ install-gateway: $(GATEWAY)
 	install -m 644 deploy/pathd-gateway.zsh $(ZSH_COMPLETIONS)/_pathd-gateway
 	$(LINKED) docs/GATEWAY.md >$(GATEWAY_DOC)/GATEWAY.md
 	chmod 644 $(GATEWAY_DOC)/GATEWAY.md
-	install -m 644 docs/segments.proto gateway/control_plane.proto gateway/trust_material.proto $(GATEWAY_DOC)
+	install -m 644 docs/segments.proto gateway/control_plane.proto gateway/trust_material.proto gateway/removal.proto $(GATEWAY_DOC)
 	install -m 644 deploy/pathd-gateway.rules.yml deploy/pathd-gateway-dashboard.json $(GATEWAY_DOC)/examples
 	test -e $(GATEWAY_SETTINGS) || install -m 644 deploy/pathd-gateway.default $(GATEWAY_SETTINGS)
 
@@ -112,4 +114,7 @@ uninstall-gateway:
 gateway-deb: $(GATEWAY)
 	deploy/debian/make-deb pathd-gateway $(GATEWAY)
 
-.PHONY: help install install-pages uninstall deb install-gateway uninstall-gateway gateway-deb
+packages: $(PROGRAM) $(GATEWAY)
+	deploy/packages $(PROGRAM) $(GATEWAY)
+
+.PHONY: help install install-pages uninstall deb install-gateway uninstall-gateway gateway-deb packages

@@ -7,7 +7,7 @@ require (
 	golang.org/x/net v0.7.0
 	google.golang.org/grpc v1.33.3
 	google.golang.org/protobuf v1.28.1
-	pathd v0.9.0
+	pathd v1.0.0-rc1
 )
 
 replace pathd => ../clients/go

@@ -14,7 +14,7 @@ import (
 )
 
 // version is that of the program pathd: `tools/pathd-tools versions` compares them.
-const version = "0.9.0"
+const version = "1.0-rc1"
 
 // The heap is small, so that it may grow by much before garbage is collected: that takes a tenth of a
 // call's processor time else. The environment's GOGC and GOMEMLIMIT count before these.

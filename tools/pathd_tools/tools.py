@@ -18,6 +18,7 @@ PAGES = [
     Tool("codes", "pages.codes", "the pages, the crate and the clients have the codes of docs/codes.csv; --write"),
     Tool("plots-page", "pages.plots_page", "the page of plots in crates/status_page is its page/plots.html; --write"),
     Tool("versions", "pages.versions", "the program, the clients, the gateway and the pages have one version"),
+    Tool("frozen", "pages.frozen", "the bytes that docs/STORE.md says are frozen are those of the sources and of docs/codes.csv"),
     Tool("metric-names", "pages.metric_names", "the alert rules, the dashboard and the pages have the names of the server's numbers"),
     Tool("installed", "pages.installed", "the pages as they are installed: each link leads to something, and no block needs the repository"),
     Tool("pictures", "pages.pictures", "each picture of docs/ is that of its text in docs/pictures; --write"),
@@ -45,7 +46,7 @@ CHECKS = [
     Tool("network", "network.sh", "the tunnel and the proxies of docs/NETWORK.md, in two network namespaces; as root"),
     Tool("plots-shown", "checks.plots_shown", "the page of plots in headless Chromium, beside a server that is loaded, killed and started again; --pictures"),
     Tool("alert-rules", "checks.alert_rules", "the alert rules and their tests, and the dashboard's expressions, by promtool"),
-    Tool("package", "package.sh", "makes the Debian package, and installs and removes it in a new system; as root"),
+    Tool("package", "package.sh", "makes the packages with their checksums, and installs and removes Debian's in a new system; as root"),
     Tool("units", "units.sh", "the steps of docs/operating and the units of deploy/ in a container; as root"),
     Tool("units-inside", "checks.units_inside", "the steps alone, on a system that is thrown away; as root"),
 ]

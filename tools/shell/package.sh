@@ -1,15 +1,15 @@
 #!/usr/bin/env bash
 # Makes the Debian packages, and installs, runs, upgrades, removes and purges them in a new system of
-# Debian 12 that debootstrap makes.
+# Debian 12 that debootstrap makes. Then it makes all packages with their checksums.
 #
 #     tools/pathd-tools package [--system FOLDER] [--gateway GATEWAY] [PROGRAM]
 #
 # PROGRAM is crates/pathd/out/pathd if left out, which `rt run` builds. GATEWAY is
-# gateway/out/pathd-gateway if left out, which `gateway/build` builds; where it is not there the
-# package pathd-gateway is left out. FOLDER is a system that debootstrap has made before
+# gateway/out/pathd-gateway if left out, which `gateway/build` builds; where it is not there its
+# package and those of the clients are left out. FOLDER is a system that debootstrap has made before
 # (`--variant=minbase bookworm FOLDER`); it is copied, and not changed. Without it one is fetched from
-# deb.debian.org. It has to be run as root, on Debian 12 with debootstrap, make, git, binutils and
-# lintian. No service is started there, as the new system has no systemd; `tools/pathd-tools units`
+# deb.debian.org. It has to be run as root, on Debian 12 with debootstrap, make, git, binutils,
+# lintian, python3-setuptools and python3-wheel. No service is started there, as the new system has no systemd; `tools/pathd-tools units`
 # tries the units of the packages.
 # shellcheck disable=SC2016 # lines for the new system's shell
 set -euo pipefail
@@ -125,4 +125,12 @@ expect "the gateway serves as its user, and ends by SIGTERM" inside '
   wait $!'
 touch "$root/etc/pathd-gateway/server.key"
 remove_package pathd-gateway ./etc/pathd-gateway ./etc/pathd-gateway/server.key
+
+sums() { # makes all packages, and prints their checksums
+  make -C "$top" --silent packages PROGRAM="$program" GATEWAY="$gateway"
+}
+made=$(sums)
+expect "five packages have checksums" [ "$(wc -l <<<"$made")" = 5 ]
+expect "all packages have the same bytes when they are made again" [ "$made" = "$(sums)" ]
+expect "the checksums are those of the packages" env --chdir="$top/out" sha256sum --check --quiet SHA256SUMS
 [ "$wrong" = 0 ]

@@ -180,7 +180,7 @@ pub const RESERVE: &str = "reserve";
 pub const LAYOUT: &str = "layout";
 
 /// The version of the program, and the versions of the store's format that it reads.
-pub const VERSION: &str = "0.9.0 (format versions 1 and 2)";
+pub const VERSION: &str = "1.0-rc1 (format versions 1 and 2)";
 
 /// What the help says of the core ASes.
 const CORES_HELP: &str = "The core ASes, as ISD-AS texts joined by commas";

@@ -9,7 +9,7 @@ use std::alloc::{AllocError, Global};
 use store_layout::LATEST;
 
 /// The version of the program.
-pub const VERSION: &str = "0.9.0";
+pub const VERSION: &str = "1.0-rc1";
 
 /// The lines of the program of this version.
 #[tactic(auto, unfolding(crate::specs::Page::build_text))]

@@ -331,7 +331,7 @@ process_open_fds 19
 process_max_fds 1024
 # HELP pathd_build_info 1 for the version of the program, and the format that its checkpoints have.
 # TYPE pathd_build_info gauge
-pathd_build_info{version=\"0.9.0\",format=\"2\"} 1
+pathd_build_info{version=\"1.0-rc1\",format=\"2\"} 1
 # HELP pathd_refusals_total Messages that were refused, by code.
 # TYPE pathd_refusals_total counter
 pathd_refusals_total{code=\"01\"} 9

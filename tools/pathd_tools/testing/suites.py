@@ -11,7 +11,7 @@ from pathd_tools.testing.jobs import Job, Result
 # The seconds that a check or a suite may take.
 LIMIT = 1200
 # The checks of pages, each with its words.
-PAGES = ["links", "complete", "uses", "proofs", "apart", "unsafe", "codes", "help-texts", "versions", "metric-names", "plots-page", "widths", "blocks", "installed", "pictures", "reading --check"]
+PAGES = ["links", "complete", "uses", "proofs", "apart", "unsafe", "codes", "help-texts", "versions", "frozen", "metric-names", "plots-page", "widths", "blocks", "installed", "pictures", "reading --check"]
 GATEWAY = """protoc go protoc-gen-go protoc-gen-go-grpc golang-google-protobuf-dev golang-github-golang-protobuf-1-5-dev
 golang-google-grpc-dev golang-golang-x-net-dev openssl"""
 # What each suite needs, and its words, in which PROGRAM is the program's path.
