@@ -5,6 +5,7 @@ import (
 	"testing"
 	"time"
 
+	"google.golang.org/grpc"
 	"google.golang.org/grpc/codes"
 	"google.golang.org/grpc/status"
 	"google.golang.org/protobuf/proto"
@@ -89,10 +90,44 @@ func TestTheContentOfSegments(t *testing.T) {
 			t.Errorf("%s: %v", what, err)
 		}
 	}
-	looped := newContent()
-	looped.body[0].NextIsdAs, looped.body[1].IsdAs = core, core
-	segment := looped.signed(t, one, one)
-	if err := register(ctx, conn, segment); err == nil {
-		t.Error("an AS that comes twice")
+	hop := pki.Hop{Signer: one, KeyOf: core, Base: 1, Serial: 1}
+	info := func(c *content) []byte { out, _ := proto.Marshal(c.info); return out }(newContent())
+	many := func(count int, as func(number int) uint64) []byte {
+		var hops []pki.Hop
+		for number := 0; number < count; number++ {
+			c := newContent()
+			c.body[0].IsdAs, c.body[0].NextIsdAs = as(number), as(number+1)
+			if number > 0 {
+				c.body[0].HopEntry.HopField.Ingress = 2
+			}
+			if number == count-1 {
+				c.body[0].NextIsdAs, c.body[0].HopEntry.HopField.Egress = 0, 0
+			}
+			body, err := proto.Marshal(c.body[0])
+			pki.Must(t, err)
+			hops = append(hops, hop)
+			hops[number].Body, hops[number].IsdAS, hops[number].KeyOf = body, as(number), as(number)
+			if as(number) == leaf {
+				hops[number].Signer = two
+			}
+		}
+		return pki.SegmentOf(t, info, 1, hops...)
+	}
+	for what, c := range map[string]struct {
+		code    string
+		segment []byte
+	}{
+		"no entries":           {"0x28", many(0, func(int) uint64 { return core })},
+		"65 entries":           {"0x28", many(65, func(int) uint64 { return core })},
+		"an AS twice":          {"0x27", many(3, func(number int) uint64 { return []uint64{core, leaf, core, 0}[number] })},
+		"bytes that are cut":   {"0x31", append(many(1, func(int) uint64 { return core }), 0x12)},
+		"a field of groups":    {"0x31", append(many(1, func(int) uint64 { return core }), 0x7b)},
+		"another type of wire": {"0x22", append(many(1, func(int) uint64 { return core }), 0x08, 1)},
+	} {
+		request := pki.Registration(2, c.segment)
+		err := conn.Invoke(ctx, registrationPath, &rawMessage{request}, &rawMessage{}, grpc.ForceCodec(rawCodec{}))
+		if status.Code(err) != codes.InvalidArgument || !strings.HasPrefix(status.Convert(err).Message(), c.code+" ") {
+			t.Errorf("%s: %v", what, err)
+		}
 	}
 }

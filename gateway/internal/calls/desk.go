@@ -46,7 +46,7 @@ type Options struct {
 	Pathd Asker
 	// Verifier verifies registrations before pathd gets them. Nil is none.
 	Verifier Verifier
-	// Roles has who may make which calls, and Journal a line for each registration and each refusal. Nil is
+	// Roles has who may make which calls, and Journal a line for each registration, removal and refusal. Nil is
 	// everybody, and none.
 	Roles   *roles.Roles
 	Journal *Journal
