@@ -16,8 +16,8 @@ _arguments \
   '--cert[a certificate and its chain]:FILE:_files' \
   '--key[the key of the certificate]:FILE:_files' \
   '--client-ca[authorities of clients]:FILE:_files' \
-  '--roles[which client certificates may look up and register]:FILE:_files' \
-  '--log[a line for each registration and each refusal]:FORMAT:(text json)' \
+  '--roles[which client certificates may look up, register and remove]:FILE:_files' \
+  '--log[a line for each registration, removal and refusal]:FORMAT:(text json)' \
   '--trust[TRCs and chains]:FOLDER:_files -/' \
   '--trust-server[a control service with chains and TRCs]:ADDR:' \
   '--status[the address of the numbers]:ADDR:' \
