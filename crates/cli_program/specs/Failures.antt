@@ -1,11 +1,10 @@
 -- Why a command line is not carried out, where its server ended early, and the status by that.
-use Rattle.std.specs.Prelude.{◌≡◌, ℕ, Bool, true, false, codes}
+use Rattle.std.specs.Prelude.{◌≡◌, ℕ, if◌then◌else◌, codes}
 use Rattle.clap.specs.declared.parser.matches.Found.{Found}
-use Rattle.clap.specs.Words.{found_of}
 use Rattle.cli_commands.specs.Options.{IsNumberOf}
-use Rattle.cli_words.specs.declared.command_line.CommandLine.{CommandLine}
 use Rattle.cli_words.specs.declared.command_line.Subcommand.{Subcommand}
 use Rattle.cli_words.specs.declared.command_line.Subcommand.TheVariants.{Run}
+use Rattle.cli_lines.specs.Failures.{is_lasting}
 use Rattle.path_server.specs.declared.error.RunError.{RunError}
 use Rattle.path_server.specs.declared.error.RunError.TheVariants as server
 use Rattle.cli_lines.specs.declared.failure.Failure.{Failure}
@@ -16,17 +15,12 @@ abbrev pub failure_of : RunError → Failure
 failure_of server.NoMemory = failure.ServerMemory
 failure_of server.Net = failure.BrokenListener
 
--- The words ask for a server, and a server would fail so again.
-abbrev pub is_final : Subcommand → Bool → Bool
-is_final Run is_lasting = is_lasting
-is_final _ is_lasting = false
+-- The status of a failure that a server meets again: for a server that of its words, which is 1
+-- unless they name one, and else 1.
+abbrev pub IsFinalStatusOf : Subcommand → Found → ℕ → Type 0
+IsFinalStatusOf Run found status = IsNumberOf found (codes "final-status") 8 1 status
+IsFinalStatusOf _ found status = status ≡ 1
 
--- The status is that of the words, which is 1 unless they name one, where the failure is final, and
--- else 1.
-abbrev pub IsStatusWhere : Bool → Found → ℕ → Type 0
-IsStatusWhere true found status = IsNumberOf found (codes "final-status") 8 1 status
-IsStatusWhere false found status = status ≡ 1
-
--- The status of the program by a failure of the words, which a server meets again or does not.
-abbrev pub IsStatusOf : CommandLine → Bool → ℕ → Type 0
-IsStatusOf line is_lasting status = IsStatusWhere (is_final line.subcommand is_lasting) (found_of line.options) status
+-- The status of the program by a failure, where the words have this status for one that is met again.
+abbrev pub status_by : ℕ → Failure → ℕ
+status_by final_status failure = if is_lasting failure then final_status else 1

@@ -3,7 +3,8 @@
 ghost use Rattle.std.specs.Prelude.{◌≡◌, codes};
 ghost use Rattle.clap.specs.Words.{found_of};
 ghost use Rattle.cli_commands.specs.Options.{IsNumberOf};
-ghost use Rattle.cli_program.specs.Failures.{IsStatusOf};
+ghost use Rattle.cli_lines.specs.Failures.{ended_by};
+ghost use Rattle.cli_program.specs.Failures.{IsFinalStatusOf, status_by};
 
 use crate::output::Output;
 use crate::serving::serve_file;
@@ -13,8 +14,8 @@ use clap::{ArgMatches, Error};
 use cli_commands::{
     answer, ask_server, copy_file, format_file, more_of, show_file, status_of_file, upgrade_file,
 };
-use cli_lines::{Done, Ended, Failed, Failure, Priority, status_of};
-use cli_words::{CommandLine, FINAL_STATUS, LOG_PRIORITY, Subcommand, read};
+use cli_lines::{Done, Failed, Failure, Priority, status_of};
+use cli_words::{CommandLine, FINAL_STATUS, LOG_PRIORITY, Request, Subcommand, read, request_in};
 use std::io::{IsTerminal, Read, Write};
 use std::{env, io};
 
@@ -58,28 +59,87 @@ pub fn run<R: System, I: Read + IsTerminal + Drop + Send + 'static, O: Write + I
     match outcome {
         Ok(()) => Ok(Done::Carried),
         Err(failure) => {
-            let failed = failed_by(&line, failure.ended(), failure.is_lasting());
+            let words = end_words(&line);
+            if words.is_of_rows && has_left(&failure, &output) {
+                return Ok(Done::Carried);
+            }
+            let failed = failed_by(words, &failure);
             explain(rt, &failure, &output, failed.is_marked);
             Err(failed)
         }
     }
 }
 
-/// How the program ends by a failure of these words, which a server meets again or does not.
-fn failed_by(line: &CommandLine<'_>, ended: Ended, is_lasting: bool) -> Failed
-    ensures ended { result.ended ≡ ended }
-    ensures status { IsStatusOf line.now is_lasting result.status }
+/// What words say of a program that fails.
+#[derive(Clone, Copy)]
+struct EndWords {
+    /// The exit status where a server would fail so again.
+    final_status: u8,
+    /// Whether the last lines on standard error begin with their priority.
+    is_marked: bool,
+    /// Whether they ask to print rows alone, of which a reader may want no more.
+    is_of_rows: bool,
+}
+
+/// What these words say of a program that fails. The options for it are those of a server alone.
+fn end_words(line: &CommandLine<'_>) -> EndWords
+    ensures { IsFinalStatusOf line.now.subcommand (found_of line.now.options) result.final_status }
 {
-    let is_server = line.subcommand == Subcommand::Run;
-    let is_final = is_server && is_lasting;
+    match line.subcommand {
+        Subcommand::Run => EndWords {
+            final_status: final_status(&line.options),
+            is_marked: line.options.get_flag(LOG_PRIORITY),
+            is_of_rows: false,
+        },
+        Subcommand::Show => EndWords::of_rows(true),
+        Subcommand::Ask => EndWords::of_rows(asks_for_rows(&line.options)),
+        Subcommand::Once
+        | Subcommand::Format
+        | Subcommand::Copy
+        | Subcommand::Status
+        | Subcommand::Upgrade => EndWords::of_rows(false),
+    }
+}
+
+impl EndWords {
+    /// What the words of a command but `run` say.
+    fn of_rows(is_of_rows: bool) -> EndWords
+        ensures { result.final_status ≡ 1 }
+    {
+        EndWords {
+            final_status: 1,
+            is_marked: false,
+            is_of_rows,
+        }
+    }
+}
+
+/// Whether a request is one for rows.
+fn asks_for_rows(options: &ArgMatches<'_>) -> bool {
+    matches!(request_in(options), Some(Request::Lookup | Request::List))
+}
+
+/// Whether the reader of standard output has left.
+fn has_left<O>(failure: &Failure<'_>, output: &Output<O>) -> bool {
+    match (failure, output.error()) {
+        (Failure::Output, Some(error)) => error.kind() == io::ErrorKind::BrokenPipe,
+        _ => false,
+    }
+}
+
+/// How the program ends by a failure of these words.
+fn failed_by(words: EndWords, failure: &Failure<'_>) -> Failed
+    ensures ended { result.ended ≡ ended_by failure.now }
+    ensures status { result.status ≡ status_by words.final_status failure.now }
+{
     Failed {
-        ended,
-        status: if is_final {
-            final_status(&line.options)
+        ended: failure.ended(),
+        status: if failure.is_lasting() {
+            words.final_status
         } else {
             1
         },
-        is_marked: is_server && line.options.get_flag(LOG_PRIORITY),
+        is_marked: words.is_marked,
     }
 }
 
