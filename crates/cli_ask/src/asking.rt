@@ -2,7 +2,7 @@
 
 use crate::answers::next_reply;
 use crate::error::AskError;
-use crate::lines::{print_ack, print_segments};
+use crate::lines::{print_ack, print_found};
 use crate::link::Link;
 use crate::listing::list;
 use crate::purging::{purge, purge_at_once};
@@ -15,6 +15,15 @@ use session_core::{Message, Reply};
 use std::alloc::Global;
 use std::io::Write;
 
+/// Whether an answer has all that was asked for.
+#[derive(Clone, Copy, Debug, PartialEq, Eq)]
+pub enum Answer {
+    /// It has.
+    Whole,
+    /// It has as many segments as the reply to a lookup may have, and there may be more.
+    Cut,
+}
+
 /// Asks a server over a link, and prints the answer. A purge without a moment is one by `now`, in
 /// half seconds since 1970.
 pub fn ask<L: Link, W: Write>(
@@ -24,20 +33,25 @@ pub fn ask<L: Link, W: Write>(
     now: u64,
     form: RowForm,
     writer: &mut W,
-) -> Result<(), AskError> {
+) -> Result<Answer, AskError> {
     match question {
         Question::Lookup(source, destination) => {
-            look_up(alloc, link, *source, *destination, form, writer)
+            return look_up(alloc, link, *source, *destination, form, writer);
         }
         Question::List(kind, start, end) => {
-            list(alloc, link, *kind, (*start, *end), form, writer)
+            list(alloc, link, *kind, (*start, *end), form, writer)?;
         }
-        Question::Purge(moment) => { purge(alloc, link, moment.unwrap_or(now), form, writer) }
+        Question::Purge(moment) => {
+            purge(alloc, link, moment.unwrap_or(now), form, writer)?;
+        }
         Question::PurgeAtOnce(moment) => {
-            purge_at_once(alloc, link, moment.unwrap_or(now), form, writer)
+            purge_at_once(alloc, link, moment.unwrap_or(now), form, writer)?;
         }
-        Question::Remove(kind, id) => remove(alloc, link, *kind, *id, form, writer),
+        Question::Remove(kind, id) => {
+            remove(alloc, link, *kind, *id, form, writer)?;
+        }
     }
+    Ok(Answer::Whole)
 }
 
 /// Sends a request, and reads its reply. A refusal is an error.
@@ -63,11 +77,11 @@ fn look_up<L: Link, W: Write>(
     destination: IsdAs,
     form: RowForm,
     writer: &mut W,
-) -> Result<(), AskError> {
+) -> Result<Answer, AskError> {
     let body = lookup_body(alloc, source, destination)?;
     match exchange(alloc, link, &Message::Lookup(body.as_slice()))? {
         Reply::Found(kind, segments) => {
-            print_segments(alloc, form, kind, segments.as_slice(), writer)
+            print_found(alloc, form, kind, segments.as_slice(), writer)
         }
         _ => Err(AskError::Unasked),
     }

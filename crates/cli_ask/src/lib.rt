@@ -21,7 +21,7 @@ mod reply;
 mod request;
 mod steps;
 
-pub use asking::ask;
+pub use asking::{Answer, ask};
 pub use codes::NamedCode;
 pub use error::{AskError, AskFault};
 pub use link::{Link, TcpLink};

@@ -2,12 +2,13 @@
 
 ghost use Rattle.std.specs.Prelude.{◌≡◌, IfOk, OnOk, string_bytes};
 ghost use Rattle.std.specs.Io.KnownBytes.{Appends};
-ghost use Rattle.cli_ask.specs.Lines.{ack_line, ack_text, put_text, left_text, ack_json, counts_json, put_json, left_json, segment_lines};
+ghost use Rattle.cli_ask.specs.Lines.{ack_line, ack_text, put_text, left_text, ack_json, counts_json, put_json, left_json, segment_lines, found_lines, answer_of};
 
+use crate::asking::Answer;
 use crate::error::AskError;
 use row_lines::{RowForm, joined, line_as, number_member, object_line};
 use seg_core::{SegType, Segment};
-use session_core::Ack;
+use session_core::{Ack, MOST_SEGMENTS};
 use std::alloc::{AllocError, Global};
 use std::io::Write;
 use whole_writes::{WriteFailed, write_all};
@@ -17,8 +18,8 @@ pub(crate) fn ack_line(alloc: Global, form: RowForm, ack: &Ack) -> Result<String
     ensures { IfOk result (λ line. string_bytes line ≡ ack_line form ack.now) }
 {
     match form {
-        RowForm::Text => ack_text(alloc, ack),
-        RowForm::Json => ack_json(alloc, ack),
+        RowForm::Text | RowForm::Dated => ack_text(alloc, ack),
+        RowForm::Json | RowForm::JsonOfMore => ack_json(alloc, ack),
     }
 }
 
@@ -118,6 +119,28 @@ pub(crate) fn print_segments<W: Write>(
         print(writer, line.as_bytes())?;
     }
     Ok(())
+}
+
+/// Prints the lines of what a lookup finds. With as many segments as a reply may have there may be
+/// more: the last line says so, where its form can, and the answer does.
+pub(crate) fn print_found<W: Write>(
+    alloc: Global,
+    form: RowForm,
+    kind: SegType,
+    segments: &[Segment],
+    writer: &mut W,
+) -> Result<Answer, AskError>
+    ensures lines { OnOk result (Appends (W.contents writer.old) (W.contents writer.new) (found_lines form kind segments.now)) }
+    ensures answer { IfOk result (λ answer. answer ≡ answer_of segments.now) }
+{
+    if segments.len() != MOST_SEGMENTS {
+        print_segments(alloc, form, kind, segments, writer)?;
+        return Ok(Answer::Whole);
+    }
+    let (front, last) = segments.split_at(MOST_SEGMENTS - 1);
+    print_segments(alloc, form, kind, front, writer)?;
+    print_segments(alloc, form.of_more(), kind, last, writer)?;
+    Ok(Answer::Cut)
 }
 
 /// Writes all of the bytes.

@@ -4,7 +4,7 @@ use Rattle.std.specs.List.{flat_map}
 use Rattle.std.specs.Fmt.{decimal}
 use Rattle.row_map.specs.Database.{RowView}
 use Rattle.row_lines.specs.declared.form.RowForm.{RowForm}
-use Rattle.row_lines.specs.declared.form.RowForm.TheVariants.{Text, Json}
+use Rattle.row_lines.specs.declared.form.RowForm.TheVariants.{Text, Dated, Json, JsonOfMore}
 use Rattle.row_lines.specs.Form.{line_as}
 
 -- The lines of all rows, in the order of their keys.
@@ -18,7 +18,9 @@ place_line place = codes "place " ++ (decimal place ++ 0x0a ∷ [])
 -- What follows the rows: as text the line of the place, and as JSON nothing.
 abbrev pub store_end : RowForm → ℕ → List ℕ
 store_end Text place = place_line place
+store_end Dated place = place_line place
 store_end Json place = []
+store_end JsonOfMore place = []
 
 -- The text of a store.
 abbrev pub store_text : RowForm → List RowView → ℕ → List ℕ

@@ -59,8 +59,8 @@ fn write_end<W: Write>(
     ensures err { IfErr result (TextWriteFails (W.contents writer.old) (W.contents writer.new) (store_end form place)) }
 {
     match form {
-        RowForm::Text => write_place(alloc, place, writer),
-        RowForm::Json => Ok(()),
+        RowForm::Text | RowForm::Dated => write_place(alloc, place, writer),
+        RowForm::Json | RowForm::JsonOfMore => Ok(()),
     }
 }
 

@@ -7,7 +7,8 @@ use Rattle.seg_core.specs.Digest.{segment_digest}
 use Rattle.seg_core.specs.Encoding.{segment_encoding}
 use Rattle.seg_check.specs.Expiry.{expiry_of}
 use Rattle.row_map.specs.Database.{RowView}
-use Rattle.row_lines.specs.Text.{type_word, end_text, first_entry, last_entry}
+use Rattle.row_lines.specs.Date.{date_text}
+use Rattle.row_lines.specs.Text.{type_word, end_text, first_entry, last_entry, made_date}
 
 -- A member whose value is a text that needs no escape.
 abbrev pub text_member : List ℕ → List ℕ → List ℕ
@@ -29,9 +30,14 @@ object_line members = codes "{" ++ (members ++ (codes "}" ++ 0x0a ∷ []))
 unfoldable pub json_key : RowView → List ℕ
 json_key row = joined (text_member (codes "type") (type_word row.0)) (text_member (codes "id") (encode_lower (segment_digest row.1)))
 
--- The timestamp in seconds since 1970, and when the segment expires, in half seconds.
+-- The timestamp and the expiry as dates.
+unfoldable pub json_dates : SegmentView → List ℕ
+json_dates s = joined (text_member (codes "made") (made_date s)) (text_member (codes "expires") (date_text (expiry_of s)))
+
+-- The timestamp in seconds since 1970, and when the segment expires, in half seconds, and both as dates.
 unfoldable pub json_times : SegmentView → List ℕ
-json_times s = joined (number_member (codes "timestamp") s.timestamp) (number_member (codes "expiry") (expiry_of s))
+json_times s =
+    joined (joined (number_member (codes "timestamp") s.timestamp) (number_member (codes "expiry") (expiry_of s))) (json_dates s)
 
 -- The members that come first: the type, the id and the times.
 unfoldable pub json_front : RowView → List ℕ
@@ -51,6 +57,14 @@ json_content s =
 unfoldable pub json_rest : SegmentView → List ℕ
 json_rest s = joined (json_ends s) (json_content s)
 
--- The line of a row: all of these.
+-- All of these.
+unfoldable pub json_members : RowView → List ℕ
+json_members row = joined (json_front row) (json_rest row.1)
+
+-- The line of a row.
 unfoldable pub json_line : RowView → List ℕ
-json_line row = object_line (joined (json_front row) (json_rest row.1))
+json_line row = object_line (json_members row)
+
+-- The line of a row that says that there may be more rows.
+unfoldable pub json_line_of_more : RowView → List ℕ
+json_line_of_more row = object_line (joined (json_members row) (codes "\"more\":true"))

@@ -2,3 +2,4 @@ pub mod Text
 pub mod Json
 pub mod Form
 pub mod Reading
+pub mod Date

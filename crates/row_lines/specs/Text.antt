@@ -1,5 +1,5 @@
 -- A row as a line of text.
-use Rattle.std.specs.Prelude.{ℕ, ◌-◌, ◌/◌, ◌%◌, ◌^◌, List, [], ◌∷◌, ◌++◌, length, codes, Option, Some, None}
+use Rattle.std.specs.Prelude.{ℕ, ◌-◌, ◌*◌, ◌/◌, ◌%◌, ◌^◌, List, [], ◌∷◌, ◌++◌, length, codes, Option, Some, None}
 use Rattle.std.specs.List.{slice_get}
 use Rattle.std.specs.Fmt.{decimal}
 use Rattle.hex.specs.Hex.{encode_lower}
@@ -10,6 +10,7 @@ use Rattle.seg_core.specs.SegmentView.{EntryView, SegmentView}
 use Rattle.seg_core.specs.Digest.{segment_digest}
 use Rattle.seg_check.specs.Expiry.{expiry_of}
 use Rattle.row_map.specs.Database.{RowView}
+use Rattle.row_lines.specs.Date.{date_text}
 
 -- The word of a type.
 abbrev pub type_word : SegType → List ℕ
@@ -51,3 +52,15 @@ row_ends s = before (end_text (first_entry s.entries)) (before (end_text (last_e
 -- The line of a row.
 unfoldable pub row_line : RowView → List ℕ
 row_line row = before (row_head row) (row_ends row.1) ++ 0x0a ∷ []
+
+-- The timestamp as a date.
+abbrev pub made_date : SegmentView → List ℕ
+made_date s = date_text (s.timestamp * 2)
+
+-- The timestamp and the expiry as dates.
+abbrev pub row_dates : SegmentView → List ℕ
+row_dates s = before (made_date s) (date_text (expiry_of s))
+
+-- The line of a row with these dates at its end.
+unfoldable pub dated_line : RowView → List ℕ
+dated_line row = before (row_head row) (before (row_ends row.1) (row_dates row.1 ++ 0x0a ∷ []))

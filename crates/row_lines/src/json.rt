@@ -1,9 +1,10 @@
 //! A row as a line of JSON.
 
 ghost use Rattle.std.specs.Prelude.{◌≡◌, IfOk, string_bytes};
-ghost use Rattle.row_lines.specs.Json.{text_member, number_member, joined, object_line, json_key, json_times, json_front, json_ends, json_content, json_rest, json_line};
+ghost use Rattle.row_lines.specs.Json.{text_member, number_member, joined, object_line, json_key, json_dates, json_times, json_front, json_ends, json_content, json_rest, json_members, json_line, json_line_of_more};
 
-use crate::text::{first_end, last_end, type_word};
+use crate::date::date_text;
+use crate::text::{first_end, last_end, made_date, type_word};
 use seg_check::{expiry, seg_id};
 use seg_core::{SegType, Segment};
 use std::alloc::{AllocError, Global};
@@ -14,10 +15,32 @@ use std::alloc::{AllocError, Global};
 pub fn json_line(alloc: Global, kind: SegType, segment: &Segment) -> Result<String, AllocError>
     ensures { IfOk result (λ line. string_bytes line ≡ json_line (kind, segment.now)) }
 {
+    let members = json_members(alloc, kind, segment)?;
+    object_line(alloc, members.as_str())
+}
+
+/// The same, with a member that says that there may be more rows.
+#[tactic(auto, unfolding(crate::specs::Json::json_line_of_more))]
+pub(crate) fn json_line_of_more(
+    alloc: Global,
+    kind: SegType,
+    segment: &Segment,
+) -> Result<String, AllocError>
+    ensures { IfOk result (λ line. string_bytes line ≡ json_line_of_more (kind, segment.now)) }
+{
+    let members = json_members(alloc, kind, segment)?;
+    let members = joined(alloc, members.as_str(), "\"more\":true")?;
+    object_line(alloc, members.as_str())
+}
+
+/// The members of a row's object.
+#[tactic(auto, unfolding(crate::specs::Json::json_members))]
+fn json_members(alloc: Global, kind: SegType, segment: &Segment) -> Result<String, AllocError>
+    ensures { IfOk result (λ text. string_bytes text ≡ json_members (kind, segment.now)) }
+{
     let front = json_front(alloc, kind, segment)?;
     let rest = json_rest(alloc, segment)?;
-    let members = joined(alloc, front.as_str(), rest.as_str())?;
-    object_line(alloc, members.as_str())
+    joined(alloc, front.as_str(), rest.as_str())
 }
 
 /// The members that come first: the type, the id and the times.
@@ -58,7 +81,21 @@ fn json_times(alloc: Global, segment: &Segment) -> Result<String, AllocError>
 {
     let timestamp = number_member(alloc, "timestamp", u64::from(segment.timestamp()))?;
     let expires = number_member(alloc, "expiry", expiry(segment))?;
-    joined(alloc, timestamp.as_str(), expires.as_str())
+    let numbers = joined(alloc, timestamp.as_str(), expires.as_str())?;
+    let dates = json_dates(alloc, segment)?;
+    joined(alloc, numbers.as_str(), dates.as_str())
+}
+
+/// The same two as dates.
+#[tactic(auto, unfolding(crate::specs::Json::json_dates))]
+fn json_dates(alloc: Global, segment: &Segment) -> Result<String, AllocError>
+    ensures { IfOk result (λ text. string_bytes text ≡ json_dates segment.now) }
+{
+    let made = made_date(alloc, segment)?;
+    let expires = date_text(alloc, expiry(segment))?;
+    let made = text_member(alloc, "made", made.as_str())?;
+    let expires = text_member(alloc, "expires", expires.as_str())?;
+    joined(alloc, made.as_str(), expires.as_str())
 }
 
 /// The first and the last ISD-AS.

@@ -4,12 +4,14 @@
 //! type and the segment of a line of JSON, whatever the order of its members.
 #![tactic(auto)]
 
+mod date;
 mod form;
 mod json;
 mod reading;
 mod text;
 
+pub use date::date_text;
 pub use form::{RowForm, line_as};
 pub use json::{joined, json_line, number_member, object_line};
 pub use reading::{LineError, read_line, type_named};
-pub use text::{row_line, type_word};
+pub use text::{dated_line, row_line, type_word};

@@ -3,8 +3,9 @@
 ghost use Rattle.std.specs.Prelude.{◌≡◌, IfOk, string_bytes};
 ghost use Rattle.std.specs.Option.{option_map};
 ghost use Rattle.seg_core.specs.EntryView.{entry_view};
-ghost use Rattle.row_lines.specs.Text.{type_word, end_text, first_entry, last_entry, row_head, row_ends, row_line};
+ghost use Rattle.row_lines.specs.Text.{type_word, end_text, first_entry, last_entry, row_head, row_ends, row_line, made_date, row_dates, dated_line};
 
+use crate::date::date_text;
 use seg_check::{expiry, seg_id};
 use seg_core::{Entry, SegType, Segment};
 use std::alloc::{AllocError, Global};
@@ -18,6 +19,33 @@ pub fn row_line(alloc: Global, kind: SegType, segment: &Segment) -> Result<Strin
     let head = row_head(alloc, kind, segment)?;
     let ends = row_ends(alloc, segment)?;
     format!(in alloc; "{head} {ends}\n")
+}
+
+/// The same, and then the timestamp and the expiry as dates.
+#[tactic(auto, unfolding(crate::specs::Text::dated_line))]
+pub fn dated_line(alloc: Global, kind: SegType, segment: &Segment) -> Result<String, AllocError>
+    ensures { IfOk result (λ line. string_bytes line ≡ dated_line (kind, segment.now)) }
+{
+    let head = row_head(alloc, kind, segment)?;
+    let ends = row_ends(alloc, segment)?;
+    let dates = row_dates(alloc, segment)?;
+    format!(in alloc; "{head} {ends} {dates}\n")
+}
+
+/// The timestamp and the expiry as dates.
+fn row_dates(alloc: Global, segment: &Segment) -> Result<String, AllocError>
+    ensures { IfOk result (λ text. string_bytes text ≡ row_dates segment.now) }
+{
+    let made = made_date(alloc, segment)?;
+    let expires = date_text(alloc, expiry(segment))?;
+    format!(in alloc; "{made} {expires}")
+}
+
+/// The timestamp as a date.
+pub(crate) fn made_date(alloc: Global, segment: &Segment) -> Result<String, AllocError>
+    ensures { IfOk result (λ text. string_bytes text ≡ made_date segment.now) }
+{
+    date_text(alloc, u64::from(segment.timestamp()) * 2)
 }
 
 fn row_head(alloc: Global, kind: SegType, segment: &Segment) -> Result<String, AllocError>

@@ -126,9 +126,9 @@ fn question_of(exchange: &Exchange) -> Result<Question, Fail> {
 }
 
 /// The fault by which a request ended, if it ended by one.
-pub(crate) fn fault_of(came: &Result<(), AskError>) -> Option<AskFault> {
+pub(crate) fn fault_of<T>(came: &Result<T, AskError>) -> Option<AskFault> {
     match came {
-        Ok(()) => None,
+        Ok(_) => None,
         Err(error) => Some(error.fault()),
     }
 }
@@ -415,10 +415,13 @@ pub(crate) fn joined(alloc: Global, texts: &[&str]) -> Result<String, AllocError
 }
 
 /// The text of the error by which a request ended, which is empty where it ended by none.
-pub(crate) fn error_text(alloc: Global, came: Result<(), AskError>) -> Result<String, AllocError> {
+pub(crate) fn error_text<T>(
+    alloc: Global,
+    came: &Result<T, AskError>,
+) -> Result<String, AllocError> {
     match came {
-        Ok(()) => Ok(String::new(alloc)),
-        Err(error) => format!(in alloc; "{error}"),
+        Ok(_) => Ok(String::new(alloc)),
+        Err(error) => format!(in alloc; "{}", *error),
     }
 }
 
@@ -428,7 +431,7 @@ fn list_over(alloc: Global, link: &mut Script, output: &mut Vec<u8>) -> Result<S
         return Err(Fail::from("a list asks a question"));
     };
     let came = ask(alloc, link, &question, 9, RowForm::Text, output);
-    Ok(error_text(alloc, came)?)
+    Ok(error_text(alloc, &came)?)
 }
 
 /// Lists down segments over a script, and sees what was sent and printed.

@@ -103,7 +103,7 @@ fn register_over<I: Read>(
     let came = register(alloc, link, input, RowForm::Json, &mut printed, &mut noted);
     Ok(Registered {
         fault: fault_of(&came),
-        text: error_text(alloc, came)?,
+        text: error_text(alloc, &came)?,
         printed,
         noted,
     })
