@@ -7,7 +7,8 @@ use std::fmt;
 
 /// The codes that have a name, as docs/codes.csv has them.
 #[rattlefmt::skip]
-const NAMES: [(u8, &str); 26] = [
+const NAMES: [(u8, &str); 31] = [
+    (0x01, "Memory"),
     (0x11, "Truncated"),
     (0x12, "LongVarint"),
     (0x13, "BadField"),
@@ -34,6 +35,10 @@ const NAMES: [(u8, &str); 26] = [
     (0x54, "Stopped"),
     (0x55, "Exhausted"),
     (0x57, "OldStore"),
+    (0x61, "NoSeat"),
+    (0x62, "OutcomeUnknown"),
+    (0x63, "NotAwaited"),
+    (0x64, "NoCommands"),
 ];
 
 /// The code of a refusal. It is printed with its name, where it has one, as `0x51 Busy`. No clause

@@ -15,7 +15,7 @@ const (
 
 // table has the codes of docs/codes.csv.
 var table = map[Code]Meaning{
-	0x01: {room, "", "memory was refused"},
+	0x01: {room, "Memory", "memory was refused"},
 	0x11: {never, "Truncated", "the bytes end within a field"},
 	0x12: {never, "LongVarint", "a number has more than 64 bits"},
 	0x13: {never, "BadField", "the number of a field is 0 or too large"},
@@ -42,8 +42,8 @@ var table = map[Code]Meaning{
 	0x54: {operator, "Stopped", "the device of the store has failed"},
 	0x55: {room, "Exhausted", "no place is left"},
 	0x57: {operator, "OldStore", "the store is of a version that has no removals"},
-	0x61: {soon, "", "the server has no room for the session"},
-	0x62: {unsure, "", "the store stopped before the command was committed"},
-	0x63: {unsure, "", "the server waits no longer for the commit"},
-	0x64: {operator, "", "the server takes no commands here"},
+	0x61: {soon, "NoSeat", "the server has no room for the session"},
+	0x62: {unsure, "OutcomeUnknown", "the store stopped before the command was committed"},
+	0x63: {unsure, "NotAwaited", "the server waits no longer for the commit"},
+	0x64: {operator, "NoCommands", "the server takes no commands here"},
 }

@@ -42,7 +42,7 @@ func TestTheTableHasTheCodesOfTheProject(t *testing.T) {
 func TestTexts(t *testing.T) {
 	for code, wanted := range map[Code]string{
 		0x43: "0x43 NoCore: neither side is core",
-		0x01: "0x01 memory was refused",
+		0x01: "0x01 Memory: memory was refused",
 		0x99: "0x99 an unknown code",
 	} {
 		if TextOf(code) != wanted {

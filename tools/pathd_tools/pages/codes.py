@@ -10,7 +10,7 @@ differs, and nothing else, of
 
 A row of docs/codes.csv has a code of two hexadecimal digits, its name where it has one, what is
 refused, and when it helps to send the request again (nothing where it never does). A code has its
-row's name in the crate, and in a client a name that ends with it.
+row's name in the crate, and in a client a name that ends with it, but for 0x61 and 0x62.
 """
 from __future__ import annotations
 
@@ -37,6 +37,8 @@ HEAD = ["| code | refusal; 'again' says when it helps to send the request again 
 
 # The code that refuses a session, and no message.
 NO_SESSION = 0x61
+# Codes to which the crate and the clients give names of their own.
+OWN_NAMES = {0x61, 0x62}
 
 # A code with the name before it: `Busy = 0x51`, `(BadSignature entry) = 0x31`, `SubmitError::Busy => 0x51`.
 NAMED = re.compile(r"(\w+)(?:\(_\)| \w+)?\)? =>? 0x([0-9a-f]{2})\b")
@@ -75,7 +77,7 @@ def in_ranges(text: str) -> set[int]:
 def in_crate(folder: str, suffix: str) -> list[tuple[int, str]]:
     """The codes of a folder of the crate, each with the name that it has there."""
     text = "".join(path.read_text() for path in sorted((CRATES / "reply_codes" / folder).glob(f"*{suffix}")))
-    named = NAMED.findall(text.replace(": u8 =", " ="))
+    named = NAMED.findall(text.replace(": u8 =", " =").replace("const ", ""))
     return [(int(code, 16), "" if name.isupper() or name.endswith("_code") else name) for name, code in named]
 
 
@@ -117,7 +119,7 @@ def unlike(where: str, found: set[int]) -> list[str]:
 def misnamed(where: str, found: list[tuple[int, str]]) -> list[str]:
     """Lines for codes whose names do not end with those of docs/codes.csv. What has no name, or one that two codes have, is passed over."""
     names = [row.name for row in rows()]
-    wanted = {row.code: row.name for row in rows() if names.count(row.name) == 1}
+    wanted = {row.code: row.name for row in rows() if names.count(row.name) == 1 and row.code not in OWN_NAMES}
     return [f"{where} calls {code:#04x} {name}, and docs/codes.csv {wanted[code]}" for code, name in found if name and not name.endswith(wanted.get(code, ""))]
 
 
