@@ -57,6 +57,36 @@ pub fn format_file<'a, R: AllocGlobal + Files<File = File> + Eprint, I: Read, O:
     make_store(rt, options, file, output)
 }
 
+/// Makes a store of the size that the options say in a file, if they ask for a new one and there is
+/// no such file, or one without bytes. All else is left as it is. The file is locked before it is
+/// looked at. No clause says what the file has then: those of `format` say it of any device.
+pub fn make_where_none<'a, R: AllocGlobal + Files<File = File>>(
+    rt: &R,
+    options: &ArgMatches<'a>,
+) -> Result<(), Failure<'a>> {
+    let path = path_of(options);
+    if !options.get_flag(NEW) || has_bytes(rt, path) {
+        return Ok(());
+    }
+    let file = LockedFile::open(rt, path).map_err(|error| Failure::File(path, error))?;
+    if !file.is_file() || has_bytes(rt, path) {
+        return Ok(());
+    }
+    let geometry = sizes_for(options.get_one::<u32>(ROWS).unwrap_or(1));
+    let len = geometry.sectors().saturating_mul(SECTOR as u64);
+    let (mut device, site) = device_over(path, file.into_zeros(rt, path, len, Room::Later))?;
+    let made = store_open::format(&mut device, geometry);
+    site.said_of(made.map_err(Fault::Format))
+}
+
+/// Whether there is a file that has bytes at a path, or what is no file.
+fn has_bytes<R: Files<File = File>>(rt: &R, path: &str) -> bool {
+    match fs::metadata(rt, path) {
+        Ok(found) => !found.is_file() || found.len() > 0,
+        Err(_) => false,
+    }
+}
+
 /// Asks whether a store may be made on a file, which is only read.
 fn ask_for<'a, I: Read, O: Write>(
     alloc: Global,
@@ -208,7 +238,12 @@ pub fn show_file<'a, R: AllocGlobal + Files<File = File>, O: Write>(
     let shown = if is_layout {
         show_regions(rt.alloc(), device, &mut output)
     } else {
-        show_rows(rt.alloc(), device, form_in(options), &mut output)
+        show_rows(
+            rt.alloc(),
+            device,
+            form_in(options, RowForm::Text),
+            &mut output,
+        )
     };
     let flushed = output.flush();
     site.said_of(shown)?;
@@ -237,12 +272,12 @@ fn show_rows<O: Write>(
     }
 }
 
-/// The form in which the options want rows.
-pub(crate) fn form_in(options: &ArgMatches<'_>) -> RowForm {
+/// The form in which the options want rows: as JSON, or as this text.
+pub(crate) fn form_in(options: &ArgMatches<'_>, text: RowForm) -> RowForm {
     if options.get_flag(JSON) {
         RowForm::Json
     } else {
-        RowForm::Text
+        text
     }
 }
 

@@ -1,34 +1,29 @@
 //! Where a server listens.
 
 use clap::ArgMatches;
+use cli_commands::is_address;
 use cli_lines::Failure;
 use cli_words::{LISTEN, LOOKUPS, STATUS_LISTEN};
 use server_listeners::{Listeners, raised_listener, set_accept_timeout};
-use std::net::{Net, SocketAddr, TcpListener, TcpStream};
-
-/// An address of the words, and its text.
-#[derive(Clone, Copy)]
-struct Address<'a> {
-    text: &'a str,
-    address: SocketAddr,
-}
+use std::net::{Net, TcpListener, TcpStream};
 
 /// The address of an option that may be left out.
 fn optional_address<'a>(
     words: &ArgMatches<'a>,
     option: &'static str,
-) -> Result<Option<Address<'a>>, Failure<'a>> {
+) -> Result<Option<&'a str>, Failure<'a>> {
     match words.get_str(option) {
         Some(text) => Ok(Some(address_of(option, text)?)),
         None => Ok(None),
     }
 }
 
-/// The address of an option's text.
-fn address_of<'a>(option: &'static str, text: &'a str) -> Result<Address<'a>, Failure<'a>> {
-    match text.parse::<SocketAddr>() {
-        Ok(address) => Ok(Address { text, address }),
-        Err(_) => Err(Failure::Address(option, text)),
+/// The text of an option, which has to be an address.
+fn address_of<'a>(option: &'static str, text: &'a str) -> Result<&'a str, Failure<'a>> {
+    if is_address(text) {
+        Ok(text)
+    } else {
+        Err(Failure::Address(option, text))
     }
 }
 
@@ -50,7 +45,7 @@ pub(crate) fn listen<'a, R: Net<Listener = TcpListener, Stream = TcpStream>>(
 /// Listens at an address, if there is one.
 fn bind_optional<'a, R: Net<Listener = TcpListener, Stream = TcpStream>>(
     rt: &R,
-    at: Option<Address<'a>>,
+    at: Option<&'a str>,
 ) -> Result<Option<TcpListener>, Failure<'a>> {
     match at {
         Some(address) => Ok(Some(bind(rt, address)?)),
@@ -58,14 +53,14 @@ fn bind_optional<'a, R: Net<Listener = TcpListener, Stream = TcpStream>>(
     }
 }
 
-/// Listens at an address, by a descriptor above the standard ones. An accept fails soon where no
-/// peer comes.
+/// Listens at an address, by a descriptor above the standard ones: of a name at the first of its
+/// addresses that is free. An accept fails soon where no peer comes.
 fn bind<'a, R: Net<Listener = TcpListener, Stream = TcpStream>>(
     rt: &R,
-    at: Address<'a>,
+    at: &'a str,
 ) -> Result<TcpListener, Failure<'a>> {
-    let no_listener = |error| Failure::Listen(at.text, error);
-    let listener = rt.bind(at.address).map_err(no_listener)?;
+    let no_listener = |error| Failure::Listen(at, error);
+    let listener = TcpListener::bind(rt, at).map_err(no_listener)?;
     let listener = raised_listener(listener).map_err(no_listener)?;
     set_accept_timeout(&listener).map_err(no_listener)?;
     Ok(listener)

@@ -16,6 +16,7 @@ use crate::starting::{say_addresses, say_opened, say_overfull, say_wildcards, sa
 use crate::system::{Host, System};
 use crate::usage::UsageFiles;
 use clap::ArgMatches;
+use cli_commands::make_where_none;
 use cli_lines::Failure;
 use cli_words::{CORES, DEVICE, LOG_PRIORITY, QUIET, STOP_ON_END_OF_INPUT};
 use path_hub::HubLeft;
@@ -42,8 +43,9 @@ struct Site<'a, F: PositionedFile> {
 }
 
 /// Serves the sessions of a store. Prints `ready` once peers are answered, and the number of
-/// sessions at the end. The core ASes and the key are judged before the file is opened. The server
-/// listens before the store is opened, so that peers that come early wait for the store.
+/// sessions at the end. The core ASes and the key are judged before the file is opened, and before a
+/// store is made where the words ask for that. The server listens before the store is opened, so
+/// that peers that come early wait for the store.
 pub(crate) fn serve_file<'a, R: System, I: Read + Drop + Send + 'static, O: Write>(
     rt: &R,
     words: &ArgMatches<'a>,
@@ -51,6 +53,7 @@ pub(crate) fn serve_file<'a, R: System, I: Read + Drop + Send + 'static, O: Writ
     output: &mut O,
 ) -> Result<(), Failure<'a>> {
     let options = options_of(rt.alloc(), words)?;
+    make_where_none(rt, words)?;
     let site = site_of(rt, words)?;
     let count = serve_noted(rt, words, site, &options, input, output)?;
     print_served(output, count).map_err(|_| Failure::Output)

@@ -1,3 +1,4 @@
 pub mod Commands
 pub mod Numbers
 pub mod Requests
+pub mod Together

@@ -26,3 +26,4 @@ pub record HasPlainNumbers (rows : List Row) : Type 0 where
   pub grace : IsPlainNumber rows (codes "grace")
   pub final_status : IsPlainNumber rows (codes "final-status")
   pub timeout : IsPlainNumber rows (codes "timeout")
+  pub wait : IsPlainNumber rows (codes "wait")

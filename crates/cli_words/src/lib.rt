@@ -125,6 +125,9 @@ pub const WORDS: &str = "words";
 /// The name of its option with the seconds that a connection or a reply may take.
 pub const TIMEOUT: &str = "timeout";
 
+/// The name of its option with the seconds for which a server is awaited.
+pub const WAIT: &str = "wait";
+
 /// The name of its flag by which a purge is one command.
 pub const AT_ONCE: &str = "at-once";
 
@@ -167,7 +170,7 @@ pub const ROWS: &str = "rows";
 /// The most such rows: a sector of a checkpoint area is reserved for each, and one more.
 const MOST_ROWS: u32 = MOST_SECTORS - 1;
 
-/// The name of the flag by which a store is made only where none is.
+/// The name of the flag by which a store is made only where none is, by `FORMAT` or by `RUN`.
 pub const NEW: &str = "new";
 
 /// The name of the flag by which a store that is there is lost without asking.
@@ -183,12 +186,13 @@ pub const LAYOUT: &str = "layout";
 pub const VERSION: &str = "1.0-rc1 (format versions 1 and 2)";
 
 /// What the help says of the core ASes.
-const CORES_HELP: &str = "The core ASes, as ISD-AS texts joined by commas";
+const CORES_HELP: &str =
+    "The core ASes, as ISD-AS texts joined by commas; without it no AS is core";
 
 /// What follows the options in the help of the command that serves sessions.
 const RUN_NOTES: &str = concat!(
-    "DEV is a file or a block device with a store that `pathd format` has made. ADDR is an IP{n}",
-    "address and a port, as 127.0.0.1:30252 or [::1]:30252. SECONDS are whole seconds.{n}{n}",
+    "DEV is a file or a block device with a store that `pathd format` has made. ADDR is an address{n}",
+    "or a name, and a port, as 127.0.0.1:30252 or localhost:30252. SECONDS are whole seconds.{n}{n}",
     "Example:{n}",
     "  pathd run store --listen 127.0.0.1:30252 --cores 1-ff00:0:110,2-64512 --idle 60",
 );
@@ -237,6 +241,20 @@ pub fn command<'a>(alloc: Global) -> Result<Command<'a>, AllocError>
     let command = with_subcommand(command, upgrade_command(alloc))?;
     let command = with_subcommand(command, run_command(alloc))?;
     with_subcommand(command, ask_command(alloc))
+}
+
+/// A command of the program by itself, for its usage.
+fn command_of<'a>(alloc: Global, subcommand: Subcommand) -> Result<Command<'a>, AllocError> {
+    match subcommand {
+        Subcommand::Once => once_command(alloc)?.bin_name("pathd once"),
+        Subcommand::Format => format_command(alloc)?.bin_name("pathd format"),
+        Subcommand::Copy => copy_command(alloc)?.bin_name("pathd copy"),
+        Subcommand::Show => show_command(alloc)?.bin_name("pathd show"),
+        Subcommand::Status => status_command(alloc)?.bin_name("pathd status"),
+        Subcommand::Upgrade => upgrade_command(alloc)?.bin_name("pathd upgrade"),
+        Subcommand::Run => run_command(alloc)?.bin_name("pathd run"),
+        Subcommand::Ask => ask_command(alloc)?.bin_name("pathd ask"),
+    }
 }
 
 /// The program's command, with none within it.
@@ -325,8 +343,8 @@ fn format_command<'a>(alloc: Global) -> Result<Command<'a>, AllocError>
         "Makes a file of 1 + 2 * (C + 1 + J) sectors with an empty store; one that is there is lost";
     let command = bare(alloc, FORMAT, about);
     let command = with_arg(command, FORMAT, device_argument(alloc));
-    let command = with_made_arg(command, FORMAT, unless_rows(checkpoint_option(alloc)));
-    let command = with_made_arg(command, FORMAT, unless_rows(journal_option(alloc)));
+    let command = with_arg(command, FORMAT, checkpoint_option(alloc));
+    let command = with_arg(command, FORMAT, journal_option(alloc));
     let command = with_made_arg(command, FORMAT, rows_option(alloc));
     with_consent(alloc, command)
 }
@@ -396,6 +414,7 @@ fn run_command<'a>(alloc: Global) -> Result<Command<'a>, AllocError>
     ensures { IfOk result (λ command. (out-Command command).name.now ≡ codes "run") }
 {
     let command = with_arg(bare_run(alloc), RUN, device_argument(alloc));
+    let command = with_new(alloc, command);
     let command = with_addresses(alloc, command);
     let command = with_arg(command, RUN, option(alloc, CORES, "LIST", CORES_HELP));
     let command = with_arg(command, RUN, option(alloc, KEY, "HEX", KEY_HELP));
@@ -413,6 +432,25 @@ fn bare_run<'a>(alloc: Global) -> Result<Command<'a>, AllocError>
     Ok(Command::new(alloc, RUN).about(about).after_help(RUN_NOTES))
 }
 
+/// Gives the command that serves sessions the options for a store that it makes.
+fn with_new<'a>(
+    alloc: Global,
+    command: Result<Command<'a>, AllocError>,
+) -> Result<Command<'a>, AllocError>
+    requires { IfOk command (λ old. (out-Command old).name.now ≡ codes "run") }
+    ensures { IfOk result (λ new. (out-Command new).name.now ≡ codes "run") }
+{
+    let new = "Make a store of --rows first where DEV is no file, or one without bytes";
+    let rows = option(
+        alloc,
+        ROWS,
+        "N",
+        "The rows for which a store that is made has room",
+    );
+    let command = with_arg(command, RUN, flag(alloc, NEW, new));
+    with_arg(command, RUN, within(rows, 1, i64::from(MOST_ROWS)))
+}
+
 /// Gives the command that serves sessions the options for its socket addresses.
 fn with_addresses<'a>(
     alloc: Global,
@@ -421,8 +459,9 @@ fn with_addresses<'a>(
     requires { IfOk command (λ old. (out-Command old).name.now ≡ codes "run") }
     ensures { IfOk result (λ new. (out-Command new).name.now ≡ codes "run") }
 {
-    let listen = "The socket address to listen at, as 127.0.0.1:30252; port 0 is any free one";
-    let status = "The socket address to answer GET /metrics at, with the server's numbers";
+    let listen = "The address to listen at, as 127.0.0.1:30252; port 0 is any free one";
+    let status =
+        "The address to answer GET /metrics at, with the server's numbers, and GET / with plots";
     let listen = option(alloc, LISTEN, "ADDR", listen).required(true);
     let command = with_arg(command, RUN, listen);
     with_arg(command, RUN, option(alloc, STATUS_LISTEN, "ADDR", status))
@@ -436,7 +475,7 @@ fn with_lookups<'a>(
     requires { IfOk command (λ old. (out-Command old).name.now ≡ codes "run") }
     ensures { IfOk result (λ new. (out-Command new).name.now ≡ codes "run") }
 {
-    let lookups = "A further socket address to listen at, for sessions whose commands are refused";
+    let lookups = "A further address to listen at, for sessions whose commands are refused";
     let seats = "The number of the 64 seats that are for these sessions, 1 to 56 [default: 16]";
     let seats = option(alloc, LOOKUP_SEATS, "SEATS", seats);
     let command = with_arg(command, RUN, option(alloc, LOOKUPS, "ADDR", lookups));
@@ -533,6 +572,7 @@ fn ask_command<'a>(alloc: Global) -> Result<Command<'a>, AllocError>
 {
     let timeout =
         "The seconds that the connection and each reply may take, at least 1 [default: 10]";
+    let wait = "Try again for this number of seconds until the server answers [default: 0]";
     let at_once = "Purge by one command, and not in steps; others wait until it is done";
     let command = with_arg(bare_ask(alloc), ASK, server_argument(alloc));
     let command = with_arg(command, ASK, request_argument(alloc));
@@ -544,7 +584,8 @@ fn ask_command<'a>(alloc: Global) -> Result<Command<'a>, AllocError>
         1,
         i64::from(u32::MAX),
     );
-    with_arg(command, ASK, timeout)
+    let command = with_arg(command, ASK, timeout);
+    with_arg(command, ASK, seconds(alloc, WAIT, wait))
 }
 
 /// That command, with no options.
@@ -559,7 +600,7 @@ fn bare_ask<'a>(alloc: Global) -> Result<Command<'a>, AllocError>
 fn server_argument<'a>(alloc: Global) -> Arg<'a> {
     Arg::new(alloc, SERVER)
         .value_name("ADDR")
-        .help("The socket address of the server, as 127.0.0.1:30252")
+        .help("The address of the server, as 127.0.0.1:30252 or localhost:30252")
         .required(true)
         .action(ArgAction::Set)
 }
@@ -660,11 +701,6 @@ fn checkpoint_option<'a>(alloc: Global) -> Arg<'a> {
 fn journal_option<'a>(alloc: Global) -> Arg<'a> {
     let option = option(alloc, JOURNAL, "J", JOURNAL_HELP);
     within(option, i64::from(LEAST_JOURNAL), i64::from(MOST_SECTORS))
-}
-
-/// An option that is required where the number of rows is not given.
-fn unless_rows<'a>(option: Arg<'a>) -> Result<Arg<'a>, AllocError> {
-    option.required_unless_present(ROWS)
 }
 
 /// The option by which the sizes follow from a number of rows.

@@ -7,9 +7,9 @@ use clap::error::ErrorKind;
 use cli_words::{
     ASK, AT_ONCE, CHECKPOINT, CORES, CommandLine, DEVICE, FINAL_STATUS, FORCE, FORMAT, FUTURE,
     GRACE, HEX, IDLE, JOURNAL, JSON, KEY, LAYOUT, LEAVE, LISTEN, LISTS, LOG_PRIORITY, LOOKUP_SEATS,
-    LOOKUPS, NEW, NOW, ONCE, PEER_SESSIONS, PURGE, PURGE_GRACE, QUIET, REQUEST, RESERVE, RUN,
+    LOOKUPS, NEW, NOW, ONCE, PEER_SESSIONS, PURGE, PURGE_GRACE, QUIET, REQUEST, RESERVE, ROWS, RUN,
     SERVER, SESSIONS, SHOW, SPARE, STATUS, STATUS_LISTEN, STOP_ON_END_OF_INPUT, Subcommand,
-    TIMEOUT, UPGRADE, WORDS, read,
+    TIMEOUT, UPGRADE, WAIT, WORDS, read,
 };
 use std::alloc::Global;
 use std::process::Abort;
@@ -59,9 +59,9 @@ struct Value {
 const ALL_OF_ONCE: &str = "once --cores 1-1,2-2 --now 5 --key 00ff --hex";
 
 const ALL_OF_RUN: &str =
-    "run --quiet --grace 4294967295 --stop-on-end-of-input --peer-sessions 18446744073709551615 --idle 4294967295 --leave 4294967295 --final-status 255 --future 4294967295 --spare 56 --lists --purge 4294967295 --purge-grace 4294967294 --lookup-seats 56 --lookups [::1]:2 --log-priority --sessions 18446744073709551615 --key 00 --cores 1-1 --status [::1]:1 --listen [::1]:0 d";
+    "run --quiet --new --rows 1048575 --grace 4294967295 --stop-on-end-of-input --peer-sessions 18446744073709551615 --idle 4294967295 --leave 4294967295 --final-status 255 --future 4294967295 --spare 56 --lists --purge 4294967295 --purge-grace 4294967294 --lookup-seats 56 --lookups [::1]:2 --log-priority --sessions 18446744073709551615 --key 00 --cores 1-1 --status [::1]:1 --listen [::1]:0 d";
 
-const ALL_OF_ASK: &str = "ask --timeout 4294967295 a list up --json 1-0 0-0";
+const ALL_OF_ASK: &str = "ask --timeout 4294967295 --wait 4294967294 a list up --json 1-0 0-0";
 
 #[rattlefmt::skip]
 const VALUES: &[Value] = &[
@@ -116,6 +116,11 @@ const VALUES: &[Value] = &[
     Value { line: ALL_OF_ASK, command: ASK, option: REQUEST, value: Some("list") },
     Value { line: ALL_OF_ASK, command: ASK, option: WORDS, value: Some("up") },
     Value { line: ALL_OF_ASK, command: ASK, option: TIMEOUT, value: Some("4294967295") },
+    Value { line: ALL_OF_ASK, command: ASK, option: WAIT, value: Some("4294967294") },
+    Value { line: "ask a list", command: ASK, option: WAIT, value: None },
+    Value { line: "format d --rows 1048575", command: FORMAT, option: ROWS, value: Some("1048575") },
+    Value { line: ALL_OF_RUN, command: RUN, option: ROWS, value: Some("1048575") },
+    Value { line: "run d --listen a --lookups b", command: RUN, option: LOOKUP_SEATS, value: None },
     Value { line: "ask a list", command: ASK, option: WORDS, value: None },
     Value { line: "ask a list", command: ASK, option: TIMEOUT, value: None },
     Value { line: "ask --json a register -", command: ASK, option: WORDS, value: Some("-") },
@@ -173,6 +178,8 @@ const FLAGS: &[Flag] = &[
     Flag { line: "ask --at-once a purge 5", command: ASK, flag: AT_ONCE, is_given: true },
     Flag { line: "run d --listen a", command: RUN, flag: QUIET, is_given: false },
     Flag { line: ALL_OF_RUN, command: RUN, flag: QUIET, is_given: true },
+    Flag { line: "run d --listen a", command: RUN, flag: NEW, is_given: false },
+    Flag { line: ALL_OF_RUN, command: RUN, flag: NEW, is_given: true },
     Flag { line: "run d --listen a", command: RUN, flag: LOG_PRIORITY, is_given: false },
     Flag { line: ALL_OF_RUN, command: RUN, flag: LOG_PRIORITY, is_given: true },
     Flag { line: "run d --listen a", command: RUN, flag: LISTS, is_given: false },
@@ -247,6 +254,13 @@ const REFUSED: &[(&str, ErrorKind)] = &[
     ("run d --listen a --future +1", ErrorKind::ValueValidation),
     ("run d --listen a --spare 57", ErrorKind::ValueValidation),
     ("run d --listen a --spare +8", ErrorKind::ValueValidation),
+    ("run d --listen a --lookup-seats 8", ErrorKind::MissingRequiredArgument),
+    ("run d --listen a --new", ErrorKind::MissingRequiredArgument),
+    ("run d --listen a --rows 5", ErrorKind::MissingRequiredArgument),
+    ("run d --listen a --new --rows 0", ErrorKind::ValueValidation),
+    ("run d --listen a --new --rows +5", ErrorKind::ValueValidation),
+    ("ask a list --wait +5", ErrorKind::ValueValidation),
+    ("ask a list --wait 4294967296", ErrorKind::ValueValidation),
     ("once --future 1", ErrorKind::UnknownArgument),
     ("ask a lookup 1-1 1-1 --at-once", ErrorKind::ArgumentConflict),
     ("ask a list --at-once", ErrorKind::ArgumentConflict),

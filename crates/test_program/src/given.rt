@@ -231,4 +231,12 @@ impl<R: Net<Listener = TcpListener, Stream = TcpStream>> Net for Given<R> {
     fn connect(&self, addr: SocketAddr) -> io::Result<TcpStream> {
         self.host.connect(addr)
     }
+
+    fn connect_timeout(&self, addr: SocketAddr, timeout: Duration) -> io::Result<TcpStream> {
+        self.host.connect_timeout(addr, timeout)
+    }
+
+    fn lookup_host(&self, host: &str, port: u16, found: &mut [SocketAddr]) -> io::Result<usize> {
+        self.host.lookup_host(host, port, found)
+    }
 }

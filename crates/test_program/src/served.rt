@@ -170,6 +170,32 @@ const PARTS: &[Part] = &[
         )],
     },
     Part {
+        what: "a store that is made where none is",
+        before: Before::Nothing,
+        peers: Peers {
+            sessions: &[REGISTER_2096],
+            together: 0,
+            silent: 0,
+        },
+        lines: &[(
+            "pathd run made --new --rows 5 --listen ADDR --cores 1-ff00:0:110 --sessions 1 --idle 60",
+            &[],
+        )],
+    },
+    Part {
+        what: "the same again, over the store that is there",
+        before: Before::Nothing,
+        peers: Peers {
+            sessions: &[LOOKUP],
+            together: 0,
+            silent: 0,
+        },
+        lines: &[(
+            "pathd run made --new --rows 5 --listen ADDR --cores 1-ff00:0:110 --sessions 1 --idle 60",
+            &[],
+        )],
+    },
+    Part {
         what: "an input that has ended",
         before: Before::Nothing,
         peers: NO_PEERS,

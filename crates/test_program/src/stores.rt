@@ -41,11 +41,11 @@ const PARTS: &[Part] = &[
                 &[],
             ),
             (
-                "pathd run store --listen 127.0.0.1:0 --status localhost:0 --quiet",
+                "pathd run store --listen 127.0.0.1:0 --status local_host:0 --quiet",
                 &[],
             ),
             (
-                "pathd run store --listen 127.0.0.1:0 --lookups localhost:0 --quiet",
+                "pathd run store --listen 127.0.0.1:0 --lookups local_host:0 --quiet",
                 &[],
             ),
             ("pathd run none --listen localhost --cores 1-x", &[]),

@@ -7,13 +7,16 @@ of the store at rest, and registered again at another server. Refused lines, rem
 lookups follow, and lines of an input that pauses for longer than a reply may take. 20,000 segments that expire one after the other are purged in steps, whose moments
 and number are those that the page of the protocol says. Then there is no server, a silent one, one that cuts a reply, one that drips it, and
 ones whose replies are changed at random, for 300 turns of a printed seed: the program has to end by
-a status and a line of its own. It needs Python 3 and the loopback, and ends with the status 1 where
+a status and a line of its own. Lookups that are cut are marked, servers are awaited, readers leave,
+and `run --new` makes stores. It needs Python 3 and the loopback, and ends with the status 1 where
 something else comes.
 """
 from __future__ import annotations
 
 import bisect
+import datetime
 import json
+import os
 import random
 import socket
 import struct
@@ -43,6 +46,9 @@ SPREAD, WITHIN, TOGETHER = 20_000, 172_800, 16
 REACH, OF_NOTHING = 262_144, 35
 # How long a command may take, in seconds.
 PATIENCE = 60
+# The most segments of the reply to a lookup, and the names of some codes.
+MOST = 64
+NAMES = {0x01: "Memory", 0x51: "Busy", 0x61: "NoSeat", 0x62: "OutcomeUnknown", 0x63: "NotAwaited", 0x64: "NoCommands"}
 # How long an input pauses before each line, and how long a reply may take meanwhile, in seconds.
 PAUSE, REPLY = 1.5, 1
 
@@ -63,9 +69,9 @@ class Asker:
     def __init__(self, program: str, port: int) -> None:
         self.program, self.address = program, f"127.0.0.1:{port}"
 
-    def run(self, line: str, text: bytes = b"") -> tuple[int, str, str]:
-        """The status of a command line, and what it prints on both handles."""
-        words = [self.program, "ask", self.address, *line.split()]
+    def run(self, line: str, text: bytes = b"", address: str = "") -> tuple[int, str, str]:
+        """The status of a command line, and what it prints on both handles; another address may be asked."""
+        words = [self.program, "ask", address or self.address, *line.split()]
         done = subprocess.run(words, input=text, capture_output=True, timeout=PATIENCE, check=False)
         return done.returncode, done.stdout.decode(), done.stderr.decode()
 
@@ -92,10 +98,17 @@ def line_of(kind: int, data: bytes) -> str:
     """The line of a segment, worked out without the program."""
     row = model.row_of(data)
     made = {
-        "type": TYPES[kind], "id": row.id.hex(), "timestamp": row.timestamp, "expiry": row.expiry, "first": text_of(row.first),
+        "type": TYPES[kind], "id": row.id.hex(), "timestamp": row.timestamp, "expiry": row.expiry,
+        "made": date_of(2 * row.timestamp), "expires": date_of(row.expiry), "first": text_of(row.first),
         "last": text_of(row.last), "entries": row.entries, "segment": data.hex(),
     }
     return json.dumps(made, separators=(",", ":"))
+
+
+def date_of(moment: int) -> str:
+    """A moment in half seconds as a date."""
+    date = datetime.datetime.fromtimestamp(moment // 2, datetime.UTC)
+    return date.strftime("%Y-%m-%dT%H:%M:%S") + (".5Z" if moment % 2 else "Z")
 
 
 def text_of(isd_as: int) -> str:
@@ -150,8 +163,10 @@ def register_and_list(program: str, folder: Path) -> None:
         found = asker.well(f"lookup {text_of(runs.CORE_A)} {text_of(runs.LEAVES[2])}")
         expect("lookup", found, [it for it in asker.well("list down") if f" {text_of(runs.LEAVES[2])} " in it][:64])
         as_text = asker.well("list")
+        dates = [[date_of(2 * row.timestamp), date_of(row.expiry)] for row in (model.row_of(data) for _, data in made)]
+        expect("dates", [line.split()[-2:] for line in as_text], dates)
     expect("show --json", shown(program, first, "--json"), lines)
-    expect("show", shown(program, first), [*as_text, f"place {len(made)}"])
+    expect("show", shown(program, first), [*(line.rsplit(" ", 2)[0] for line in as_text), f"place {len(made)}"])
     exported = "".join(line + "\n" for line in shown(program, first, "--json")).encode()
     with server(program, second) as asker:
         expect("registered again", len(asker.well("register -", exported)), len(made))
@@ -346,8 +361,105 @@ def false_servers(program: str) -> None:
     for reply in ("00000000", "7fffffff", "0000000100", "0000000181", "000000020000", "0000000385"):
         with false_server(answer(bytes.fromhex(reply) + bytes(40))) as port:
             Asker(program, port).fails("list", "reply")
-    with false_server(answer(bytes.fromhex("00000002ff61"))) as port:
-        Asker(program, port).fails("purge", "refused 0x61")
+    for code, name in NAMES.items():
+        with false_server(answer(b"\0\0\0\x02\xff" + bytes([code]))) as port:
+            said = Asker(program, port).fails("purge", f"refused {code:#04x}")
+        expect("the name of a code", said.splitlines()[0], f"pathd: 127.0.0.1:{port}: the server refused the request by {code:#04x} {name}")
+
+
+def cut_lookups(program: str) -> None:
+    """A lookup with as many segments as a reply may have is marked: there may be more."""
+    for count in (0, 1, MOST - 1, MOST):
+        whole = found_reply(2, [segment(number) for number in range(count)])
+        with false_server(answer(struct.pack(">I", len(whole)) + whole)) as port:
+            for words in ("", " --json"):
+                status, out, err = Asker(program, port).run("lookup 1-1 1-2" + words)
+                said = f"pathd: 127.0.0.1:{port}: 64 segments are the most of a lookup; there may be more, and 'list' has all\n"
+                expect(f"{count} segments", (status, err), (0, said if count == MOST else ""))
+                lines = out.splitlines()
+                expect("how many", len(lines), count)
+                if words:
+                    marked = [json.loads(line).get("more") for line in lines]
+                    expect("marks", marked, [None] * (MOST - 1) + [True] if count == MOST else [None] * count)
+
+
+def awaited_servers(program: str) -> None:
+    """`--wait` tries again until there is a server, or its time is over; a name is an address, too."""
+    with socket.socket() as free:
+        free.bind(("127.0.0.1", 0))
+        port = free.getsockname()[1]
+    began = time.monotonic()
+    Asker(program, port).fails("purge --at-once --wait 1", "connect")
+    if not 0.9 < time.monotonic() - began < 5:
+        raise Wrong(f"no server was awaited for {time.monotonic() - began} s, and not for one")
+    ack = struct.pack(">IBQ4I", 25, 0x83, 5, 0, 0, 0, 7)
+    words = [program, "ask", f"localhost:{port}", "purge", "--at-once", "--wait", "30", "--timeout", "1"]
+    with subprocess.Popen(words, stdout=subprocess.PIPE, stderr=subprocess.PIPE, text=True) as asking:
+        time.sleep(PAUSE)
+        # It takes the connection, and answers late: a server that opens its store does so.
+        with socket.create_server(("127.0.0.1", port)) as listener:
+            time.sleep(2 * PAUSE)
+            peer, _ = listener.accept()
+            with peer:
+                answer(ack)(peer)
+        out, err = asking.communicate(timeout=PATIENCE)
+    expect("a server that comes late", (asking.returncode, out, err), (0, "place 5: 0 inserted, 0 updated, 0 kept, 7 purged\n", ""))
+    status, _, err = Asker(program, port).run("list", address="no.such.name.invalid:1")
+    expect("a name that is none", (status, err.splitlines()[-1:]), (1, ["error: connect"]))
+    for text in ("localhost", "localhost:", ":1", "local host:1", "localhost:65536"):
+        status, _, err = Asker(program, port).run("list", address=text)
+        expect(f"'{text}'", (status, err.splitlines()[-1:]), (1, ["error: net"]))
+
+
+def readers_that_leave(program: str, folder: Path) -> None:
+    """A reader of rows may leave: that is no error. One of an acknowledgement is missed."""
+    store = folder / "left"
+    runs.format_store(program, store, LARGE)
+    lines = [line_of(2, segment(number)) for number in range(400)]
+    with server(program, store) as asker:
+        asker.well("register -", "\n".join(lines).encode())
+        rows_of = ["ask", asker.address, "list", "--json"], ["show", str(store), "--json"]
+        expect("a list that is left", left_early([program, *rows_of[0]]), (0, ""))
+        status, said = left_early([program, "ask", asker.address, "purge", "--at-once", "0"], lines=0)
+        expect("an acknowledgement that is missed", (status, said.splitlines()[-1:]), (1, ["error: output"]))
+    expect("a store that is left", left_early([program, *rows_of[1]]), (0, ""))
+
+
+def left_early(command: list[str], lines: int = 1) -> tuple[int, str]:
+    """The status of a command whose reader leaves after so many lines, and what it says on standard error."""
+    reader, writer = os.pipe()
+    with subprocess.Popen(command, stdout=writer, stderr=subprocess.PIPE, text=True) as running:
+        os.close(writer)
+        with os.fdopen(reader) as output:
+            for _ in range(lines):
+                output.readline()
+        _, said = running.communicate(timeout=PATIENCE)
+    return running.returncode, said
+
+
+def new_stores(program: str, folder: Path) -> None:
+    """`run --new` makes a store where there is no file, or an empty one, and nowhere else."""
+    wanted, store = folder / "wanted", folder / "made"
+    subprocess.run([program, "format", str(wanted), "--rows", "5"], check=True, capture_output=True)
+    words = ["--new", "--rows", "5"]
+    for before in (None, b""):
+        store.unlink(missing_ok=True)
+        if before is not None:
+            store.write_bytes(before)
+        with server(program, store, words) as asker:
+            expect("a new store", asker.well("list"), [])
+        expect("its bytes", store.read_bytes(), wanted.read_bytes())
+    with server(program, store, words) as asker:
+        asker.well("register -", line_of(2, segment(1)).encode())
+    with server(program, store, words) as asker:
+        expect("a store that is there", len(asker.well("list")), 1)
+    for kept in (b"x", bytes(512), bytes(2048), wanted.read_bytes()[:512]):
+        store.write_bytes(kept)
+        done = subprocess.run([program, "run", str(store), "--listen", "127.0.0.1:0", *words], capture_output=True, text=True, timeout=PATIENCE, check=False)
+        expect("a file that is no store", (done.returncode, done.stderr.splitlines()[-1:]), (1, ["error: open 1"]))
+        expect("what it has", store.read_bytes(), kept)
+    done = subprocess.run([program, "run", str(folder), "--listen", "127.0.0.1:0", *words], capture_output=True, text=True, timeout=PATIENCE, check=False)
+    expect("a folder", (done.returncode, done.stderr.splitlines()[-1:]), (1, ["error: device 1"]))
 
 
 def found_reply(kind: int, segments: list[bytes]) -> bytes:
@@ -408,6 +520,10 @@ def main(words: list[str]) -> int:
             slow_input(program, folder)
             purges_in_steps(program, folder)
             false_servers(program)
+            cut_lookups(program)
+            awaited_servers(program)
+            readers_that_leave(program, folder)
+            new_stores(program, folder)
             changed_replies(program)
     except Wrong as wrong:
         print(wrong, file=sys.stderr)
