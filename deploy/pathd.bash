@@ -7,16 +7,17 @@ _pathd() {
     words="once format copy show status upgrade run ask help -h --help -V --version"
   else
     case $previous in
-      --checkpoint | --journal | --rows | --listen | --lookups | --lookup-seats | --status | --cores | --key | --sessions | --peer-sessions | --idle | --leave | --future | --spare | --purge | --purge-grace | --grace | --final-status | --now | --timeout) return ;;
+      --cores | --now | --key | --checkpoint | --journal | --rows | --listen | --status | --lookups | --lookup-seats | --sessions | --peer-sessions | --idle | --leave | --future | --spare | --purge | --purge-grace | --grace | --final-status | --timeout | --wait) return ;;
     esac
     case ${COMP_WORDS[1]} in
       once) words="--cores --now --key --hex -h --help" ;;
-      copy) words="--checkpoint --journal --rows -h --help" ;;
       format) words="--checkpoint --journal --rows --new --force --reserve -h --help" ;;
+      copy) words="--checkpoint --journal --rows -h --help" ;;
       show) words="--layout --json -h --help" ;;
-      status | upgrade) words="-h --help" ;;
-      run) words="--listen --lookups --lookup-seats --status --cores --key --sessions --peer-sessions --idle --leave --future --spare --lists --purge --purge-grace --stop-on-end-of-input --grace --quiet --log-priority --final-status -h --help" ;;
-      ask) words="--json --at-once --timeout -h --help" ;;
+      status) words="-h --help" ;;
+      upgrade) words="-h --help" ;;
+      run) words="--new --rows --listen --status --cores --key --lookups --lookup-seats --sessions --peer-sessions --idle --leave --future --spare --lists --purge --purge-grace --stop-on-end-of-input --grace --quiet --log-priority --final-status -h --help" ;;
+      ask) words="--json --at-once --timeout --wait -h --help" ;;
       help) words="once format copy show status upgrade run ask help" ;;
       *) return ;;
     esac

@@ -1,97 +1,167 @@
-"""Compares the man page and the completions of deploy/ with the command line that
-crates/cli_words/src/lib.rt makes: each command, each option with the name of its value, and DEV,
-are in all of them, and nothing else. It prints what differs, and nothing else.
+"""Makes the texts on the command line of the help that the program prints, which stands in
+crates/test_program/stdout and is compared there with that of crates/cli_words:
 
-    tools/pathd-tools help-texts [PROGRAM]
+- the arguments and the options of each command in deploy/pathd.1, after what that page says of it,
+- the words in deploy/pathd.bash and deploy/pathd.zsh,
+- the table of options in docs/CLI.md.
 
-With PROGRAM the help that it prints for each command is compared, too. Bash is needed, whose
-completions are those that it gives; zsh is not, since its file is read as text.
+    tools/pathd-tools help-texts [--write] [PROGRAM]
+
+Without --write it prints which of them differ, and nothing else. With PROGRAM the help that it
+prints is compared, too. Bash is needed, whose completions are tried; zsh is not.
 """
 from __future__ import annotations
 
 import re
 import subprocess
 import tempfile
+import textwrap
+from collections.abc import Callable
+from dataclasses import dataclass
 from pathlib import Path
 
+from pathd_tools.pages.pages import put_block
 from pathd_tools.pages.source import CRATES, TOP
 from pathd_tools.toolbox import parser
 
-SOURCE = CRATES / "cli_words/src/lib.rt"
+HELP = CRATES / "test_program/stdout"
 DEPLOY = TOP / "deploy"
-# What `clap` adds: a command, and an option of each command.
-HELP = "help"
-HELP_OPTIONS = frozenset({"-h", "--help"})
-# And one of the program itself, which has a version.
-VERSION_OPTIONS = frozenset({"-V", "--version"})
-# The file of a device, which is no option; and a value, where its name is not known.
-DEVICE, VALUE = "DEV", "VALUE"
-
-# The options of each command: `--NAME VALUE`, `--NAME` for a flag, and DEV.
-Commands = dict[str, frozenset[str]]
+CLI = TOP / "docs/CLI.md"
+BEGIN = "<!-- tools/pathd-tools help-texts --write -->"
+WIDTH = 100
+# What is a file among the arguments, and what may come after the words of `ask`.
+FILES = {"DEV", "OLD", "NEW", "WORD"}
+# The options that take no part in a table: `clap` adds them.
+ADDED = {"--help", "--version"}
 
 
-def bodies(text: str) -> dict[str, str]:
-    """The text of each function of a file, by its name."""
-    parts = re.split(r"^(?:pub )?fn (\w+)", text, flags=re.M)
-    return dict(zip(parts[1::2], parts[2::2]))
+@dataclass(frozen=True)
+class Part:
+    """An argument or an option of a command: its name, that of its value, and what the help says."""
+
+    name: str
+    value: str
+    text: str
+
+    @property
+    def is_option(self) -> bool:
+        return self.name.startswith("-")
 
 
-def calls(functions: dict[str, str], name: str) -> list[str]:
-    """A function, and those of the file that it calls with the allocator first, in turn."""
-    found = [name]
-    for it in found:
-        found += [called for called in dict.fromkeys(re.findall(r"\b(\w+)\(\s*alloc\b", functions[it])) if called in functions and called not in found]
-    return [it for it in found if it not in ("option", "flag") and not it.endswith("_argument")]
+@dataclass(frozen=True)
+class Command:
+    """A command, as its help has it."""
+
+    about: str
+    parts: tuple[Part, ...]
+
+    def options(self) -> list[Part]:
+        return [it for it in self.parts if it.is_option and it.name not in ADDED]
+
+    def arguments(self) -> list[Part]:
+        return [it for it in self.parts if not it.is_option]
 
 
-def of_source() -> Commands:
-    """The command line as the source makes it."""
-    text = SOURCE.read_text()
-    names = dict(re.findall(r'^pub const (\w+): &str = "([^"]*)";', text, re.M))
-    functions = bodies(text)
-    paths = {name: re.search(r'\.value_name\("(\w+)"\)', functions[name])[1] for name in functions if name.endswith("_argument")}
-    found = {}
-    for name in functions:
-        command = name.removesuffix("_command")
-        if command == name or command not in names.values():
-            continue
-        body = "".join(functions[it] for it in calls(functions, name))
-        options = {f"--{names[it]} {value}" for it, value in re.findall(r'\boption\(\s*alloc,\s*(\w+),\s*"(\w+)"', body) if it in names}
-        options |= {f"--{names[it]} SECONDS" for it in re.findall(r"\bseconds\(\s*alloc,\s*(\w+),", body)}
-        options |= {f"--{names[it]}" for it in re.findall(r"\bflag\(alloc, (\w+),", body)}
-        named_paths = re.findall(r'\b(\w+_argument)\(alloc\)(?:\s*\.value_name\("(\w+)"\))?', body)
-        options |= {other or paths[it] for it, other in named_paths}
-        found[command] = frozenset(options | HELP_OPTIONS)
-    return found | {HELP: frozenset()}
+Commands = dict[str, Command]
 
 
-def of_program(program: str) -> Commands:
-    """The command line as the program's help shows it."""
-
-    def helped(*words: str) -> str:
-        return subprocess.run([program, *words, "--help"], capture_output=True, text=True, check=True).stdout
-
-    listed = re.search(r"^Commands:\n((?:  .*\n)*)", helped(), re.M)[1]
-    found = {}
-    for name in re.findall(r"^  (\w+)", listed, re.M):
-        text = helped(name) if name != HELP else ""
-        options = {f"{it} {value}".strip() for it, value in re.findall(r"^ +(?:-h, )?(--[\w-]+)(?: <(\w+)>)?", text, re.M)}
-        options |= {"-h"} if "-h, --help" in text else set()
-        found[name] = frozenset(options | set(re.findall(r"^  <(\w+)>", text, re.M)))
-    return found
+def command_of(text: str) -> Command:
+    """A command by the text of its help."""
+    lists = "".join(re.findall(r"^(?:Arguments|Options):\n((?:  .*\n)+)", text, re.M))
+    found = re.findall(r"^ +(?:-h, )?(?:[<[](\w+)[>\]](?:\.\.\.)?|(--[\w-]+)(?: <(\w+)>)?)  +(.*)$", lists, re.M)
+    parts = tuple(Part(argument or option, value, said) for argument, option, value, said in found)
+    return Command(text.split("\n", 1)[0], parts)
 
 
-def of_man() -> Commands:
-    """The command line as the man page has it: a heading for each command, and tagged paragraphs."""
-    text = (DEPLOY / "pathd.1").read_text().replace("\\-", "-")
-    part = re.search(r"^\.SH COMMANDS\n(.*?)^\.SH ", text, re.M | re.S)[1]
-    parts = re.split(r"^\.SS (\w+)\n", part, flags=re.M)
-    found = {}
-    for name, body in zip(parts[1::2], parts[2::2]):
-        tags = [re.sub(r'^\.[A-Z]+ |[",]', "", tag).split() for tag in re.findall(r"^\.TP\n(.*)", body, re.M)]
-        found[name] = frozenset(it for tag in tags for it in ([" ".join(tag)] if not HELP_OPTIONS & set(tag) else tag))
-    return found
+def commands_by(helped: Callable[[str], str]) -> Commands:
+    """All commands, by their help and that of the program, whose name is empty."""
+    listed = re.search(r"^Commands:\n((?:  .*\n)*)", helped(""), re.M)
+    names = re.findall(r"^  (\w+)", listed[1], re.M) if listed else []
+    return {name: command_of(helped(name)) for name in names if name != "help"}
+
+
+def expected(name: str) -> str:
+    """The help of a command as it stands in the file."""
+    found = re.search(rf"^\$ pathd {name + ' ' if name else ''}(?:--help|-h)\n(.*?)^status 0$", HELP.read_text(), re.M | re.S)
+    if not found:
+        raise SystemExit(f"crates/test_program/stdout has no help of {name}")
+    return found[1]
+
+
+def written(part: Part) -> str:
+    """An argument or an option as it is written on a command line."""
+    return f"{part.name} {part.value}".strip()
+
+
+# The man page
+
+
+def roff(text: str) -> str:
+    """A text as it stands in the man page, wrapped."""
+    lines = textwrap.wrap(text.replace("\\", "\\e"), WIDTH, break_long_words=False, break_on_hyphens=False)
+    return "\n".join(f"\\&{line}" if line[0] in ".'" else line for line in lines)
+
+
+def tag(part: Part) -> str:
+    """The tag of a paragraph."""
+    name = part.name.replace("-", "\\-")
+    if part.name == "--help":
+        return '.BR \\-h ", " \\-\\-help'
+    if part.value:
+        return f'.BI {name} " {part.value}"'
+    return f".{'B' if part.is_option else 'I'} {name}"
+
+
+def man_with(commands: Commands, page: str) -> str:
+    """The man page with these commands. What it says of each one before the first tag is kept."""
+    head, rest = page.split(".SH COMMANDS\n", 1)
+    body, tail = rest.split(".SH OPTIONS\n", 1)
+    kept = re.split(r"^\.SS (\w+)\n", body, flags=re.M)
+    said = dict(zip(kept[1::2], (it.split(".TP\n", 1)[0] for it in kept[2::2])))
+    order = [it for it in kept[1::2] if it in commands] + [it for it in commands if it not in said]
+    sections = []
+    for name in order:
+        tagged = "".join(f".TP\n{tag(it)}\n{roff(it.text)}\n" for it in commands[name].parts)
+        sections.append(f".SS {name}\n{said.get(name) or roff(commands[name].about) + chr(10)}{tagged}")
+    return f"{head}.SH COMMANDS\n{''.join(sections)}.SS help\n{said['help']}.SH OPTIONS\n{tail}"
+
+
+# The completions
+
+
+def bash_with(commands: Commands, script: str) -> str:
+    """The completions for bash with these commands."""
+    valued = dict.fromkeys(it.name for command in commands.values() for it in command.options() if it.value)
+    script = re.sub(r"^( +)--[\w-]+(?: \| --[\w-]+)*\) return ;;$", lambda it: f"{it[1]}{' | '.join(valued)}) return ;;", script, flags=re.M)
+    cases = [f'      {name}) words="{" ".join([*(it.name for it in command.options()), "-h", "--help"])}" ;;\n' for name, command in commands.items()]
+    cases.append(f'      help) words="{" ".join([*commands, "help"])}" ;;\n')
+    script = re.sub(r'(?:^      [\w |]+\) words=".*" ;;\n)+', "".join(cases), script, flags=re.M)
+    return re.sub(r'^    words="once .*"$', f'    words="{" ".join([*commands, "help", "-h", "--help", "-V", "--version"])}"', script, flags=re.M)
+
+
+def zsh_text(text: str) -> str:
+    """A text between the brackets and the quotes of zsh."""
+    return text.replace("\\", "\\\\").replace("[", "\\[").replace("]", "\\]").replace("'", "'\\''")
+
+
+def zsh_argument(number: int, part: Part) -> str:
+    """An argument as zsh completes it: a choice, a file or nothing."""
+    choices = re.search(r"\[possible values: (.*)\]", part.text)
+    place = "*" if part.name == "WORD" else number
+    does = f"({choices[1].replace(',', '')})" if choices else "_files" if part.name in FILES else ""
+    return f"'{place}:{part.name}:{does}'"
+
+
+def zsh_with(commands: Commands, script: str) -> str:
+    """The completions for zsh with these commands."""
+    listed = "".join(f"    '{name}:{zsh_text(command.about)}'\n" for name, command in commands.items())
+    script = re.sub(r"^  commands=\(\n.*?^  \)$", lambda _: f"  commands=(\n{listed}    'help:print help'\n  )", script, flags=re.M | re.S)
+    cases = []
+    for name, command in commands.items():
+        words = [f"'{it.name}[{zsh_text(it.text)}]{f':{it.value}:' if it.value else ''}'" for it in command.options()]
+        words += [zsh_argument(number, it) for number, it in enumerate(command.arguments(), 1)]
+        cases.append(f"    {name})\n      _arguments $help \\\n        " + " \\\n        ".join(words) + "\n      ;;\n")
+    return re.sub(r"^  case \$command in\n.*?^    help\)", lambda _: "  case $command in\n" + "".join(cases) + "    help)", script, flags=re.M | re.S)
 
 
 class Bash:
@@ -101,69 +171,61 @@ class Bash:
 
     def __init__(self, folder: str) -> None:
         self.folder = folder
-        (Path(folder) / DEVICE).touch()
+        (Path(folder) / "DEV").touch()
 
-    def given(self, *words: str) -> frozenset[str]:
+    def given(self, *words: str) -> set[str]:
         """What is given for the last of these words."""
         command = ["bash", "-c", self.SCRIPT, "bash", str(DEPLOY / "pathd.bash"), *words]
-        return frozenset(subprocess.run(command, capture_output=True, text=True, check=True, cwd=self.folder).stdout.split())
+        return set(subprocess.run(command, capture_output=True, text=True, check=True, cwd=self.folder).stdout.split())
 
-    def options(self, command: str) -> frozenset[str]:
-        """The options of a command. One that takes a value is one after which no option is given."""
-        found = self.given(command, "-")
-        valued = {it for it in found - HELP_OPTIONS if not self.given(command, it, "-")}
-        files = self.given(command, "") & {DEVICE}
-        return frozenset((found - valued) | {f"{it} {VALUE}" for it in valued} | files)
-
-    def commands(self) -> Commands:
-        """The command line as bash completes it; `help` has the commands as its words."""
-        names = self.given("") - HELP_OPTIONS - VERSION_OPTIONS
-        found = {name: self.options(name) for name in names - {HELP}}
-        return found | ({HELP: frozenset()} if self.given(HELP, "") == names else {})
+    def differences(self, commands: Commands) -> list[str]:
+        """What it does not complete: commands, options, the files of stores, and nothing after an option with a value."""
+        lines = [] if self.given("") >= {*commands, "help"} else ["deploy/pathd.bash does not complete the commands"]
+        for name, command in commands.items():
+            if self.given(name, "-") != {*(it.name for it in command.options()), "-h", "--help"}:
+                lines.append(f"deploy/pathd.bash does not complete the options of {name}")
+            if command.arguments() and command.arguments()[0].name in FILES and "DEV" not in self.given(name, ""):
+                lines.append(f"deploy/pathd.bash does not complete the file of {name}")
+            lines += [f"deploy/pathd.bash completes the value of {it.name}" for it in command.options() if it.value and self.given(name, it.name, "-")]
+        return lines
 
 
-def without_value_names(commands: Commands) -> Commands:
-    """A command line with one name for all values, and one for all paths."""
-
-    def plain(option: str) -> str:
-        return re.sub(r" \w+$", f" {VALUE}", option) if option.startswith("-") else DEVICE
-
-    return {name: frozenset(plain(it) for it in options) for name, options in commands.items()}
+# The table of docs/CLI.md
 
 
-def of_zsh() -> Commands:
-    """The command line as the completions for zsh have it."""
-    text = (DEPLOY / "pathd.zsh").read_text()
-    common = HELP_OPTIONS if "'(- *)'{-h,--help}'[" in text else frozenset()
-    listed = re.search(r"^  commands=\(\n(.*?)^  \)", text, re.M | re.S)[1]
-    found = {name: frozenset() for name in re.findall(r"^ +'(\w+):", listed, re.M)}
-    for name, body in re.findall(r"^    (\w+)\)\n(.*?)^      ;;", text, re.M | re.S):
-        options = {f"{it} {value}".strip() for it, value in re.findall(r"'(?:\(--[\w -]+\))?(--[\w-]+)\[[^]]*\](?::(\w+):)?'", body)}
-        options |= set(re.findall(r"'\d:(\w+):", body))
-        found[name] = frozenset(options | (common if "_arguments $help" in body else frozenset()))
-    return found
+def cell(text: str) -> str:
+    """A text in a cell of a table: names of options are code."""
+    return re.sub(r"(?<![\w`])(--[a-z-]+)", r"`\1`", text.replace("|", "\\|").replace("[default: ", "[").replace("[", "(").replace("]", ")"))
 
 
-def differences(where: str, wanted: Commands, found: Commands) -> list[str]:
-    """A line for each command and each option that is in one of two command lines alone."""
-    lines = [f"{where} lacks the command {it}" for it in sorted(wanted.keys() - found.keys())]
-    lines += [f"{where} has the command {it}, which there is not" for it in sorted(found.keys() - wanted.keys())]
-    for name in sorted(wanted.keys() & found.keys()):
-        lines += [f"{where} lacks `{it}` of {name}" for it in sorted(wanted[name] - found[name])]
-        lines += [f"{where} has `{it}` of {name}, which there is not" for it in sorted(found[name] - wanted[name])]
-    return lines
+def table(commands: Commands) -> str:
+    """The table of all options: an option of two commands that is the same in both has one row."""
+    rows: dict[tuple[str, str], list[str]] = {}
+    for name, command in commands.items():
+        for it in command.options():
+            rows.setdefault((written(it), it.text), []).append(name)
+    lines = [f"| {', '.join(f'`{it}`' for it in names)}: `{option}` | {cell(text)} |" for (option, text), names in rows.items()]
+    return "\n".join(["| option | what it does (what is so without it) |", "|---|---|", *lines])
 
 
 def main(words: list[str]) -> int:
     options = parser(__doc__)
+    options.add_argument("--write", action="store_true", help="write the texts")
     options.add_argument("program", nargs="?", metavar="PROGRAM")
-    program = options.parse_args(words).program
-    wanted = of_source()
-    lines = differences("deploy/pathd.1", wanted, of_man())
+    wanted = options.parse_args(words)
+    commands = commands_by(expected)
+    differs = put_block(CLI, BEGIN, table(commands), wanted.write)
+    for name, made_of in (("pathd.1", man_with), ("pathd.bash", bash_with), ("pathd.zsh", zsh_with)):
+        text = (DEPLOY / name).read_text()
+        made = made_of(commands, text)
+        if made != text and wanted.write:
+            (DEPLOY / name).write_text(made)
+        elif made != text:
+            print(f"deploy/{name}: `tools/pathd-tools help-texts --write` would change it")
+            differs = 1
     with tempfile.TemporaryDirectory() as folder:
-        lines += differences("deploy/pathd.bash", without_value_names(wanted), Bash(folder).commands())
-    lines += differences("deploy/pathd.zsh", wanted, of_zsh())
-    if program:
-        lines += differences(f"the help of {program}", wanted, of_program(program))
+        lines = Bash(folder).differences(commands)
+    if wanted.program and commands != commands_by(lambda name: subprocess.run([wanted.program, *([name] if name else []), "--help"], capture_output=True, text=True, check=True).stdout):
+        lines.append(f"{wanted.program} prints other help than crates/test_program/stdout has")
     print("".join(it + "\n" for it in lines), end="")
-    return 1 if lines else 0
+    return 1 if lines else differs
