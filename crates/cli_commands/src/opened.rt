@@ -9,8 +9,7 @@ use cli_store::Fault;
 use sector_dev::{FileDevice, LastFault, SystemFile};
 use std::io;
 use std::sync::Arc;
-use store_open::CopyError;
-use store_open::{FormatError, OpenError, StoreError};
+use store_open::{CopyError, FormatError, OpenError, StoreError};
 
 /// The file of a device, as a line of a failure has it.
 #[derive(Drop)]
