@@ -35,13 +35,11 @@ import math
 import multiprocessing
 import os
 import random
-import re
 import socket
 import struct
 import subprocess
 import tempfile
 import time
-import urllib.request
 from collections import defaultdict
 from collections.abc import Callable, Iterable
 from dataclasses import asdict, dataclass, fields
@@ -50,7 +48,7 @@ from pathlib import Path
 from typing import Any
 
 from pathd_bench.measure import Server
-from pathd_tools import messages, toolbox
+from pathd_tools import messages, runs, toolbox
 from pathd_tools.load.svg import COLORS, DASHES, Area, Curve, Picture, draw_curves
 from pathd_tools.messages import Hop
 
@@ -262,18 +260,11 @@ class Sample:
     resident: float
 
 
-def free_port() -> int:
-    """A port that nobody has."""
-    with socket.socket() as listener:
-        listener.bind(("127.0.0.1", 0))
-        return listener.getsockname()[1]
-
-
 class Played:
     """A server over one store, whose totals go on after a kill."""
 
     def __init__(self, pathd: Path, folder: Path, journal: int, day: Day) -> None:
-        self._folder, self.port, self._numbers = folder, free_port(), free_port()
+        self._folder, self.port, self._numbers = folder, runs.free_port(), runs.free_port()
         store = folder / "store"
         sectors = min(MOST_SECTORS, max(65_536, 2 * day.rows))
         subprocess.run([pathd, "format", store, "--checkpoint", str(sectors), "--journal", str(journal)], check=True, stdout=subprocess.DEVNULL)
@@ -283,12 +274,11 @@ class Played:
         self._server = Server(self._words, folder, mark="ready")
 
     def _totals(self) -> dict[str, float]:
-        with urllib.request.urlopen(f"http://127.0.0.1:{self._numbers}/metrics", timeout=60) as page:
-            found = dict(re.findall(r"^(\S+) ([0-9.e+]+)$", page.read().decode(), re.M))
+        found = runs.numbers(self._numbers)
         return {
-            "rows": float(found["pathd_rows"]),
-            "purged": float(found['pathd_outcomes_total{outcome="removed"}']),
-            "checkpoints": float(found["pathd_checkpoints_total"]),
+            "rows": found["pathd_rows"],
+            "purged": found['pathd_outcomes_total{outcome="removed"}'],
+            "checkpoints": found["pathd_checkpoints_total"],
             "processor": self._server.processor_seconds(),
             "resident": self._server.status("VmRSS") / 1024,
         }

@@ -11,7 +11,7 @@ from dataclasses import dataclass
 from functools import cache
 from pathlib import Path
 
-from pathd_tools import TOP
+from pathd_tools import TOP, runs
 from pathd_tools.load import load
 
 # The stores that server_rivals.cc and store_rivals.cc take by these names.
@@ -51,17 +51,13 @@ def compiled(folder: Path, pathd: Path, echo: Path) -> Programs:
     return built
 
 
-class Server:
+class Server(runs.Process):
     """A server in a process, which is killed at the end."""
 
     def __init__(self, words: Sequence[object], folder: Path, slow_sync: Path | None = None, microseconds: int = 0, mark: str = "") -> None:
-        env = dict(os.environ)
-        if slow_sync is not None:
-            env |= {"LD_PRELOAD": str(slow_sync), "SYNC_MICROSECONDS": str(microseconds)}
-        self.printed = folder / "printed"
+        env = {} if slow_sync is None else {"LD_PRELOAD": str(slow_sync), "SYNC_MICROSECONDS": str(microseconds)}
         begun = time.monotonic()
-        with open(self.printed, "wb") as printed:
-            self.process = subprocess.Popen([str(word) for word in words], env=env, stdin=subprocess.DEVNULL, stdout=printed, stderr=printed)
+        super().__init__([str(word) for word in words], folder / "printed", env, has_output=True)
         self.made = 0
         self.port = self._port(mark)
         # From the start of the process until it serves.
@@ -70,17 +66,13 @@ class Server:
     def _port(self, mark: str) -> int:
         until = time.monotonic() + SECONDS_TO_START
         while time.monotonic() < until and self.process.poll() is None:
-            text = self.printed.read_text(errors="replace")
+            text = self.notices.read_text(errors="replace")
             found = re.search(r"127\.0\.0\.1:(\d+)", text)
             if found and mark in text:
                 return int(found[1])
             time.sleep(0.002)
         self.kill()
-        raise SystemExit(f"no server: {self.printed.read_text(errors='replace')}")
-
-    def status(self, name: str) -> int:
-        """A number of /proc/PID/status, as VmRSS in KiB."""
-        return int(re.search(rf"^{name}:\s+(\d+)", Path(f"/proc/{self.process.pid}/status").read_text(), re.M)[1])
+        raise SystemExit(f"no server: {self.notices.read_text(errors='replace')}")
 
     def processor_seconds(self) -> float:
         """The seconds that the process ran on a processor so far, with those of threads that have ended."""
@@ -92,17 +84,6 @@ class Server:
         until = time.monotonic() + SECONDS_TO_LEAVE
         while self.status("Threads") > threads and time.monotonic() < until:
             time.sleep(0.01)
-
-    def kill(self) -> None:
-        """Ends it."""
-        self.process.kill()
-        self.process.wait()
-
-    def __enter__(self) -> Server:
-        return self
-
-    def __exit__(self, *_ended: object) -> None:
-        self.kill()
 
 
 @cache

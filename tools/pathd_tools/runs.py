@@ -12,9 +12,9 @@ import signal
 import socket
 import struct
 import subprocess
-import sys
 import tempfile
 import time
+import urllib.request
 from collections.abc import Iterator, Sequence
 from contextlib import contextmanager
 from pathlib import Path
@@ -106,6 +106,19 @@ def connected(port: int, timeout: float = 60.0) -> socket.socket:
     connection = socket.create_connection(("127.0.0.1", port), timeout)
     connection.setsockopt(socket.IPPROTO_TCP, socket.TCP_NODELAY, 1)
     return connection
+
+
+def free_port() -> int:
+    """A port of the loopback that nobody has."""
+    with socket.create_server(("127.0.0.1", 0)) as listener:
+        return listener.getsockname()[1]
+
+
+def numbers(port: int, host: str = "127.0.0.1", timeout: float = 60) -> dict[str, float]:
+    """The numbers of the page at a port, by the name and the labels of each."""
+    with urllib.request.urlopen(f"http://{host}:{port}/metrics", timeout=timeout) as page:
+        lines = page.read().decode("ascii").splitlines()
+    return {name: float(value) for name, value in (line.rsplit(" ", 1) for line in lines if line and not line.startswith("#"))}
 
 
 class Process:

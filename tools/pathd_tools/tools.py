@@ -60,7 +60,6 @@ ATTACKS = [
     Tool("refused-calls", "attacks.refused_calls", "refuses each allocation and call of the system of five commands and a server"),
     Tool("refused-memory", "attacks.refused_memory", "refuses each allocation of `once`"),
     Tool("refused-tests", "attacks.refused_tests", "refuses each allocation of each test"),
-    Tool("refused", "attacks.refused", "refused-memory, refused-calls and refused-tests"),
     Tool("peers", "attacks.peers", "slow, silent, deaf and resetting peers, 10,000 connections, and the server's memory"),
     Tool("web-peers", "attacks.web_peers", "hostile HTTP for the gateway and the pages of numbers, and the memory of both programs"),
     Tool("hanging", "attacks.hanging", "a device that hangs for seconds, while clients give up with commands under way"),
@@ -70,7 +69,7 @@ ATTACKS = [
     Tool("full-disk", "attacks.full_disk", "a file system that runs out of room; as root"),
     Tool("snapshots", "attacks.snapshots", "snapshots of a store beside its running server; as root"),
     Tool("planted", "attacks.planted", "faults in the program's sources, each of which power-cuts, histories or hostile has to see"),
-    Tool("attacks", "attacks.together", "power-cuts, histories, refused, peers, web-peers, hostile, soak and planted, with a summary"),
+    Tool("attacks", "attacks.together", "power-cuts, histories, refused calls, peers, web-peers, hostile, soak and planted, with a summary"),
 ]
 
 LOAD = [

@@ -15,9 +15,7 @@ do not rest or go on within --seconds seconds, and prints what was found.
 from __future__ import annotations
 
 import os
-import re
 import time
-import urllib.request
 from pathlib import Path
 
 from pathd_model import model
@@ -51,8 +49,7 @@ class Clock:
 
 def numbers(server: runs.Server) -> dict[str, float]:
     """The numbers of a server, by their names."""
-    with urllib.request.urlopen(f"http://127.0.0.1:{server.status_port()}/metrics", timeout=10) as page:
-        return {name: float(value) for name, value in re.findall(r"^(\w+) (\S+)$", page.read().decode(), re.M)}
+    return runs.numbers(server.status_port(), timeout=10)
 
 
 def is_soon(server: runs.Server, name: str, least: float, most: float, seconds: float) -> bool:

@@ -14,11 +14,11 @@ that several can run side by side:
     swallowed-KIND        the same, every second sync of a kind left out: group, gate, chunks, half
     histories             32 sessions, each of which sends 1 to 128 requests ahead
     histories-kills       the same, the server killed again and again
-    refused               refused-memory, refused-calls and refused-tests
-    peers, web-peers, hanging, hostile, soak, expiring, clocks
+    refused-memory, refused-calls, peers, web-peers, hanging, hostile, soak, expiring, clocks
                           the tools of these names; web-peers builds the gateway
     loop                  what a loop device has of a store while the server is stopped; as root, by --only alone
-    planted               faults in the sources, for which `rt` builds programs; by --only alone
+    refused-tests         programs that `rt test` has built; by --only alone
+    planted               faults in the sources, for which `rt` builds a program; by --only alone
 
 With --for each of them goes on for so many minutes, with further seeds; one that is under way then
 is not cut off. Each line of the summary has when the attack ended, the start of the program's
@@ -69,7 +69,9 @@ ATTACKS = [
     *[attack(f"swallowed-{kind}", "power-cuts", f"--swallowed {kind}", *CUTTING, "program seed jobs") for kind in KINDS],
     attack("histories", "histories", "--kills 2", "--replies 30000", "--replies 1000000", "program seed for"),
     attack("histories-kills", "histories", "--kills 11", "--replies 30000", "--replies 1000000", "program seed for"),
-    attack("refused", "refused", "", "--short", "", "last"),
+    attack("refused-memory", "refused-memory", "", "", "", "last"),
+    attack("refused-calls", "refused-calls", "", "--every 40", "", "program jobs for"),
+    attack("refused-tests", "refused-tests", "::refused_ memory", "--most 40", "--most 2000", "jobs"),
     attack("peers", "peers", "", "--connections 2000 --seconds 5", "", "program"),
     attack("web-peers", "web-peers", "", "--connections 500 --seconds 5 --requests 4000", "", "program seed"),
     attack("hanging", "hanging", "", "--rounds 2 --seconds 5", "--rounds 20 --seconds 20", "program seed"),
@@ -80,8 +82,8 @@ ATTACKS = [
     attack("loop", "snapshots", "--kind loop", "--snapshots 20", "--snapshots 400", "program seed"),
     attack("planted", "planted", "", "--images 2000 --replies 20000", "", "seed jobs"),
 ]
-# Those that need root, or `rt`.
-APART = {"loop", "planted"}
+# Those that need root, or programs that `rt` builds.
+APART = {"loop", "planted", "refused-tests"}
 
 
 @dataclass(frozen=True)

@@ -37,13 +37,6 @@ def started(words: list[str], closed: tuple[int, ...]) -> subprocess.Popen:
     return subprocess.Popen(command, stdin=subprocess.DEVNULL, stdout=subprocess.PIPE, stderr=subprocess.PIPE)
 
 
-def free_port() -> int:
-    """A port of the loopback at which nothing listens."""
-    with socket.socket() as listener:
-        listener.bind(("127.0.0.1", 0))
-        return listener.getsockname()[1]
-
-
 def hold_session(process: subprocess.Popen, port: int) -> None:
     """Registers a segment at a server that begins to listen, where it does."""
     for _ in range(PATIENCE * 100):
@@ -72,7 +65,7 @@ def hold_session(process: subprocess.Popen, port: int) -> None:
 
 def outcome(program: str, words: list[str], store: Path, closed: tuple[int, ...]) -> tuple[int, bytes, bytes, bytes]:
     """Runs a command: its status, output and errors, and the bytes of the store then."""
-    port = free_port() if words[0] == "run" else 0
+    port = runs.free_port() if words[0] == "run" else 0
     listen = ["--listen", f"127.0.0.1:{port}", "--sessions", "1", *runs.RUN_WORDS] if port else []
     process = started([program, words[0], str(store), *words[1:], *listen], closed)
     try:

@@ -16,7 +16,6 @@ from __future__ import annotations
 import base64
 import json
 import os
-import socket
 import subprocess
 import sys
 import threading
@@ -136,13 +135,6 @@ def awaited(holds: Callable[[], bool], what: str) -> None:
         time.sleep(0.2)
 
 
-def free_port() -> int:
-    """A port that nobody listens at."""
-    with socket.socket() as free:
-        free.bind(("127.0.0.1", 0))
-        return free.getsockname()[1]
-
-
 @contextmanager
 def loaded(program: Path, port: int) -> Iterator[None]:
     """Puts a load on a server until the end, in a thread: the turns one after the other."""
@@ -190,7 +182,7 @@ def try_page(program: str, folder: Path, seconds: float, pictures: Path | None) 
     """Shows the page of a loaded server, and of one that is killed and started again."""
     store = folder / "store"
     runs.format_store(program, store, LAYOUT)
-    status = free_port()
+    status = runs.free_port()
     at = f"http://127.0.0.1:{status}/"
     words = ["--status", f"127.0.0.1:{status}"]
     browser = Browser(folder / "profile")

@@ -29,7 +29,7 @@ from collections.abc import Callable
 from pathlib import Path
 
 from pathd_model import model
-from pathd_tools import TOP, messages, toolbox
+from pathd_tools import TOP, messages, runs, toolbox
 from pathd_tools.checks import steps
 from pathd_tools.pages.blocks import Block, blocks
 from pathd_tools.pages.pages import pages
@@ -195,19 +195,7 @@ class Session:
 
     def __init__(self, host: str = "127.0.0.1", timeout: float = 10, port: int = PORT) -> None:
         self.socket = socket.create_connection((host, port), timeout)
-        self.rest = b""
-
-    def read(self) -> bytes:
-        """The next reply's content."""
-        while True:
-            contents, rest = messages.whole_frames(self.rest)
-            if contents:
-                self.rest = self.rest[4 + len(contents[0]) :]
-                return contents[0]
-            piece = self.socket.recv(1 << 18)
-            if not piece:
-                raise ConnectionError("the server ended the session")
-            self.rest = rest + piece
+        self.read = runs.Replies(self.socket).next
 
     def ask(self, request: bytes) -> bytes:
         """The reply to a request."""
@@ -515,13 +503,6 @@ def back_up() -> None:
     start()
 
 
-def numbers(host: str = "127.0.0.1", timeout: float = 10) -> dict[str, float]:
-    """The numbers of the server, by the name and the labels of each."""
-    with urllib.request.urlopen(f"http://{host}:{NUMBERS_PORT}/metrics", timeout=timeout) as answer:
-        lines = answer.read().decode("ascii").splitlines()
-    return {name: float(value) for name, value in (line.rsplit(" ", 1) for line in lines if not line.startswith("#"))}
-
-
 def watch() -> None:
     """The page of numbers: its numbers under the unit."""
     begun = time.time()
@@ -529,9 +510,9 @@ def watch() -> None:
     STEPS.expect("the block of 'Setting up' runs, and with `--status` the unit starts", done.returncode == 0 and until(is_up), done.stdout + done.stderr)
     text = journal("pathd", begun)
     STEPS.expect("the journal has the line of the second address", f"pathd: status at 127.0.0.1:{NUMBERS_PORT}" in text, text)
-    before = numbers()
+    before = runs.numbers(NUMBERS_PORT)
     ROWS.register_many(3)
-    after = numbers()
+    after = runs.numbers(NUMBERS_PORT)
     more = {name: after[name] - before[name] for name in ("pathd_rows", "pathd_commands_total", 'pathd_replies_total{kind="registered"}')}
     STEPS.expect("the numbers have three registrations more", set(more.values()) == {3.0}, more)
     STEPS.expect("they say that the store takes commands", after["pathd_stopped"] == 0)
@@ -725,7 +706,7 @@ def probe(host: str) -> bool:
 def probe_numbers(host: str) -> bool:
     """Asks for the numbers once."""
     try:
-        return "pathd_rows" in numbers(host, 5)
+        return "pathd_rows" in runs.numbers(NUMBERS_PORT, host, 5)
     except OSError:
         return False
 

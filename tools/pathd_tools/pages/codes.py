@@ -18,7 +18,6 @@ import csv
 import re
 from dataclasses import dataclass
 from functools import cache
-from pathlib import Path
 
 from pathd_model import model
 from pathd_tools.pages.pages import put_block
