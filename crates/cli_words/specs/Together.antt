@@ -1,5 +1,5 @@
 -- Options of a command that was met, of which one needs another.
-use Rattle.std.specs.Prelude.{◌≡◌, ◌×◌, ◌⊎◌, true, Some, codes, is_some}
+use Rattle.std.specs.Prelude.{◌≡◌, ◌⊎◌, true, Some, codes, is_some}
 use Rattle.clap.specs.declared.parser.matches.Found.{Found}
 use Rattle.clap.specs.Words.{Text, matched_of, one_text}
 
