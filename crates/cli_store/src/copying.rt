@@ -13,8 +13,7 @@ use crate::writing::write_all;
 use sector_dev::Device;
 use std::alloc::Global;
 use std::io::Write;
-use store_open::format_with;
-use store_open::{Geometry, look};
+use store_open::{Geometry, format_with, look};
 
 /// Makes a store of these sizes on a device, whatever was on it, with the rows and the place to
 /// which another device opens, and prints how many rows these are, and the place. The other device

@@ -5,8 +5,7 @@ ghost use Rattle.cli_store.specs.Fault.{format_number, copy_number, checkpoint_n
 
 use std::error::Error;
 use std::fmt;
-use store_open::CopyError;
-use store_open::{FormatError, OpenError, StoreError};
+use store_open::{CopyError, FormatError, OpenError, StoreError};
 
 /// What ends a command over a device. The program prints these words after `error: `: an area, and
 /// the numbers of the error, the outer one first.

@@ -10,8 +10,7 @@ use sector_dev::{FaultKind, FileFault};
 use session_core::FrameError;
 use std::alloc::Global;
 use std::process::Abort;
-use store_open::CopyError;
-use store_open::{FormatError, OpenError, StoreError};
+use store_open::{CopyError, FormatError, OpenError, StoreError};
 
 /// Sees the line and the status of a way to end.
 fn assert_line(rt: &impl Abort, alloc: Global, ended: Ended, wanted: &str) {

@@ -9,8 +9,7 @@ use path_db::PathDb;
 use sector_dev::{MemDevice, SECTOR};
 use std::alloc::Global;
 use std::test::Fail;
-use store_open::{CopyError, format_with};
-use store_open::{Geometry, open};
+use store_open::{CopyError, Geometry, format_with, open};
 use test_fault_devices::{FuseDevice, Tear};
 use test_support::{TestHost, assert_same};
 

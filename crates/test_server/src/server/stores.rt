@@ -6,9 +6,8 @@ use sector_dev::{Device, MemDevice};
 use seg_core::{SegType, read_segment};
 use std::alloc::Global;
 use std::process::Abort;
-use store_open::{CopyError, format_with};
 use store_layout::{LEAST_CHECKPOINT, LEAST_JOURNAL};
-use store_open::{Geometry, OpenError, Store, format, open};
+use store_open::{CopyError, Geometry, OpenError, Store, format, format_with, open};
 use test_fault_devices::FaultDevice;
 use test_support::leaving_by;
 
