@@ -2,6 +2,7 @@
 replies, random commands, and the histories by which what was answered is judged."""
 from __future__ import annotations
 
+import argparse
 import bisect
 import hashlib
 import os
@@ -21,7 +22,7 @@ from pathlib import Path
 from typing import Self
 
 from pathd_model import model
-from pathd_tools import TOP, messages
+from pathd_tools import TOP, messages, toolbox
 
 NATIVE = TOP / "tools" / "native"
 PROGRAM = TOP / "crates/pathd/out/pathd"
@@ -66,6 +67,37 @@ def compiled(source: str, folder: Path) -> str:
     library = folder / (Path(source).stem + ".so")
     subprocess.run(["cc", "-shared", "-fPIC", "-O1", str(NATIVE / source), "-o", str(library), "-ldl", "-lpthread"], check=True)
     return str(library)
+
+
+def begin(text: str, words: list[str], is_last: bool = False, **defaults: object) -> tuple[argparse.Namespace, str]:
+    """The options of a tool that tries the built program, by their defaults, and the program: the option --program, or the last
+    word. A list has the words that an option may be, its default first; `further` is the option --for. What is tried is printed."""
+    parser = toolbox.parser(text)
+    named = {"nargs": "?", "metavar": "PROGRAM"} if is_last else {}
+    parser.add_argument("program" if is_last else "--program", help="the built program [crates/pathd/out/pathd]", **named)
+    for name, default in defaults.items():
+        option = "--for" if name == "further" else f"--{name}"
+        if isinstance(default, list):
+            parser.add_argument(option, choices=default, default=default[0])
+        elif isinstance(default, bool):
+            parser.add_argument(option, action="store_true")
+        else:
+            parser.add_argument(option, type=type(default), default=default, metavar=name[0].upper(), dest=name, help="[%(default)s]")
+    options = parser.parse_args(words)
+    program = program_of(options.program)
+    options.since = time.monotonic()
+    print(commit_name(program) + (f", seed {options.seed}" if "seed" in defaults else ""), flush=True)
+    return options, program
+
+
+def end(options: argparse.Namespace, line: str, faults: Sequence[str], counts: dict[str, int] | None = None) -> int:
+    """Prints what a tool has counted, the first faults, and a line with the seconds; the status."""
+    for name, count in sorted((counts or {}).items()):
+        print(f"  {name}: {count}")
+    for fault in faults[:10]:
+        print(f"  {fault[:2000]}")
+    print(f"{line}, {time.monotonic() - options.since:.0f} seconds")
+    return 1 if faults else 0
 
 
 @contextmanager

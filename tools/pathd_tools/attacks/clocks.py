@@ -19,7 +19,7 @@ import time
 from pathlib import Path
 
 from pathd_model import model
-from pathd_tools import messages, runs, toolbox
+from pathd_tools import messages, runs
 
 LAYOUT = model.Layout(4096, 2048)
 WORDS = ["--purge", "1", "--status", "127.0.0.1:0"]
@@ -87,13 +87,7 @@ def jumped(server: runs.Server, clock: Clock, ahead: int, seconds: float) -> lis
 
 def main(words: list[str]) -> int:
     """Sets the clock, and prints what was found."""
-    parser = toolbox.parser(__doc__)
-    parser.add_argument("--program", help="the built program; crates/pathd/out/pathd if left out")
-    parser.add_argument("--rows", type=int, default=2_000)
-    parser.add_argument("--seconds", type=float, default=10)
-    options = parser.parse_args(words)
-    program = runs.program_of(options.program)
-    print(runs.commit_name(program), flush=True)
+    options, program = runs.begin(__doc__, words, rows=2_000, seconds=10.0)
     with runs.scratch() as folder:
         store, clock, faults = folder / "store", Clock(folder), []
         runs.format_store(program, store, LAYOUT)
@@ -111,9 +105,4 @@ def main(words: list[str]) -> int:
             left = numbers(server)["pathd_rows"]
             notices = server.notices.read_text()
     faults += [f"{options.rows - int(rows)} rows are lost" for rows in (kept, left) if rows != options.rows]
-    for fault in faults:
-        print(f"  {fault}")
-    if faults:
-        print(notices)
-    print(f"{len(JUMPS) + 1} jumps, {options.rows} rows, {len(faults)} faults")
-    return 1 if faults else 0
+    return runs.end(options, f"{len(JUMPS) + 1} jumps, {options.rows} rows, {len(faults)} faults", faults + [notices] * bool(faults))

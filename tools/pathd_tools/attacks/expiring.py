@@ -22,7 +22,7 @@ import time
 from pathlib import Path
 
 from pathd_model import model
-from pathd_tools import messages, runs, toolbox
+from pathd_tools import messages, runs
 
 LAYOUT = model.Layout(4096, 2048)
 WORDS = ["--purge", "1", "--lookups", "127.0.0.1:0"]
@@ -99,16 +99,7 @@ def left_over(program: str, store: Path, db: dict, killed: int) -> list[str]:
 
 def main(words: list[str]) -> int:
     """Registers, asks, and prints what was found."""
-    parser = toolbox.parser(__doc__)
-    parser.add_argument("--program", help="the built program; crates/pathd/out/pathd if left out")
-    parser.add_argument("--seed", type=int, default=1)
-    parser.add_argument("--rows", type=int, default=600)
-    parser.add_argument("--seconds", type=int, default=60)
-    parser.add_argument("--wait", type=int, default=20)
-    parser.add_argument("--sessions", type=int, default=2)
-    options = parser.parse_args(words)
-    program = runs.program_of(options.program)
-    print(f"{runs.commit_name(program)}, seed {options.seed}", flush=True)
+    options, program = runs.begin(__doc__, words, seed=1, rows=600, seconds=60, wait=20, sessions=2)
     count, faults = 0, []
     with runs.scratch() as folder:
         store = folder / "store"
@@ -129,7 +120,4 @@ def main(words: list[str]) -> int:
             server.kill()
             killed = half_second()
         faults += left_over(program, store, db, killed)
-    for fault in faults[:5]:
-        print(f"  {fault}")
-    print(f"{count} replies, {len(db)} rows, {len(faults)} faults")
-    return 1 if faults else 0
+    return runs.end(options, f"{count} replies, {len(db)} rows, {len(faults)} faults", faults)

@@ -19,7 +19,7 @@ import time
 from collections import Counter
 
 from pathd_model import model
-from pathd_tools import runs, toolbox
+from pathd_tools import runs
 from pathd_tools.attacks.refused_calls import STOPPED, Worlds, Wrong, called, hold_session
 
 SMALL = model.Layout(2, 516)
@@ -63,14 +63,9 @@ def says_stopped(server: runs.Server, is_expected: bool) -> bool:
 
 def main(words: list[str]) -> int:
     """Serves round after round."""
-    parser = toolbox.parser(__doc__)
-    parser.add_argument("--program", help="the built program; crates/pathd/out/pathd if left out")
-    parser.add_argument("--rounds", type=int, default=24)
-    options = parser.parse_args(words)
-    program = runs.program_of(options.program)
+    options, program = runs.begin(__doc__, words, rounds=24)
     if os.geteuid() != 0:
         raise SystemExit("not root: a file system can't be mounted")
-    print(runs.commit_name(program), flush=True)
     counts: Counter = Counter()
     faults = []
     with runs.scratch() as top:

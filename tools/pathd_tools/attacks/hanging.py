@@ -2,9 +2,9 @@
 
     tools/pathd-tools hanging [--program PROGRAM] [--seed N] [--rounds N] [--seconds N] [--sessions N]
 
-In each round N sessions register, remove, purge, look up and list, as those of histories do. Then a
-preloaded library (tools/native/hanging_calls.c) has calls on the store's file wait for some seconds:
-syncs before they are made, writes, all calls, syncs that are made, or reads, by turns. In half of
+In each round N sessions, at most 32, register, remove, purge, look up and list, as those of histories
+do. Then a preloaded library (tools/native/hanging_calls.c) has calls on the store's file wait for
+--seconds seconds: syncs before they are made, writes, all calls, syncs that are made, or reads, by turns. In half of
 the rounds the device goes on for some milliseconds now and then. The N sessions wait. Other clients
 come meanwhile, hundreds of times. Each sends 1 to 128 requests and gives up after a fraction of a
 second: it closes its connection, resets it, ends within a frame, or ends its own side and waits.
@@ -56,7 +56,7 @@ from contextlib import suppress
 from pathlib import Path
 
 from pathd_model import model
-from pathd_tools import messages, need, recording, runs, toolbox
+from pathd_tools import messages, recording, runs
 from pathd_tools.attacks import histories, peers, soak
 from pathd_tools.attacks.histories import ACKS, NEVER, Asked
 from pathd_tools.attacks.leaving import AHEAD, AT_ONCE, LATEST, RESET, SOON, Client, Clock, give_up, look_up, settled
@@ -364,18 +364,8 @@ class Trial:
 
 def main(words: list[str]) -> int:
     """Makes the rounds, and prints what was found."""
-    parser = toolbox.parser(__doc__)
-    parser.add_argument("--program", help="the built program; crates/pathd/out/pathd if left out")
-    parser.add_argument("--seed", type=int, default=1)
-    parser.add_argument("--rounds", type=int, default=6)
-    parser.add_argument("--seconds", type=float, default=8, help="how long the device hangs in a round")
-    parser.add_argument("--sessions", type=int, default=12, help="how many sessions wait, at most 32")
-    options = parser.parse_args(words)
-    need.require("gcc")
-    program = runs.program_of(options.program)
+    options, program = runs.begin(__doc__, words, seed=1, rounds=6, seconds=8.0, sessions=12)
     options.begun, options.ahead, options.for_lookups = int(time.time()), AHEAD, 0
-    begun = time.monotonic()
-    print(f"{runs.commit_name(program)}, seed {options.seed}", flush=True)
     with runs.scratch() as folder:
         trial = Trial(program, folder, options)
         for number in range(options.rounds):
@@ -387,10 +377,6 @@ def main(words: list[str]) -> int:
         for count in FAR_AHEAD:
             trial.far_ahead(f"{count} commands ahead", count * small)
         trial.far_ahead(f"{OF_THE_GREATEST} of the greatest size ahead", OF_THE_GREATEST * peers.registration(runs.LEAVES[0], 0, 16, 8_180))
-    for name, count in sorted(trial.checker.counts.items()):
-        print(f"  {name}: {count}")
     faults = trial.checker.faults + trial.faults
-    for fault, count in Counter(it[:300] for it in faults).most_common(10):
-        print(f"  {fault} ({count} times)")
-    print(f"{options.rounds} rounds, {trial.checker.counts['replies']} replies, {len(faults)} faults, {time.monotonic() - begun:.0f} seconds")
-    return 1 if faults else 0
+    often = [f"{fault} ({count} times)" for fault, count in Counter(it[:300] for it in faults).most_common()]
+    return runs.end(options, f"{options.rounds} rounds, {trial.checker.counts['replies']} replies, {len(faults)} faults", often, trial.checker.counts)

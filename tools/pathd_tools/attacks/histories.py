@@ -30,6 +30,7 @@ That the checker sees faults is tried on the first round, by altering a reply. B
 promised the script counts the lookups that no front explains that holds all commands acknowledged
 to anybody before the lookup was sent.
 
+A seed has --replies replies, and --seconds is how long it may take from one kill to the next.
 With --for all of it is repeated with the next seed until so many minutes have passed.
 
 It needs Python 3 and gcc, and the loopback. It ends with the status 1 where something doesn't hold,
@@ -52,7 +53,7 @@ from itertools import accumulate, islice
 from pathlib import Path
 
 from pathd_model import model
-from pathd_tools import messages, runs, toolbox
+from pathd_tools import messages, runs
 from pathd_tools.recording import events_of, own_purges
 
 # More than a page of each type.
@@ -559,30 +560,12 @@ def hold_seed(program: str, options: argparse.Namespace) -> Checker:
 
 def main(words: list[str]) -> int:
     """Records, checks, and prints what was found."""
-    parser = toolbox.parser(__doc__)
-    parser.add_argument("--program", help="the built program; crates/pathd/out/pathd if left out")
-    parser.add_argument("--seed", type=int, default=1)
-    parser.add_argument("--replies", type=int, default=1_000_000, help="how many replies there are of a seed")
-    parser.add_argument("--for", type=float, dest="minutes", default=0, metavar="MINUTES", help="take further seeds until then")
-    parser.add_argument("--kills", type=int, default=10, help="how often the server is killed, at the end too")
-    parser.add_argument("--sessions", type=int, default=32)
-    parser.add_argument("--ahead", type=int, default=128, help="how many requests a session sends at one time at the most")
-    parser.add_argument("--journal", type=int, default=LAYOUT.journal, metavar="SECTORS", help="how many sectors a journal has")
-    parser.add_argument("--seconds", type=int, default=600, help="how long it may take from one kill to the next")
-    options = parser.parse_args(words)
-    program = runs.program_of(options.program)
-    begun = time.monotonic()
-    print(f"{runs.commit_name(program)}, seed {options.seed}", flush=True)
+    options, program = runs.begin(__doc__, words, seed=1, replies=1_000_000, further=0.0, kills=10, sessions=32, ahead=128, journal=LAYOUT.journal, seconds=600)
     counts: Counter = Counter()
     faults: list[str] = []
-    while not faults and (not counts or time.monotonic() < begun + 60 * options.minutes):
+    while not faults and (not counts or time.monotonic() < options.since + 60 * options.further):
         checker = hold_seed(program, options)
         counts += checker.counts + Counter({"seeds": 1})
         faults = checker.faults
         options.seed += 1
-    for name, count in sorted(counts.items()):
-        print(f"  {name}: {count}")
-    for fault in faults[:5]:
-        print(f"  {fault}")
-    print(f"{counts['replies']} replies, {len(faults)} unexplained, {time.monotonic() - begun:.0f} seconds")
-    return 1 if faults else 0
+    return runs.end(options, f"{counts['replies']} replies, {len(faults)} unexplained", faults, counts)

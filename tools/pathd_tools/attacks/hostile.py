@@ -29,7 +29,7 @@ from functools import lru_cache
 from pathlib import Path
 
 from pathd_model import model, reading
-from pathd_tools import messages, runs, toolbox
+from pathd_tools import messages, runs
 from pathd_tools.recording import Disk, record
 
 SESSION = 2_000
@@ -489,16 +489,7 @@ def try_images(given: tuple) -> tuple[Counter, list[str]]:
 
 def main(words: list[str]) -> int:
     """Tries frames and images, and prints what was answered."""
-    parser = toolbox.parser(__doc__)
-    parser.add_argument("--program", help="the built program; crates/pathd/out/pathd if left out")
-    parser.add_argument("--seed", type=int, default=1)
-    parser.add_argument("--frames", type=int, default=1_000_000)
-    parser.add_argument("--images", type=int, default=100_000)
-    parser.add_argument("--jobs", type=int, default=2)
-    options = parser.parse_args(words)
-    program = runs.program_of(options.program)
-    begun = time.monotonic()
-    print(f"{runs.commit_name(program)}, seed {options.seed}", flush=True)
+    options, program = runs.begin(__doc__, words, seed=1, frames=1_000_000, images=100_000, jobs=2)
     counts: Counter = Counter()
     faults: list[str] = []
     with runs.scratch() as folder, multiprocessing.Pool(options.jobs) as pool:
@@ -506,7 +497,7 @@ def main(words: list[str]) -> int:
         for of_worker, found in pool.imap_unordered(try_frames, frames):
             counts += of_worker
             faults += found
-        print(f"  {counts['frames']} frames, {len(faults)} differ, {time.monotonic() - begun:.0f} seconds", flush=True)
+        print(f"  {counts['frames']} frames, {len(faults)} differ, {time.monotonic() - options.since:.0f} seconds", flush=True)
         recorder, forker = runs.compiled("recorded_calls.c", folder), runs.compiled("run_again.c", folder)
         images = make_images(program, recorder, folder, options.seed) if options.images else []
         print(f"  {len(images)} images to be mutated", flush=True)
@@ -514,9 +505,4 @@ def main(words: list[str]) -> int:
         for of_worker, found in pool.imap_unordered(try_images, given):
             counts += of_worker
             faults += found
-    for name, count in sorted(counts.items()):
-        print(f"  {name}: {count}")
-    for fault in faults[:5]:
-        print(f"  {fault}")
-    print(f"{counts['frames']} frames, {counts['images']} images, {len(faults)} differ, {time.monotonic() - begun:.0f} seconds")
-    return 1 if faults else 0
+    return runs.end(options, f"{counts['frames']} frames, {counts['images']} images, {len(faults)} differ", faults, counts)

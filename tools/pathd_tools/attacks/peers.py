@@ -3,6 +3,8 @@ measures the server's memory.
 
     tools/pathd-tools peers [--program PROGRAM] [--connections N] [--seconds N]
 
+Peers are held for --seconds seconds:
+
 - half frames: peers that send a part of a frame and wait;
 - slow peers: each sends one byte a second, and gets its reply;
 - connections: N at one time, 10,000 if nothing else is said. Each is a session or is answered
@@ -34,7 +36,7 @@ import time
 from pathlib import Path
 
 from pathd_model import model
-from pathd_tools import messages, runs, toolbox
+from pathd_tools import messages, runs
 
 LAYOUT = model.Layout(65_536, 4_096)
 MOST_SESSIONS = 64
@@ -368,14 +370,8 @@ def allow_descriptors(needed: int) -> None:
 
 def main(words: list[str]) -> int:
     """Attacks, and prints what was measured."""
-    parser = toolbox.parser(__doc__)
-    parser.add_argument("--program", help="the built program; crates/pathd/out/pathd if left out")
-    parser.add_argument("--connections", type=int, default=10_000)
-    parser.add_argument("--seconds", type=int, default=21, help="how long peers are held")
-    options = parser.parse_args(words)
-    program = runs.program_of(options.program)
+    options, program = runs.begin(__doc__, words, connections=10_000, seconds=21)
     allow_descriptors(options.connections + 100)
-    print(f"{runs.commit_name(program)}", flush=True)
     faults: list[str] = []
     with runs.scratch() as folder:
         runs.format_store(program, folder / "store", LAYOUT)
@@ -401,7 +397,4 @@ def main(words: list[str]) -> int:
             if server.process.poll() is not None:
                 faults.append("the server ended")
         faults += short_of_descriptors(program, folder)
-    for fault in faults[:10]:
-        print(f"  {fault}")
-    print(f"{len(faults)} faults, the bound is {BOUND} KiB")
-    return 1 if faults else 0
+    return runs.end(options, f"{len(faults)} faults, the bound is {BOUND} KiB", faults)

@@ -34,6 +34,11 @@ a group that follows another one is of the kind `group`, and also serves the oth
 lost sync of the kind `close` is covered by the next sync of any kind before the half is used, so
 that none is found.
 
+--images says about how many images there are of a seed, --commands how many requests a recorded run
+has, and --restarts how many runs there are over what cuts of each of the two leave. Each of --jobs
+processes cuts so many openings and upgrades as --openings says, and ends after --enough losses.
+--copies is how many copies of each recorded run are made and cut.
+
 With --for all of it is repeated with the next seed until so many minutes have passed.
 
 It needs Python 3 and gcc, and the loopback. It ends with the status 1 where an image opens to
@@ -53,7 +58,7 @@ from collections.abc import Iterator
 from pathlib import Path
 
 from pathd_model import model
-from pathd_tools import runs, toolbox
+from pathd_tools import runs
 from pathd_tools.recording import Disk, Moment, Recorded, events_of, filled, record
 
 SECTOR = model.SECTOR
@@ -470,36 +475,16 @@ def cut_seed(program: str, libraries: tuple[str, str], folder: Path, options: ar
 
 def main(words: list[str]) -> int:
     """Records, cuts, and prints what was found."""
-    parser = toolbox.parser(__doc__)
-    parser.add_argument("--program", help="the built program; crates/pathd/out/pathd if left out")
-    parser.add_argument("--seed", type=int, default=1)
-    parser.add_argument("--images", type=int, default=100_000, help="about how many images are made of a seed")
-    parser.add_argument("--for", type=float, dest="minutes", default=0, metavar="MINUTES", help="take further seeds until then")
-    parser.add_argument("--commands", type=int, default=6_000, help="how many requests each recorded run has")
-    parser.add_argument("--restarts", type=int, default=3, help="how many runs there are after power cuts of each of the two")
-    parser.add_argument("--ahead", type=int, default=128, help="how many requests a session sends at one time at the most")
-    parser.add_argument("--jobs", type=int, default=2)
-    parser.add_argument("--openings", type=int, default=40, help="how many openings and upgrades each process cuts")
-    parser.add_argument("--rows", type=int, default=0, help="how many rows the first store has")
-    parser.add_argument("--copies", type=int, default=4, help="how many copies of each recorded run are made and cut")
-    parser.add_argument("--enough", type=int, default=200, help="how many losses end a process")
-    parser.add_argument("--swallowed", choices=SWALLOWED, default="", help="leave out every second sync of a kind")
-    options = parser.parse_args(words)
-    program = runs.program_of(options.program)
-    begun = time.monotonic()
+    options, program = runs.begin(__doc__, words, seed=1, images=100_000, further=0.0, commands=6_000, restarts=3, ahead=128, jobs=2, openings=40, rows=0, copies=4,
+                                 enough=200, swallowed=["", *SWALLOWED])
     total, losses = Counter(), []
-    print(f"{runs.commit_name(program)}, seed {options.seed}")
     with runs.scratch() as folder:
         libraries = runs.compiled("recorded_calls.c", folder), runs.compiled("run_again.c", folder)
-        while not losses and (not total or time.monotonic() < begun + 60 * options.minutes):
+        while not losses and (not total or time.monotonic() < options.since + 60 * options.further):
             counts, losses = cut_seed(program, libraries, folder, options)
             total += counts + Counter({"seeds": 1})
             options.seed += 1
-    for name, count in sorted(total.items()):
-        print(f"  {name}: {count}")
-    for loss in losses[:5]:
-        print(f"  {loss}")
     images = sum(total[name] for name in ("images", "images of cut openings", "images of cut upgrades", "images of cut copies"))
-    print(f"{images} images, {len(losses)} losses, {time.monotonic() - begun:.0f} seconds")
+    runs.end(options, f"{images} images, {len(losses)} losses", losses, total)
     is_right = bool(losses) == bool(options.swallowed in FOUND_KINDS)
     return 0 if is_right else 1

@@ -17,7 +17,7 @@ from collections import Counter
 from dataclasses import dataclass
 from pathlib import Path
 
-from pathd_tools import TOP, messages, runs, toolbox
+from pathd_tools import TOP, messages, runs
 from pathd_tools.attacks.refused_calls import refusing
 
 CASES = ["0005", "0074", "0134", "0148"]
@@ -117,9 +117,7 @@ def refuse_each(session: Session, library: str, folder: Path) -> int:
 
 def main(words: list[str]) -> int:
     """Runs each session."""
-    parser = toolbox.parser(__doc__)
-    parser.add_argument("program", nargs="?", metavar="PROGRAM")
-    program = runs.program_of(parser.parse_args(words).program)
+    _, program = runs.begin(__doc__, words, is_last=True)
     with runs.scratch() as folder:
         library = runs.compiled("refused_calls.c", folder)
         wrongs = [refuse_each(Session(program, stored), library, folder) for stored in stored_sessions()]

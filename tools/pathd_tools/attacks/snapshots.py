@@ -40,7 +40,7 @@ from dataclasses import dataclass
 from pathlib import Path
 
 from pathd_model import model
-from pathd_tools import messages, runs, toolbox
+from pathd_tools import messages, runs
 
 LAYOUT = model.Layout(64, 516)
 KEYS = 60
@@ -286,19 +286,11 @@ class Judge:
 
 def main(words: list[str]) -> int:
     """Takes the snapshots, and opens them."""
-    parser = toolbox.parser(__doc__)
-    parser.add_argument("--program", help="the built program; crates/pathd/out/pathd if left out")
-    parser.add_argument("--kind", choices=sorted(NEEDED), default="btrfs")
-    parser.add_argument("--snapshots", type=int, default=40)
-    parser.add_argument("--sessions", type=int, default=6)
-    parser.add_argument("--seed", type=int, default=1)
-    options = parser.parse_args(words)
-    program = runs.program_of(options.program)
+    options, program = runs.begin(__doc__, words, kind=["btrfs", *sorted(set(NEEDED) - {"btrfs"})], snapshots=40, sessions=6, seed=1)
     if os.geteuid() != 0:
         raise SystemExit("not root: a file system can't be mounted")
     if shutil.which(NEEDED[options.kind]) is None:
         raise SystemExit(f"no {NEEDED[options.kind]}: apt-get install btrfs-progs xfsprogs lvm2 mount")
-    print(f"{runs.commit_name(program)}, seed {options.seed}", flush=True)
     faults = []
     with place_of(options.kind) as place:
         runs.format_store(program, place.store, LAYOUT)
@@ -317,8 +309,6 @@ def main(words: list[str]) -> int:
             fault = judge.fault_of(snapshot, place.open(snapshot.store, number))
             if fault:
                 faults.append(f"snapshot {number}: {fault}")
-    for fault in faults[:10]:
-        print(f"  {fault}")
-    print(f"{options.kind}: {len(taken)} snapshots of {load.above} commands, {judge.seen['beyond what was acknowledged']} beyond what was acknowledged,"
+    line = (f"{options.kind}: {len(taken)} snapshots of {load.above} commands, {judge.seen['beyond what was acknowledged']} beyond what was acknowledged,"
           f" {judge.seen['with a sealed journal']} with a sealed journal; {len(faults)} went wrong")
-    return 1 if faults and options.kind != "plain" else 0
+    return runs.end(options, line, faults) if options.kind != "plain" else 0

@@ -34,7 +34,7 @@ from pathlib import Path
 from typing import NamedTuple
 
 from pathd_model import model
-from pathd_tools import messages, runs, toolbox
+from pathd_tools import messages, runs
 
 POOL = 5_000
 KEYS = 60
@@ -140,19 +140,7 @@ def sample_of(server: runs.Server) -> Sample:
 
 def main(words: list[str]) -> int:
     """Serves, watches, and prints what was found."""
-    parser = toolbox.parser(__doc__)
-    parser.add_argument("--program", help="the built program; crates/pathd/out/pathd if left out")
-    parser.add_argument("--seed", type=int, default=1)
-    parser.add_argument("--minutes", type=float, default=60)
-    parser.add_argument("--rows", type=int, default=0, help="how many rows are registered first")
-    parser.add_argument("--sessions", type=int, default=8)
-    parser.add_argument("--rate", type=float, default=250)
-    parser.add_argument("--ahead", type=int, default=128, help="how many requests a session sends at one time at the most")
-    parser.add_argument("--coming", type=float, default=20, help="how many sessions of one lookup come in a second")
-    parser.add_argument("--series", type=Path, metavar="FILE", help="what the server takes in each second goes here")
-    options = parser.parse_args(words)
-    program = runs.program_of(options.program)
-    print(f"{runs.commit_name(program)}, seed {options.seed}", flush=True)
+    options, program = runs.begin(__doc__, words, seed=1, minutes=60.0, rows=0, sessions=8, rate=250.0, ahead=128, coming=20.0, series="")
     source = runs.Commands(f"{options.seed}/soak", KEYS)
     pool = [source.next(0.2, 0.02) for _ in range(POOL)]
     frames = [messages.command_frame(command) for command in pool]
@@ -186,13 +174,10 @@ def main(words: list[str]) -> int:
         counts = check(paths, pool, program, store, faults, layout, first, options.rows)
     watch(samples, faults)
     if options.series:
-        write_series(options.series, samples)
+        write_series(Path(options.series), samples)
     print(*(f"  {line}" for line in notices.splitlines() if "checkpoint" not in line), sep="\n")
     print(f"  {counts}")
-    for fault in faults[:5]:
-        print(f"  {fault}")
-    print(f"{options.minutes} minutes, {len(faults)} faults")
-    return 1 if faults else 0
+    return runs.end(options, f"{options.minutes} minutes, {len(faults)} faults", faults)
 
 
 def check(paths: list[Path], pool: list[tuple], program: str, store: Path, faults: list[str], layout: model.Layout, first: int, rows: int) -> str:

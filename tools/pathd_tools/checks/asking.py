@@ -29,7 +29,7 @@ from contextlib import contextmanager
 from pathlib import Path
 
 from pathd_model import model
-from pathd_tools import messages, runs, toolbox
+from pathd_tools import messages, runs
 from pathd_tools.messages import Hop
 
 LARGE = model.Layout(400, 1024)
@@ -509,10 +509,7 @@ def changed_replies(program: str) -> None:
 
 def main(words: list[str]) -> int:
     """Runs all of it."""
-    parser = toolbox.parser(__doc__)
-    parser.add_argument("program", nargs="?", metavar="PROGRAM", help="crates/pathd/out/pathd if left out")
-    program = runs.program_of(parser.parse_args(words).program)
-    print(runs.commit_name(program), flush=True)
+    _, program = runs.begin(__doc__, words, is_last=True)
     try:
         with runs.scratch() as folder:
             register_and_list(program, folder)

@@ -16,7 +16,7 @@ import subprocess
 from pathlib import Path
 
 from pathd_model import model
-from pathd_tools import messages, runs, toolbox
+from pathd_tools import messages, runs
 
 SMALL = model.Layout(2, 516)
 # The handles that are closed together, and how bash closes each of them.
@@ -127,11 +127,7 @@ def look_at_words(program: str) -> int:
 
 def main(words: list[str]) -> int:
     """Runs each command."""
-    parser = toolbox.parser(__doc__)
-    parser.add_argument("program", nargs="?", metavar="PROGRAM", help="crates/pathd/out/pathd if left out")
-    options = parser.parse_args(words)
-    program = runs.program_of(options.program)
-    print(runs.commit_name(program), flush=True)
+    _, program = runs.begin(__doc__, words, is_last=True)
     count = 0
     faults = []
     with runs.scratch() as folder:

@@ -26,7 +26,7 @@ import time
 from pathlib import Path
 
 from pathd_model import model
-from pathd_tools import messages, need, runs, toolbox
+from pathd_tools import messages, runs
 from pathd_tools.attacks.hanging import KINDS, Device
 
 SMALL = model.Layout(2, 516)
@@ -284,12 +284,7 @@ def number_at(port: int, name: str) -> int:
 
 def main(words: list[str]) -> int:
     """Runs each part."""
-    parser = toolbox.parser(__doc__)
-    parser.add_argument("program", nargs="?", metavar="PROGRAM", help="crates/pathd/out/pathd if left out")
-    options = parser.parse_args(words)
-    need.require("gcc")
-    program = runs.program_of(options.program)
-    print(runs.commit_name(program), flush=True)
+    _, program = runs.begin(__doc__, words, is_last=True)
     parts = [stop_and_continue, full_pipe, drip, late_request, short_files, far_ahead]
     if os.geteuid() == 0:
         parts.append(refused_thread)

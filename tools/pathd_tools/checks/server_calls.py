@@ -23,7 +23,7 @@ from concurrent.futures import ThreadPoolExecutor
 from pathlib import Path
 
 from pathd_model import model
-from pathd_tools import messages, need, runs, toolbox
+from pathd_tools import messages, need, runs
 
 CALLS = "accept,accept4,read,write,recvfrom,sendto"
 SECONDS = 30
@@ -133,11 +133,8 @@ def judge_order(program: str, folder: Path) -> bool:
 
 def main(words: list[str]) -> int:
     """Holds the sessions, and compares the calls."""
-    parser = toolbox.parser(__doc__)
-    parser.add_argument("program", nargs="?", metavar="PROGRAM")
-    options = parser.parse_args(words)
     need.require("strace", "python3")
-    program = runs.program_of(options.program)
+    _, program = runs.begin(__doc__, words, is_last=True)
     with runs.scratch() as folder:
         runs.format_store(program, folder / "store", LAYOUT)
         tracing = ["strace", "-f", "-qq", "-e", f"trace={CALLS}", "-o", str(folder / "calls")]

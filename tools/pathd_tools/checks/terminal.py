@@ -21,7 +21,7 @@ import time
 from pathlib import Path
 
 from pathd_model import model
-from pathd_tools import runs, toolbox
+from pathd_tools import runs
 
 SMALL = model.Layout(2, 516)
 SIZES = ["--checkpoint", str(SMALL.checkpoint), "--journal", str(SMALL.journal)]
@@ -143,11 +143,7 @@ def tried(program: str, folder: Path) -> int:
 
 def main(words: list[str]) -> int:
     """Tries the command."""
-    parser = toolbox.parser(__doc__)
-    parser.add_argument("program", nargs="?", metavar="PROGRAM", help="crates/pathd/out/pathd if left out")
-    options = parser.parse_args(words)
-    program = runs.program_of(options.program)
-    print(runs.commit_name(program), flush=True)
+    _, program = runs.begin(__doc__, words, is_last=True)
     with runs.scratch() as folder:
         try:
             count = tried(program, folder)
