@@ -310,23 +310,32 @@ def install() -> None:
     start()
 
 
-def look_at_walls() -> None:
-    """What 'Installing' says of the unit: its user, its rights, its limits."""
-    pid = property_of("MainPID")
+def look_at_walls_of(unit: str, user: str, port: int, descriptors: int) -> list[str]:
+    """The user, the rights and the limits of a unit's process; the words before a line of the shell in its view."""
+    pid = property_of("MainPID", unit)
     status = dict(line.split(":\t", 1) for line in Path(f"/proc/{pid}/status").read_text().splitlines() if ":\t" in line)
-    uid = must("id", "-u", "pathd").strip()
-    STEPS.expect("the server runs as the user pathd", status["Uid"].split() == [uid] * 4, status["Uid"])
+    uid = must("id", "-u", user).strip()
+    STEPS.expect(f"{unit} runs as the user {user}", status["Uid"].split() == [uid] * 4, status["Uid"])
     STEPS.expect("it has no capability, no new privileges, and a filter of calls", (int(status["CapEff"], 16), int(status["CapBnd"], 16), status["NoNewPrivs"], status["Seccomp"]) == (0, 0, "1", "2"), status)
     within = ["nsenter", "-t", pid, "-m", "sh", "-c"]
     for path in ("/etc", "/usr/bin", "/usr/local/bin", "/var/lib", "/home", "/opt"):
         STEPS.expect(f"in its view {path} can't be written", run(*within, f"touch {path}/.pathd-units").returncode != 0)
-    STEPS.expect("in its view /var/lib/pathd can be written", run(*within, "touch /var/lib/pathd/.new && rm /var/lib/pathd/.new").returncode == 0)
     devices = run(*within, "find /dev -type b").stdout
     STEPS.expect("in its view /dev has no block device", devices == "", devices)
-    listens = must("ss", "-Hltnp", f"sport = :{PORT}")
-    STEPS.expect("it listens at 127.0.0.1 alone", listens.count("\n") == 1 and "127.0.0.1:30252" in listens, listens)
+    listens = must("ss", "-Hltnp", f"sport = :{port}")
+    STEPS.expect("it listens at 127.0.0.1 alone", listens.count("\n") == 1 and f"127.0.0.1:{port}" in listens, listens)
     limits = Path(f"/proc/{pid}/limits").read_text()
-    STEPS.expect("it may have 256 descriptors", re.search(r"Max open files +256 +256", limits) is not None, limits)
+    STEPS.expect(f"it may have {descriptors} descriptors", re.search(rf"Max open files +{descriptors} +{descriptors}", limits) is not None, limits)
+    done = run("systemd-analyze", "verify", f"/usr/lib/systemd/system/{unit}")
+    lines = [line for line in done.stderr.splitlines() if "pathd" in line]
+    STEPS.expect(f"systemd-analyze verify prints nothing of {unit}", not lines, lines)
+    return within
+
+
+def look_at_walls() -> None:
+    """What 'Installing' says of the unit: its user, its rights, its limits."""
+    within = look_at_walls_of("pathd.service", "pathd", PORT, 256)
+    STEPS.expect("in its view /var/lib/pathd can be written", run(*within, "touch /var/lib/pathd/.new && rm /var/lib/pathd/.new").returncode == 0)
     controllers = Path("/sys/fs/cgroup/cgroup.controllers").read_text().split()
     group = Path("/sys/fs/cgroup" + property_of("ControlGroup"))
     for controller, file, wanted in (("memory", "memory.max", str(2 << 30)), ("pids", "pids.max", "128")):
@@ -334,10 +343,8 @@ def look_at_walls() -> None:
             STEPS.expect(f"{file} is {wanted}", (group / file).read_text().strip() == wanted)
         else:
             STEPS.leave_out(f"{file} of the unit", f"this hierarchy of cgroups has no controller {controller}")
-    for unit in ("pathd.service", "pathd-failed@.service"):
-        done = run("systemd-analyze", "verify", f"/usr/lib/systemd/system/{unit}")
-        lines = [line for line in done.stderr.splitlines() if "pathd" in line]
-        STEPS.expect(f"systemd-analyze verify prints nothing of {unit}", not lines, lines)
+    done = run("systemd-analyze", "verify", "/usr/lib/systemd/system/pathd-failed@.service")
+    STEPS.expect("systemd-analyze verify prints nothing of pathd-failed@.service", "pathd" not in done.stderr, done.stderr)
     rated = re.search(r"exposure level for pathd.service: (\S+)", must("systemd-analyze", "security", "--no-pager", "pathd.service"))
     said = re.search(r"rates its exposure as ([0-9]+\.[0-9]+)", text_of("operating/install").replace("\n", " "))
     STEPS.expect("its exposure is rated as the page says", bool(rated and said) and rated.group(1) == said.group(1), (rated and rated.group(1), said and said.group(1)))
@@ -551,31 +558,12 @@ def serve_by_gateway() -> None:
     STEPS.expect("the unit of the gateway starts", start_gateway(), run("systemctl", "status", GATEWAY_UNIT).stdout)
     STEPS.expect("the journal has the line of its address", until(lambda: f"serves at 127.0.0.1:{GATEWAY_PORT}" in journal("pathd-gateway", begun)), journal("pathd-gateway", begun))
     STEPS.expect("a lookup by Connect finds segments", look_up_by_gateway() > 0)
-    look_at_walls_of_gateway()
+    within = look_at_walls_of(GATEWAY_UNIT, "pathd-gateway", GATEWAY_PORT, 4096)
+    as_its_user = "setpriv --reuid pathd-gateway --regid pathd-gateway --clear-groups"
+    STEPS.expect("its user can read /etc/pathd-gateway, and can't write it", run(*within, f"{as_its_user} ls /etc/pathd-gateway").returncode == 0 and run(*within, f"{as_its_user} touch /etc/pathd-gateway/.new").returncode != 0)
     end_gateway()
     done = run("dpkg", "--purge", "pathd-gateway")
     STEPS.expect("its package is removed, and its unit with it", done.returncode == 0 and property_of("LoadState", GATEWAY_UNIT) == "not-found", done.stderr)
-
-
-def look_at_walls_of_gateway() -> None:
-    """The gateway's user, its rights, its limits."""
-    pid = property_of("MainPID", GATEWAY_UNIT)
-    status = dict(line.split(":\t", 1) for line in Path(f"/proc/{pid}/status").read_text().splitlines() if ":\t" in line)
-    uid = must("id", "-u", "pathd-gateway").strip()
-    STEPS.expect("the gateway runs as its own user", status["Uid"].split() == [uid] * 4, status["Uid"])
-    STEPS.expect("it has no capability, no new privileges, and a filter of calls", (int(status["CapEff"], 16), int(status["CapBnd"], 16), status["NoNewPrivs"], status["Seccomp"]) == (0, 0, "1", "2"), status)
-    within = ["nsenter", "-t", pid, "-m", "sh", "-c"]
-    for path in ("/etc", "/usr/local/bin", "/var/lib", "/home"):
-        STEPS.expect(f"in its view {path} can't be written", run(*within, f"touch {path}/.pathd-units").returncode != 0)
-    as_its_user = "setpriv --reuid pathd-gateway --regid pathd-gateway --clear-groups"
-    STEPS.expect("its user can read /etc/pathd-gateway, and can't write it", run(*within, f"{as_its_user} ls /etc/pathd-gateway").returncode == 0 and run(*within, f"{as_its_user} touch /etc/pathd-gateway/.new").returncode != 0)
-    listens = must("ss", "-Hltnp", f"sport = :{GATEWAY_PORT}")
-    STEPS.expect("it listens at 127.0.0.1 alone", listens.count("\n") == 1 and f"127.0.0.1:{GATEWAY_PORT}" in listens, listens)
-    limits = Path(f"/proc/{pid}/limits").read_text()
-    STEPS.expect("it may have 4096 descriptors", re.search(r"Max open files +4096 +4096", limits) is not None, limits)
-    done = run("systemd-analyze", "verify", f"/usr/lib/systemd/system/{GATEWAY_UNIT}")
-    lines = [line for line in done.stderr.splitlines() if "pathd" in line]
-    STEPS.expect("systemd-analyze verify prints nothing of its unit", not lines, lines)
 
 
 def end_gateway() -> None:
