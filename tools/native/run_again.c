@@ -3,7 +3,8 @@
 // last letter is a digit. For each byte at standard input, a digit that takes its place, it calls the
 // program's `main`. Then it writes three numbers of four bytes to the descriptor that RUN_AGAIN names:
 // the status by which the program ended, and the sizes of standard output and of standard error, which
-// are files. It ends when nobody asks any more. It is for commands without threads.
+// are files. It ends when nobody asks any more. It is for commands without threads, of a program that
+// keeps nothing outside of `main`.
 // tools/pathd_tools/runs.py uses it.
 #define _GNU_SOURCE
 #include <dlfcn.h>
