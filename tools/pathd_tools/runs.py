@@ -71,7 +71,8 @@ def compiled(source: str, folder: Path) -> str:
 
 def begin(text: str, words: list[str], is_last: bool = False, **defaults: object) -> tuple[argparse.Namespace, str]:
     """The options of a tool that tries the built program, by their defaults, and the program: the option --program, or the last
-    word. A list has the words that an option may be, its default first; `further` is the option --for. What is tried is printed."""
+    word. A list has the words that an option may be, its default first, and a tuple those of which it may be some, by default all.
+    `further` is the option --for. What is tried is printed."""
     parser = toolbox.parser(text)
     named = {"nargs": "?", "metavar": "PROGRAM"} if is_last else {}
     parser.add_argument("program" if is_last else "--program", help="the built program [crates/pathd/out/pathd]", **named)
@@ -79,6 +80,8 @@ def begin(text: str, words: list[str], is_last: bool = False, **defaults: object
         option = "--for" if name == "further" else f"--{name}"
         if isinstance(default, list):
             parser.add_argument(option, choices=default, default=default[0])
+        elif isinstance(default, tuple):
+            parser.add_argument(option, choices=default, default=default, nargs="+")
         elif isinstance(default, bool):
             parser.add_argument(option, action="store_true")
         else:

@@ -41,7 +41,7 @@ from collections import Counter
 from pathlib import Path
 
 from pathd_model import model
-from pathd_tools import messages, runs, toolbox
+from pathd_tools import messages, runs
 
 SMALL = model.Layout(2, 516)
 PASSING = ("EINTR", "part", "one")
@@ -424,23 +424,13 @@ def summary(swept: list[tuple[str, str, str, Counter]]) -> str:
 
 def main(words: list[str]) -> int:
     """Sweeps, and prints a table."""
-    parser = toolbox.parser(__doc__)
-    parser.add_argument("--program", help="the built program; crates/pathd/out/pathd if left out")
-    parser.add_argument("--every", type=int, default=1)
-    parser.add_argument("--jobs", type=int, default=2)
-    parser.add_argument("--only", choices=COMMANDS)
-    parser.add_argument("--kind", choices=list(HOWS), nargs="+", default=list(HOWS))
-    parser.add_argument("--for", type=float, dest="minutes", default=0, metavar="MINUTES", help="begin nothing after so many minutes")
-    options = parser.parse_args(words)
-    program = runs.program_of(options.program)
-    begun = time.monotonic()
-    print(runs.commit_name(program), flush=True)
+    options, program = runs.begin(__doc__, words, every=1, jobs=2, only=["", *COMMANDS], kind=tuple(HOWS), further=0.0)
     total, wrongs = 0, []
     with runs.scratch() as folder:
         library = runs.compiled("refused_calls.c", folder)
         first = make_store(program, folder)
         given = [
-            (program, library, str(folder), command, kind, how, first, options.every, begun + 60 * options.minutes if options.minutes else 0.0)
+            (program, library, str(folder), command, kind, how, first, options.every, options.since + 60 * options.further if options.further else 0.0)
             for command in ([options.only] if options.only else COMMANDS)
             for kind, hows in HOWS.items()
             if kind in options.kind
@@ -453,8 +443,5 @@ def main(words: list[str]) -> int:
                 wrongs += wrong
                 swept.append((command, kind, how, results))
                 print(f"  {command}, {kind}, {how}: {sum(results.values())} runs", flush=True)
-                for line in wrong[:3]:
-                    print(f"  {line}", flush=True)
     print(summary(swept))
-    print(f"{total} runs, {len(wrongs)} end otherwise, {time.monotonic() - begun:.0f} seconds")
-    return 1 if wrongs else 0
+    return runs.end(options, f"{total} runs, {len(wrongs)} end otherwise", wrongs)

@@ -45,7 +45,7 @@ from collections.abc import Callable, Iterable
 from pathlib import Path
 
 from pathd_model import model
-from pathd_tools import TOP, messages, need, runs, toolbox
+from pathd_tools import TOP, messages, need, runs
 from pathd_tools.attacks import peers, web_frames as web, web_requests as requests
 from pathd_tools.attacks.web_crowd import LONGEST, Crowd, Peer
 
@@ -344,25 +344,14 @@ def attack(server: runs.Server, gateway: Gateway, options: argparse.Namespace) -
 
 def main(words: list[str]) -> int:
     """Attacks, and prints what was measured."""
-    parser = toolbox.parser(__doc__)
-    parser.add_argument("--program", help="the built program; crates/pathd/out/pathd if left out")
-    parser.add_argument("--gateway", metavar="FILE", help="the built gateway; it is built if left out")
-    parser.add_argument("--connections", type=int, default=2_000)
-    parser.add_argument("--seconds", type=int, default=21, help="how long peers are held")
-    parser.add_argument("--requests", type=int, default=20_000, help="how many malformed requests there are")
-    parser.add_argument("--seed", type=int, default=1)
-    options = parser.parse_args(words)
-    program = runs.program_of(options.program)
+    options, program = runs.begin(__doc__, words, gateway="", connections=2_000, seconds=21, requests=20_000, seed=1)
     peers.allow_descriptors(options.connections + 500)
     with runs.scratch() as folder:
         built = gateway_of(options.gateway, folder)
-        print(f"{runs.commit_name(program)}, gateway {runs.sum_of(built)}, seed {options.seed}", flush=True)
+        print(f"gateway {runs.sum_of(built)}", flush=True)
         runs.format_store(program, folder / "store", peers.LAYOUT)
         listeners = ["--status", "127.0.0.1:0", "--lookups", "127.0.0.1:0", "--lookup-seats", str(LOOKUP_SEATS)]
         with runs.Server(program, folder / "store", ["--idle", "60", *listeners]) as server:
             with Gateway(built, server, folder / "gateway.notices") as gateway:
                 faults = attack(server, gateway, options)
-    for fault in faults[:10]:
-        print(f"  {fault[:2_000]}")
-    print(f"{len(faults)} faults, the bounds are {BOUND} KiB of the gateway and {peers.BOUND} KiB of pathd")
-    return 1 if faults else 0
+    return runs.end(options, f"{len(faults)} faults, the bounds are {BOUND} KiB of the gateway and {peers.BOUND} KiB of pathd", faults)
