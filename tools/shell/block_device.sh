@@ -9,12 +9,8 @@
 #     tools/pathd-tools block-device [PROGRAM]
 #
 # PROGRAM is crates/pathd/out/pathd if left out, which `rt run` builds.
-set -euo pipefail
-top=$(cd "$(dirname "${BASH_SOURCE[0]}")/../.." && pwd)
-"$top/tools/pathd-tools" need root losetup || exit
-program=$(realpath "${1:-$top/crates/pathd/out/pathd}") || exit 2
-[ -x "$program" ] || { echo "no program: $program" >&2; exit 2; }
-work=$(mktemp -d) || exit 2
+source "$(dirname "${BASH_SOURCE[0]}")/common.sh"
+begin "${1:-}" root losetup
 device=
 end() {
   [ -z "$device" ] || losetup -d "$device"

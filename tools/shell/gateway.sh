@@ -8,14 +8,9 @@
 #     tools/pathd-tools gateway [PROGRAM]
 #
 # PROGRAM is crates/pathd/out/pathd if left out, which `rt run` builds.
-set -euo pipefail
-top=$(cd "$(dirname "${BASH_SOURCE[0]}")/../.." && pwd)
-"$top/tools/pathd-tools" need protoc go protoc-gen-go protoc-gen-go-grpc golang-google-protobuf-dev \
+source "$(dirname "${BASH_SOURCE[0]}")/common.sh"
+begin "${1:-}" protoc go protoc-gen-go protoc-gen-go-grpc golang-google-protobuf-dev \
   golang-github-golang-protobuf-1-5-dev golang-google-grpc-dev golang-golang-x-net-dev libprotobuf-dev openssl
-program=$(realpath "${1:-$top/crates/pathd/out/pathd}")
-[ -x "$program" ] || { echo "no program: $program" >&2; exit 2; }
-work=$(mktemp -d)
-trap 'rm -rf "$work"' EXIT
 source "$top/tools/shell/modules.sh"
 
 unformatted=$(gofmt -l "$top/gateway")

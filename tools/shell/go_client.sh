@@ -11,13 +11,8 @@
 #     tools/pathd-tools go-client [PROGRAM]
 #
 # PROGRAM is crates/pathd/out/pathd if left out, which `rt run` builds.
-set -euo pipefail
-top=$(cd "$(dirname "${BASH_SOURCE[0]}")/../.." && pwd)
-"$top/tools/pathd-tools" need protoc go protoc-gen-go golang-google-protobuf-dev gcc
-program=$(realpath "${1:-$top/crates/pathd/out/pathd}")
-[ -x "$program" ] || { echo "no program: $program" >&2; exit 2; }
-work=$(mktemp -d)
-trap 'rm -rf "$work"' EXIT
+source "$(dirname "${BASH_SOURCE[0]}")/common.sh"
+begin "${1:-}" protoc go protoc-gen-go golang-google-protobuf-dev gcc
 source "$top/tools/shell/modules.sh"
 mkdir "$work/src" "$work/generated"
 cp -r "$top/clients/go" "$work/src/pathd"

@@ -8,13 +8,8 @@
 #     tools/pathd-tools locks [PROGRAM]
 #
 # PROGRAM is crates/pathd/out/pathd if left out, which `rt run` builds.
-set -euo pipefail
-top=$(cd "$(dirname "${BASH_SOURCE[0]}")/../.." && pwd)
-"$top/tools/pathd-tools" need strace python3 || exit
-program=$(realpath "${1:-$top/crates/pathd/out/pathd}") || exit 2
-[ -x "$program" ] || { echo "no program: $program" >&2; exit 2; }
-work=$(mktemp -d) || exit 2
-trap 'rm -rf "$work"' EXIT
+source "$(dirname "${BASH_SOURCE[0]}")/common.sh"
+begin "${1:-}" strace python3
 store=$work/store
 
 runs=0

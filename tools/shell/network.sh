@@ -9,12 +9,8 @@
 #     tools/pathd-tools network [PROGRAM]
 #
 # PROGRAM is crates/pathd/out/pathd if left out, which `rt run` builds.
-set -euo pipefail
-top=$(cd "$(dirname "${BASH_SOURCE[0]}")/../.." && pwd)
-"$top/tools/pathd-tools" need root ip nft wg haproxy stunnel openssl python3-protobuf
-program=$(realpath "${1:-$top/crates/pathd/out/pathd}")
-[ -x "$program" ] || { echo "no program: $program" >&2; exit 2; }
-work=$(mktemp -d)
+source "$(dirname "${BASH_SOURCE[0]}")/common.sh"
+begin "${1:-}" root ip nft wg haproxy stunnel openssl python3-protobuf
 server=pathd-server-$$ client=pathd-client-$$
 started=()
 faults=0

@@ -8,13 +8,8 @@
 # PROGRAM is crates/pathd/out/pathd if left out, which `rt run` builds. Offsets and lengths are counted
 # in sectors of 512 bytes. Reads in a row are one line. What differs is printed as diff does, the calls
 # that were made with '+'.
-set -euo pipefail
-top=$(cd "$(dirname "${BASH_SOURCE[0]}")/../.." && pwd)
-"$top/tools/pathd-tools" need strace perl || exit
-program=$(realpath "${1:-$top/crates/pathd/out/pathd}") || exit 2
-[ -x "$program" ] || { echo "no program: $program" >&2; exit 2; }
-work=$(mktemp -d) || exit 2
-trap 'rm -rf "$work"' EXIT
+source "$(dirname "${BASH_SOURCE[0]}")/common.sh"
+begin "${1:-}" strace perl
 store=$work/store
 calls=openat,flock,ftruncate,fsync,fdatasync,fadvise64,pread64,pwrite64,read,write
 
