@@ -12,7 +12,7 @@ _pathd() {
     case ${COMP_WORDS[1]} in
       once) words="--cores --now --key --hex -h --help" ;;
       format) words="--checkpoint --journal --rows --new --force --reserve -h --help" ;;
-      copy) words="--checkpoint --journal --rows -h --help" ;;
+      copy) words="--checkpoint --journal --rows --reserve -h --help" ;;
       show) words="--layout --json -h --help" ;;
       status) words="-h --help" ;;
       upgrade) words="-h --help" ;;

@@ -46,6 +46,7 @@ _pathd() {
         '--checkpoint[The sectors of a checkpoint area, 2 to 1048576]:C:' \
         '--journal[The sectors of a journal, 516 to 1048576]:J:' \
         '--rows[Reserve a sector of a checkpoint area for each of this number of rows, and a journal to match]:N:' \
+        '--reserve[Write zeros over the whole file, so that the disk gives it all its room]' \
         '1:OLD:_files' \
         '2:NEW:_files'
       ;;

@@ -1,7 +1,7 @@
 #!/usr/bin/env bash
 # Compares the calls that the built program makes of the system, on the file of a store, with the
 # order that docs/STORE.md has, for C = 2 and J = 516: which sectors are written, and where the
-# syncs are between them. It needs Debian's strace, and is no part of the gate.
+# syncs are between them. Then it looks at which copies have their room on the disk. It needs Debian's strace, and is no part of the gate.
 #
 #     tools/pathd-tools syscalls [PROGRAM]
 #
@@ -186,6 +186,21 @@ print
 print
 print
 LINES
+
+# A copy has its room where that is asked for, and where the store that is copied has its own.
+has_room() { [ "$(($(stat -c '%b * 512' "$1")))" -ge "$(stat -c %s "$1")" ]; }
+"$program" format "$work/sparse" --checkpoint 2 --journal 516 >/dev/null
+"$program" format "$work/full" --checkpoint 2 --journal 516 --reserve >/dev/null
+for copied in "sparse no" "sparse yes --reserve" "full yes" "full yes --rows 2000"; do
+  read -r from wanted words <<<"$copied"
+  rm -f "$work/copy"
+  # shellcheck disable=SC2086 # the words are split
+  "$program" copy "$work/$from" "$work/copy" $words >/dev/null
+  traces=$((traces + 1))
+  has=no
+  if has_room "$work/copy"; then has=yes; fi
+  [ "$has" = "$wanted" ] || { echo "copy of $copied: has its room: $has"; differences=$((differences + 1)); }
+done
 
 echo "$traces commands, $differences differ"
 [ "$differences" = 0 ]

@@ -116,16 +116,12 @@ fn make_store<'a, R: AllocGlobal + Files<File = File> + Eprint, O: Write>(
             journal: 0,
         },
     );
-    let len = geometry.sectors().saturating_mul(SECTOR as u64);
     let room = if options.get_flag(RESERVE) {
         Room::Now
     } else {
         Room::Later
     };
-    if room == Room::Now && len >= LONG && file.is_file() {
-        let _ = eprintln!(rt; "pathd: {path}: writes {} MiB of zeros", len / MEBIBYTE);
-    }
-    let (mut device, site) = device_over(path, file.into_zeros(rt, path, len, room))?;
+    let (mut device, site) = zeros_for(rt, path, file, geometry, room)?;
     site.said_of(format(rt.alloc(), &mut device, geometry, output))
 }
 
@@ -151,9 +147,10 @@ fn sizes_of(options: &ArgMatches<'_>, others: Geometry) -> Geometry
 
 /// Makes a file, whose former contents are dropped where it exists and has no store, and on it a
 /// store with the rows and the place of another file's store, which is only read, beside other
-/// processes that read it. Sizes that are left out are those of the other store. Standard error says
-/// each second how far it has come. No clause says what the files have then: those of `copy` say it
-/// of any devices.
+/// processes that read it. Sizes that are left out are those of the other store. The new file gets
+/// all its room at once where the options say so, or where the other one has all of its own.
+/// Standard error says each second how far it has come. No clause says what the files have then:
+/// those of `copy` say it of any devices.
 pub fn copy_file<'a, R: AllocGlobal + Files<File = File> + Clock + Eprint, O: Write>(
     rt: &R,
     options: &ArgMatches<'a>,
@@ -167,7 +164,8 @@ pub fn copy_file<'a, R: AllocGlobal + Files<File = File> + Clock + Eprint, O: Wr
         Err(_) => return Err(old.failure(Fault::Open(OpenError::Device))),
     };
     let target = options.get_str(TARGET).unwrap_or("");
-    let (to, new) = empty_device(rt, path, target, geometry)?;
+    let room = room_of(rt, options, path);
+    let (to, new) = empty_device(rt, path, target, geometry, room)?;
     let mut from = Progress::over(rt, from, path, "read");
     let mut to = Progress::over(rt, to, target, "wrote");
     match copy(rt.alloc(), &mut from, &mut to, geometry, output) {
@@ -176,14 +174,37 @@ pub fn copy_file<'a, R: AllocGlobal + Files<File = File> + Clock + Eprint, O: Wr
     }
 }
 
-/// A device over a file of zeros with room for a store of these sizes, or over a block device. A
+/// When a copy of the file at a path gets its room: at once where the options say so, or where the
+/// file system has given that file all of its own.
+fn room_of<R: Files<File = File>>(rt: &R, options: &ArgMatches<'_>, path: &str) -> Room {
+    if options.get_flag(RESERVE) || has_its_room(rt, path) {
+        Room::Now
+    } else {
+        Room::Later
+    }
+}
+
+/// Whether the file system has given a file room for all its bytes. A file system counts room in
+/// blocks of 512 bytes. One of which nothing can be said has none, and so has what is no file.
+fn has_its_room<R: Files<File = File>>(rt: &R, path: &str) -> bool {
+    match fs::metadata(rt, path) {
+        Ok(found) => {
+            found.is_file() && found.len() > 0 && found.blocks() >= found.len().div_ceil(512)
+        }
+        Err(_) => false,
+    }
+}
+
+/// A device over a file of zeros with room for a store of these sizes, or over a block device. The
+/// file gets the room at once where that is asked for, which is announced where it takes long. A
 /// file that has a store is refused, and left as it is. So is the file at `old`, which this process
 /// has open.
-fn empty_device<'a, R: AllocGlobal + Files<File = File>>(
+fn empty_device<'a, R: AllocGlobal + Files<File = File> + Eprint>(
     rt: &R,
     old: &str,
     path: &'a str,
     geometry: Geometry,
+    room: Room,
 ) -> Result<(FileDevice<SystemFile>, Site<'a>), Failure<'a>> {
     let file = LockedFile::open(rt, path).map_err(|error| Failure::File(
         path,
@@ -195,8 +216,23 @@ fn empty_device<'a, R: AllocGlobal + Files<File = File>>(
         Ok(true) => return Err(site.failure(Fault::Taken)),
         Err(_) => return Err(site.failure(Fault::Open(OpenError::Device))),
     }
+    zeros_for(rt, path, file, geometry, room)
+}
+
+/// A device over a file of zeros with room for a store of these sizes, or over a block device. That
+/// the file gets its room at once is announced where it takes long.
+fn zeros_for<'a, R: AllocGlobal + Files<File = File> + Eprint>(
+    rt: &R,
+    path: &'a str,
+    file: LockedFile,
+    geometry: Geometry,
+    room: Room,
+) -> Result<(FileDevice<SystemFile>, Site<'a>), Failure<'a>> {
     let len = geometry.sectors().saturating_mul(SECTOR as u64);
-    device_over(path, file.into_zeros(rt, path, len, Room::Later))
+    if room == Room::Now && len >= LONG && file.is_file() {
+        let _ = eprintln!(rt; "pathd: {path}: writes {} MiB of zeros", len / MEBIBYTE);
+    }
+    device_over(path, file.into_zeros(rt, path, len, room))
 }
 
 /// Why a file is not opened while this process reads the one at `old`: it may be that file, on which

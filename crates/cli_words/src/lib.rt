@@ -211,6 +211,10 @@ const ASK_NOTES: &str = concat!(
     "  pathd ask 127.0.0.1:30252 lookup 1-ff00:0:110 1-ff00:0:111",
 );
 
+/// The help on the flag for the room of a file.
+const RESERVE_HELP: &str =
+    "Write zeros over the whole file, so that the disk gives it all its room";
+
 /// What the help says of lines of JSON.
 const JSON_HELP: &str = "Print lines of JSON, which have all of a segment";
 
@@ -360,7 +364,8 @@ fn copy_command<'a>(alloc: Global) -> Result<Command<'a>, AllocError>
     let command = with_arg(command, COPY, target_argument(alloc));
     let command = with_arg(command, COPY, checkpoint_option(alloc));
     let command = with_arg(command, COPY, journal_option(alloc));
-    with_made_arg(command, COPY, rows_option(alloc))
+    let command = with_made_arg(command, COPY, rows_option(alloc));
+    with_arg(command, COPY, flag(alloc, RESERVE, RESERVE_HELP))
 }
 
 /// Gives the command that makes a store the flags for one that is there, and for the file's room.
@@ -373,11 +378,10 @@ fn with_consent<'a>(
 {
     let new = "Refuse where a store is";
     let force = "Lose a store that is there, without asking";
-    let reserve = "Write zeros over the whole file, so that the disk gives it all its room";
     let command = with_arg(command, FORMAT, flag(alloc, NEW, new));
     let force = flag(alloc, FORCE, force).conflicts_with(NEW);
     let command = with_made_arg(command, FORMAT, force);
-    with_arg(command, FORMAT, flag(alloc, RESERVE, reserve))
+    with_arg(command, FORMAT, flag(alloc, RESERVE, RESERVE_HELP))
 }
 
 /// The command that prints what a store has.

@@ -5,11 +5,11 @@ use crate::checks::assert_same;
 use clap::ArgMatches;
 use clap::error::ErrorKind;
 use cli_words::{
-    ASK, AT_ONCE, CHECKPOINT, CORES, CommandLine, DEVICE, FINAL_STATUS, FORCE, FORMAT, FUTURE,
-    GRACE, HEX, IDLE, JOURNAL, JSON, KEY, LAYOUT, LEAVE, LISTEN, LISTS, LOG_PRIORITY, LOOKUP_SEATS,
-    LOOKUPS, NEW, NOW, ONCE, PEER_SESSIONS, PURGE, PURGE_GRACE, QUIET, REQUEST, RESERVE, ROWS, RUN,
-    SERVER, SESSIONS, SHOW, SPARE, STATUS, STATUS_LISTEN, STOP_ON_END_OF_INPUT, Subcommand,
-    TIMEOUT, UPGRADE, WAIT, WORDS, read,
+    ASK, AT_ONCE, CHECKPOINT, COPY, CORES, CommandLine, DEVICE, FINAL_STATUS, FORCE, FORMAT,
+    FUTURE, GRACE, HEX, IDLE, JOURNAL, JSON, KEY, LAYOUT, LEAVE, LISTEN, LISTS, LOG_PRIORITY,
+    LOOKUP_SEATS, LOOKUPS, NEW, NOW, ONCE, PEER_SESSIONS, PURGE, PURGE_GRACE, QUIET, REQUEST,
+    RESERVE, ROWS, RUN, SERVER, SESSIONS, SHOW, SPARE, STATUS, STATUS_LISTEN, STOP_ON_END_OF_INPUT,
+    Subcommand, TIMEOUT, UPGRADE, WAIT, WORDS, read,
 };
 use std::alloc::Global;
 use std::process::Abort;
@@ -167,6 +167,8 @@ const FLAGS: &[Flag] = &[
     Flag { line: "format d --force --checkpoint 2 --journal 516", command: FORMAT, flag: NEW, is_given: false },
     Flag { line: "format d --force --rows 1", command: FORMAT, flag: RESERVE, is_given: false },
     Flag { line: "format d --reserve --rows 1", command: FORMAT, flag: RESERVE, is_given: true },
+    Flag { line: "copy d e --rows 1", command: COPY, flag: RESERVE, is_given: false },
+    Flag { line: "copy d e --reserve", command: COPY, flag: RESERVE, is_given: true },
     Flag { line: "show d", command: SHOW, flag: LAYOUT, is_given: false },
     Flag { line: "show d --layout", command: SHOW, flag: LAYOUT, is_given: true },
     Flag { line: "show d --json", command: SHOW, flag: JSON, is_given: true },
