@@ -256,7 +256,8 @@ def provide(rt, crate) -> set[str]:
             sys.exit(f"{it.name} is not proved as it is now: run rt ci {it.name}")
         kept.is_built(it)
     text = Path(f"{crate.rlib}/toolchain/mir.json").read_text()
-    return {it.partition("::")[2] for it in re.findall(rf'"({crate.name}::[^"]+)"', text)}
+    named = {it.partition("::")[2] for it in re.findall(rf'"({crate.name}::[^"]+)"', text)}
+    return {it for it in named if "+" not in it.split("::")[-1]}
 
 
 def functions_of(crate, edit: Edit, names: set[str]) -> set[str]:
@@ -367,10 +368,10 @@ def without_answers(crate, texts: dict, misfits: list[Refusal]) -> dict:
 
 def without(text: str, goal: str) -> str:
     """The text of answers without this one, and without those that cite it. Blank lines are between answers."""
-    kept = [it for it in text.split("\n\n") if not re.match(rf"(?:abbrev )?pub {re.escape(goal)} :", it)]
+    kept = [it for it in text.split("\n\n") if not re.match(rf"(?:--.*\n)*(?:abbrev )?pub {re.escape(goal)} :", it)]
     left = "\n\n".join(kept)
     for it in kept:
-        named = re.match(r"(?:abbrev )?pub (\S+) :", it)
+        named = re.match(r"(?:--.*\n)*(?:abbrev )?pub (\S+) :", it)
         if named and len(kept) < len(text.split("\n\n")) and re.search(rf"(?<![\w.-]){re.escape(goal)}(?![\w-])", it):
             left = without(left, named[1])
     return left
