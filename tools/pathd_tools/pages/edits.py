@@ -297,7 +297,7 @@ def try_edits(rt, edits: list[Edit]) -> bool:
         ran = run(rt, crate, batch.texts, batch.functions)
         for edit, functions in batch.edits:
             its = part_of(ran, functions) if len(batch.edits) > 1 else ran
-            if len(batch.edits) > 1 and not judge(edit, its).is_well:
+            if len(batch.edits) > 1 and not judge(edit, its).is_well and not misfits_of(its):
                 its = run(rt, crate, rt.read_edit(str(edit.path), crate.folder)[0], functions)
             is_well &= done(edit, tried_again(rt, crate, edit, functions, its))
     return is_well
@@ -318,10 +318,15 @@ def part_of(ran: dict, functions: set[str]) -> dict:
     return {**ran, "status": int(refused), "output": "\n".join(kept)}
 
 
+def misfits_of(ran: dict) -> list[Refusal]:
+    """The answers that don't fit their goals, and those whose goals are gone."""
+    return [] if ran["unread"] else [it for it in refusals(ran["output"]) if it.kind in ("answer", "gone")]
+
+
 def tried_again(rt, crate, edit: Edit, functions: set[str], ran: dict) -> dict:
     """What came of an edit. Where answers don't fit their goals, it is tried once more without these answers,
     so that the prover's own search judges the goals. The right body in its form is tried, too."""
-    misfits = [] if ran["unread"] else [it for it in refusals(ran["output"]) if it.kind in ("answer", "gone")]
+    misfits = misfits_of(ran)
     if misfits and not judge(edit, ran).is_well:
         texts = rt.read_edit(str(edit.path), crate.folder)[0]
         first = ran["output"]
