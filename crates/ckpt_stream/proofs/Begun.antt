@@ -28,7 +28,7 @@ use Rattle.gate_journal.specs.Scanning.{reading_of}
 use Rattle.ckpt_pair.specs.Reading.{with_head}
 use Rattle.ckpt_pair.specs.Checkpoint.{written_checkpoint}
 use Rattle.ckpt_pair.specs.Rows.{rows_format, as_counted, counted_rows}
-use Rattle.row_edits.specs.Rewriting.{RewriteView, untaken, untaken_len}
+use Rattle.ckpt_stream.specs.Rewriting.{RewriteView, untaken, untaken_len}
 use Rattle.store_open.specs.PathStores.{store_format}
 use Rattle.store_open.specs.declared.error.OpenError.{OpenError}
 use Rattle.store_open.specs.declared.error.OpenError.TheVariants.{NotAStore, Device, Pair, Journal, NoMemory}

@@ -8,11 +8,11 @@ use Rattle.path_records.specs.RowRecord.{rows_encoding}
 use Rattle.store_layout.specs.Checkpoint.{checkpoint_bytes}
 use Rattle.ckpt_pair.specs.Checkpoint.{written_checkpoint}
 use Rattle.ckpt_pair.specs.Rows.{rows_format}
-use Rattle.row_edits.specs.declared.edit.Edit.TheVariants.{Keep}
-use Rattle.row_edits.specs.declared.plan.Plan.{Plan}
-use Rattle.row_edits.specs.Edits.{views_if_any}
-use Rattle.row_edits.specs.Planner.{IsPlanOf}
-use Rattle.row_edits.specs.Rewriting.{RewriteView}
+use Rattle.ckpt_stream.specs.declared.edit.Edit.TheVariants.{Keep}
+use Rattle.ckpt_stream.specs.declared.plan.Plan.{Plan}
+use Rattle.ckpt_stream.specs.Edits.{views_if_any}
+use Rattle.ckpt_stream.specs.Planner.{IsPlanOf}
+use Rattle.ckpt_stream.specs.Rewriting.{RewriteView}
 use Rattle.ckpt_stream.specs.Beginning.{RewritesCheckpoint}
 
 -- a number that is below 2^32 where it is cut off at 2^64

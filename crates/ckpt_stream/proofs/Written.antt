@@ -6,7 +6,7 @@ use Rattle.byte_lists.specs.Content.{part}
 use Rattle.sector_dev.specs.Disk.{Disk, History, IsHonest}
 use Rattle.sector_dev.proofs.Stretches.{honest_before}
 use Rattle.sector_dev.specs.Calls.{Keeps}
-use Rattle.row_edits.specs.Rewriting.{RewriteView, untaken}
+use Rattle.ckpt_stream.specs.Rewriting.{RewriteView, untaken}
 use Rattle.ckpt_stream.specs.Merge.{after_piece, MakesOn}
 
 -- what was made without its next piece

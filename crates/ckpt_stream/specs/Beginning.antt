@@ -17,7 +17,7 @@ use Rattle.ckpt_pair.specs.Rows.{rows_format}
 use Rattle.store_open.specs.Sealed.{SealedHalf, sealed_half}
 use Rattle.store_open.specs.declared.sealed.SealedError.{SealedError}
 use Rattle.store_open.specs.declared.sealed.SealedError.TheVariants.{Fault, NoMemory, Damaged}
-use Rattle.row_edits.specs.Rewriting.{RewriteView, untaken, untaken_len, edits_end}
+use Rattle.ckpt_stream.specs.Rewriting.{RewriteView, untaken, untaken_len, edits_end}
 use Rattle.ckpt_stream.specs.Sums.{AreSummed}
 use Rattle.ckpt_stream.specs.Merge.{MergeView, bytes_made, IsReady}
 

@@ -16,7 +16,7 @@ use Rattle.store_layout.specs.Layout.{Geometry, area_at, journal_of}
 use Rattle.gate_journal.specs.declared.scanner.Scan.{Scan}
 use Rattle.gate_journal.specs.Commands.{command_format}
 use Rattle.gate_journal.specs.Scanning.{reading_of, pieces_left, IsReadUpTo}
-use Rattle.row_edits.specs.Settling.{steps_to_settle}
+use Rattle.ckpt_stream.specs.Settling.{steps_to_settle}
 use Rattle.ckpt_pair.specs.declared.reading.Front.{Front}
 use Rattle.ckpt_pair.specs.Rows.{as_counted}
 use Rattle.store_open.specs.Sealed.{sealed_half}

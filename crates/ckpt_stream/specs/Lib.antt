@@ -1,3 +1,13 @@
+pub mod Merging
+pub mod Found
+pub mod Edits
+pub mod Planning
+pub mod Touched
+pub mod Planner
+pub mod Laws
+pub mod Settling
+pub mod Rewriting
+pub mod Chunks
 pub mod Sums
 pub mod Merge
 pub mod Making

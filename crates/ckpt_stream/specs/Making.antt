@@ -1,8 +1,8 @@
 -- Why making stops, and how long it goes on.
 use Rattle.std.specs.Prelude.{◌≡◌, ℕ, suc, ◌+◌, ◌<◌, ◌≤◌, ◌⊎◌, [], ◌∷◌, length, if◌then◌else◌, nat_le, ◌==◌}
-use Rattle.row_edits.specs.declared.edit.Edit.TheVariants.{Keep}
-use Rattle.row_edits.specs.Edits.{bytes_in}
-use Rattle.row_edits.specs.Rewriting.{RewriteView, left_to_keep}
+use Rattle.ckpt_stream.specs.declared.edit.Edit.TheVariants.{Keep}
+use Rattle.ckpt_stream.specs.Edits.{bytes_in}
+use Rattle.ckpt_stream.specs.Rewriting.{RewriteView, left_to_keep}
 use Rattle.path_records.specs.declared.format.TheConstants.{PIECE}
 use Rattle.store_layout.specs.declared.format.TheConstants.{BEFORE_ROWS}
 

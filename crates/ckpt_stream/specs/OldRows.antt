@@ -12,8 +12,8 @@ use Rattle.ckpt_pair.specs.Rows.{as_counted}
 use Rattle.ckpt_pair.specs.Stream.{StreamView, HasStreamed}
 use Rattle.store_open.specs.declared.error.OpenError.{OpenError}
 use Rattle.store_open.specs.declared.error.OpenError.TheVariants.{NotAStore, Device, Pair, Journal, NoMemory}
-use Rattle.row_edits.specs.Planner.{HasSeen, IsFresh, IsPlanOf}
-use Rattle.row_edits.specs.Settling.{Settles}
+use Rattle.ckpt_stream.specs.Planner.{HasSeen, IsFresh, IsPlanOf}
+use Rattle.ckpt_stream.specs.Settling.{Settles}
 use Rattle.store_layout.specs.declared.format.TheConstants.{BEFORE_ROWS}
 use Rattle.ckpt_stream.specs.Sums.{sums_in}
 use Rattle.ckpt_stream.specs.declared.old_rows.RowsRead.{RowsRead}

@@ -4,7 +4,7 @@ ghost use Rattle.std.specs.Prelude.{◌≡◌, ◌+◌, ◌-◌, ◌*◌, ◌<�
 ghost use Rattle.byte_lists.specs.Content.{part};
 ghost use Rattle.byte_lists.specs.Sectors.{padded};
 ghost use Rattle.byte_lists.specs.declared.format.TheConstants.{SECTOR};
-ghost use Rattle.row_edits.specs.Rewriting.{untaken, untaken_len, edits_end};
+ghost use Rattle.ckpt_stream.specs.Rewriting.{untaken, untaken_len, edits_end};
 ghost use Rattle.path_records.specs.declared.format.TheConstants.{PIECE};
 ghost use Rattle.store_layout.specs.declared.format.TheConstants.{BEFORE_ROWS};
 ghost use Rattle.ckpt_stream.specs.Merge.{IsReady, LooksForPiece, MakesOn};
@@ -16,11 +16,11 @@ ghost use Rattle.ckpt_stream.specs.Making.{WhyRewritten};
 
 use crate::error::PieceError;
 use crate::merge::PIECE_SECTORS;
+use crate::rewrite::Rewrite;
 use crate::sectors::read_sectors;
 use crate::sums::have_sums;
 use byte_lists::SECTOR;
 use path_records::PIECE;
-use row_edits::Rewrite;
 use sector_dev::Device;
 use store_layout::BEFORE_ROWS;
 

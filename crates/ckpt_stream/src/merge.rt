@@ -12,10 +12,11 @@ ghost use Rattle.sector_dev.specs.Disk.{IsHonest, reads_of};
 ghost use Rattle.byte_lists.specs.Content.{part};
 
 use crate::error::PieceError;
+use crate::ghosts::note::RowsNote;
 use crate::making::{make_piece, put_piece};
+use crate::rewrite::Rewrite;
 use byte_lists::SECTOR;
 use path_records::PIECE;
-use row_edits::{Rewrite, RowsNote};
 use sector_dev::Device;
 use std::marker::Model;
 

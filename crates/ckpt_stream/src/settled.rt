@@ -6,9 +6,11 @@ ghost use Rattle.store_layout.specs.Layout.{Geometry as GeometryView};
 ghost use Rattle.ckpt_stream.specs.declared.half_read.HalfRead.TheVariants.{Settled as IsSettled};
 ghost use Rattle.ckpt_stream.specs.HalfRead.{IsHalfRead, IsWithin, pieces_to_come, IsReadOn};
 
+use crate::ghosts::note::RowsNote;
 use crate::half_read::HalfRead;
+use crate::plan::Plan;
+use crate::settling::{Settled, Settling};
 use ckpt_pair::Front;
-use row_edits::{Plan, RowsNote, Settled, Settling};
 use std::alloc::AllocError;
 
 /// The rows of a sealed half, all read, and what its journal's commands leave, settled in part.

@@ -4,9 +4,8 @@ use Rattle.std.proofs.Common.{◌≡◌, ◌≢◌, ◌⊎◌, ℕ, ◌+◌, ◌
 use Rattle.std.specs.Result.{IsOk}
 use Rattle.std.proofs.lemmas.Bool.{ne_eqb, eq-eqb, le-leb}
 use Rattle.std.proofs.lemmas.Bool.Decides.{leb_tells}
-use Rattle.seg_slots.specs.declared.error.SegError.{SegError}
-use Rattle.seg_slots.specs.Steps.{◌>>=◌}
-use Rattle.seg_core.specs.Steps.{result_map}
+use Rattle.seg_core.specs.declared.error.SegError.{SegError}
+use Rattle.seg_core.specs.Steps.{◌>>=◌, result_map}
 use Rattle.seg_core.specs.declared.seg_type.SegType.{SegType}
 use Rattle.seg_core.specs.Registration.{registration_outline, registration_decoding, map_decoding, entry_rows, type_of}
 use Rattle.seg_check.specs.Checking.{first_refusal}

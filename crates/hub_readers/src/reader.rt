@@ -9,7 +9,7 @@ ghost use Rattle.path_db.specs.Answer.{segments_of};
 ghost use Rattle.store_layout.specs.Journal.{all_of};
 ghost use Rattle.left_right.specs.Sides.{view};
 ghost use Rattle.hub_readers.specs.declared.error.ReaderError.TheVariants.{NoMemory, NoReader};
-ghost use Rattle.hub_readers.specs.Sight.{answer_after, shown_within, page_shown, more_shown, place_after};
+ghost use Rattle.hub_readers.specs.Sight.{answer_shown, shown_within, page_shown, more_shown, place_after};
 ghost use Rattle.hub_readers.specs.Learnt.{learnt};
 ghost use Rattle.hub_readers.specs.Shown.{shown_log};
 
@@ -73,7 +73,7 @@ impl<N: ReaderName> HubReader<N> {
     /// reader was shown before or has learnt. The call takes no lock and waits for nobody. The
     /// segments are shared with the published rows, not copied.
     pub fn lookup(&mut self, query: &Query, now: u64) -> Result<Vec<Segment>, ReaderError>
-        ensures answer { IfOk result (λ found. found.items ≡ segments_of (answer_after N.opening self.new.groups query.now now)) }
+        ensures answer { IfOk result (λ found. found.items ≡ segments_of (answer_shown N.opening self.new.groups query.now now)) }
         ensures few { IfOk result (λ found. length found.items ≤ ANSWER_LIMIT) }
         ensures whole { IfOk result (λ found. AllByRecursion IsSegment found.items) }
 
@@ -87,7 +87,7 @@ impl<N: ReaderName> HubReader<N> {
         // NoReader is returned only where the reader cannot look, or where what is published is
         // older than what the reader has seen. What the reader has seen is then unchanged.
         ensures why { IfErr result (λ e. (e ≡ NoMemory) ⊎ (e ≡ NoReader)) }
-        ensures memory { IfErr result (λ e. e ≡ NoMemory → 1 ≤ length (answer_after N.opening self.new.groups query.now now)) }
+        ensures memory { IfErr result (λ e. e ≡ NoMemory → 1 ≤ length (answer_shown N.opening self.new.groups query.now now)) }
         ensures looked { IfErr result (λ e. e ≡ NoMemory → self.new.seen ≡ place_after N.opening self.new.groups) }
         ensures kept { IfErr result (λ e. e ≡ NoReader → self.new.seen ≡ self.old.seen) }
         ensures unshown { IfErr result (λ e. e ≡ NoReader → (self.new.groups ≡ self.old.groups) ⊎ (place_after N.opening self.new.groups < self.old.seen)) }

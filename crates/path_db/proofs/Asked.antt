@@ -9,7 +9,7 @@ use Rattle.isd_as.specs.IsdAs.{isd_as_number, part_covers, covers_number}
 use Rattle.seg_core.specs.declared.seg_type.SegType.{SegType}
 use Rattle.seg_core.specs.declared.seg_type.SegType.TheVariants.{Up, Core, Down}
 use Rattle.seg_core.specs.SegmentView.{EntryView, SegmentView}
-use Rattle.seg_slots.specs.Message.{last_of}
+use Rattle.seg_core.specs.Message.{last_of}
 use Rattle.seg_core.specs.Registration.{type_number}
 use Rattle.seg_core.specs.Digest.{segment_digest}
 use Rattle.row_map.specs.IndexKey.{IndexKey, index_key_cmp, stands_at, stands_between}
@@ -21,7 +21,7 @@ use Rattle.std.specs.Option.{option_map}
 use Rattle.path_db.specs.declared.answers.Wanted.{Wanted}
 use Rattle.row_map.specs.Database.{RowView, key_of, IsRising, row_under}
 use Rattle.row_map.specs.Drops.{is_valid_beyond}
-use Rattle.path_db.specs.Answer.{covers_entry, matches, is_shown, answer_of, answer_after}
+use Rattle.path_db.specs.Answer.{covers_entry, matches, is_shown, answer_of, answer_above}
 use Rattle.row_map.specs.EndKeys.{entry_at_end, index_number, isds_number, isds_of, is_of, ends_at, IsRowIndex, IsCurrent}
 use Rattle.row_map.specs.Ends.{first_entry_of}
 use Rattle.row_map.specs.Ranges.{is_of_type, is_after}
@@ -198,6 +198,6 @@ module _ (limit : ℕ) (rows : List RowView) (kind : SegType) (start end now : �
   unfolding answer_of
   asked_first = ap (take limit) (filter_agree (λ row. is_shown kind start end now row && true) (is_shown kind start end now) (λ row. and_true (is_shown kind start end now row)) rows)
 
-  pub asked_after : (id : List ℕ) → take limit (filter (λ row. is_shown kind start end now row && is_after kind id row) rows) ≡ answer_after limit rows kind id start end now
+  pub asked_after : (id : List ℕ) → take limit (filter (λ row. is_shown kind start end now row && is_after kind id row) rows) ≡ answer_above limit rows kind id start end now
   unfolding answer_of
   asked_after id = ap (take limit) (sym (both_kept (is_shown kind start end now) (is_after kind id) rows))

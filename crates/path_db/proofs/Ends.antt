@@ -5,7 +5,7 @@ use Rattle.std.specs.Option.{option_map, option_copied}
 use Rattle.seg_core.specs.declared.entry.Entry.{Entry}
 use Rattle.seg_core.specs.SegmentView.{EntryView}
 use Rattle.seg_core.specs.EntryView.{entry_view, entry_views}
-use Rattle.seg_slots.specs.Message.{last_of}
+use Rattle.seg_core.specs.Message.{last_of}
 use Rattle.path_db.specs.Answer.{covers_entry}
 use Rattle.row_map.proofs.Exports.{last_seen}
 use Rattle.row_map.specs.Ends.{first_entry_of}

@@ -3,7 +3,7 @@ use Rattle.std.specs.Prelude.{ℕ, List, Bool, false, ◌==◌, ◌&&◌, take, 
 use Rattle.isd_as.specs.IsdAs.{covers_number}
 use Rattle.seg_core.specs.declared.seg_type.SegType.{SegType}
 use Rattle.seg_core.specs.SegmentView.{EntryView, SegmentView}
-use Rattle.seg_slots.specs.Message.{last_of}
+use Rattle.seg_core.specs.Message.{last_of}
 use Rattle.seg_core.specs.Registration.{type_number}
 use Rattle.row_map.specs.Database.{RowView}
 use Rattle.row_map.specs.Drops.{is_valid_beyond}
@@ -30,8 +30,8 @@ answer_of limit rows kind start end now = take limit (filter (is_shown kind star
 
 -- The first rows by key, of those above the key of the type and an id, that match and are valid, at
 -- most `limit` of them.
-abbrev pub answer_after : ℕ → List RowView → SegType → List ℕ → ℕ → ℕ → ℕ → List RowView
-answer_after limit rows kind id start end now = answer_of limit (filter (is_after kind id) rows) kind start end now
+abbrev pub answer_above : ℕ → List RowView → SegType → List ℕ → ℕ → ℕ → ℕ → List RowView
+answer_above limit rows kind id start end now = answer_of limit (filter (is_after kind id) rows) kind start end now
 
 -- The segments of rows.
 abbrev pub segments_of : List RowView → List SegmentView

@@ -6,7 +6,7 @@ ghost use Rattle.std.specs.Option.{option_map, option_to_list};
 ghost use Rattle.isd_as.specs.IsdAs.{isd_as_number};
 ghost use Rattle.seg_core.specs.Encoding.{IsSegment};
 ghost use Rattle.seg_core.specs.EntryView.{entry_view, entry_views};
-ghost use Rattle.seg_slots.specs.Message.{last_of};
+ghost use Rattle.seg_core.specs.Message.{last_of};
 ghost use Rattle.std.specs.Ordering.{nat_cmp};
 ghost use Rattle.std.specs.Cmp.Lexicographic.{slice_cmp};
 ghost use Rattle.row_map.specs.Database.{key, key_of};

@@ -13,7 +13,7 @@ ghost use Rattle.row_map.specs.declared.bucket_walk.BucketWalk.{BucketWalk};
 ghost use Rattle.row_map.specs.Buckets.{bucket_count};
 ghost use Rattle.row_map.specs.Purge.{HasPassed, AllOutlast, HasPassedBuckets};
 ghost use Rattle.row_map.specs.Row.{row_view, row_views};
-ghost use Rattle.path_db.specs.Answer.{answer_of, answer_after, segments_of};
+ghost use Rattle.path_db.specs.Answer.{answer_of, answer_above, segments_of};
 ghost use Rattle.row_map.specs.Ranges.{is_of_type};
 ghost use Rattle.path_db.specs.Wanted.{answer_to_wanted};
 ghost use Rattle.seg_core.specs.Encoding.{IsSegment};
@@ -487,8 +487,8 @@ impl PathDb {
         limit: usize,
     ) -> Result<Vec<Segment>, AllocError>
         ensures same { IfOk result (λ found.
-            found.items ≡ segments_of (answer_after limit self.now kind id.now (isd_as_number start) (isd_as_number end) now)) }
-        ensures memory { OnErr result (0 < length (answer_after limit self.now kind id.now (isd_as_number start) (isd_as_number end) now)) }
+            found.items ≡ segments_of (answer_above limit self.now kind id.now (isd_as_number start) (isd_as_number end) now)) }
+        ensures memory { OnErr result (0 < length (answer_above limit self.now kind id.now (isd_as_number start) (isd_as_number end) now)) }
         ensures few { IfOk result (λ found. length found.items ≤ limit) }
         ensures whole { IfOk result (λ found. AllByRecursion IsSegment found.items) }
     {

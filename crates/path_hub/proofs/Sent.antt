@@ -36,12 +36,12 @@ use Rattle.hub_claims.proofs.Sent.{slots_send}
 use Rattle.path_hub.specs.contracts.guarded.Locked as Locked
 use Rattle.path_hub.specs.contracts.handing.UnderWay as UnderWay
 use Rattle.rising_map.specs.contracts.map.RisingMap as RisingMap
-use Rattle.row_edits.specs.contracts.rewrite.Rewrite as Rewrite
+use Rattle.ckpt_stream.specs.contracts.rewrite.Rewrite as Rewrite
 use Rattle.ckpt_stream.specs.contracts.merge.Merge as Merge
 use Rattle.ghost_note.proofs.note.Note.TheSendSync as note
-use Rattle.row_edits.specs.contracts.plan.Plan as Plan
-use Rattle.row_edits.specs.contracts.planner.Planner as Planner
-use Rattle.row_edits.specs.contracts.settling.Settling as Settling
+use Rattle.ckpt_stream.specs.contracts.plan.Plan as Plan
+use Rattle.ckpt_stream.specs.contracts.planner.Planner as Planner
+use Rattle.ckpt_stream.specs.contracts.settling.Settling as Settling
 use Rattle.gate_journal.specs.contracts.scanner.Scan as Scan
 use Rattle.gate_journal.specs.contracts.scanner.Scanner as Scanner
 use Rattle.ckpt_pair.specs.contracts.reading.Front as Front

@@ -6,7 +6,7 @@ use Rattle.row_map.specs.Database.{RowView}
 use Rattle.path_records.specs.declared.error.DbError.{DbError}
 use Rattle.path_records.specs.declared.error.DbError.TheVariants.{BadRecord, Order}
 use Rattle.path_records.specs.RecordSteps.{◌>>=◌, demand}
-use Rattle.seg_slots.specs.Message.{last_of}
+use Rattle.seg_core.specs.Message.{last_of}
 use Rattle.path_records.specs.RowRecord.{rows_encoding, row_size, has_row, row_decoding, is_row_above, rows_within, rows_decoding}
 use Rattle.path_records.specs.RowCursor.{CursorView, HasGiven}
 use Rattle.path_records.proofs.RowPieces.{all_read, cut_off}

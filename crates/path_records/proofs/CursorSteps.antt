@@ -4,7 +4,7 @@ use Rattle.std.specs.Prelude.{Option}
 use Rattle.std.specs.Option.{option_map}
 use Rattle.byte_lists.specs.Content.{AreBytes}
 use Rattle.seg_core.specs.Encoding.{IsSegment}
-use Rattle.seg_slots.specs.Message.{last_of}
+use Rattle.seg_core.specs.Message.{last_of}
 use Rattle.path_records.specs.declared.error.DbError.{DbError}
 use Rattle.path_records.specs.declared.error.DbError.TheVariants.{Order}
 use Rattle.row_map.specs.Database.{RowView, key_of}

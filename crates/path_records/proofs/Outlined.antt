@@ -1,7 +1,7 @@
 -- Bytes that are read as at least one row begin with a row whose segment has an outline: for
 -- `read_rows`.
 use Rattle.std.proofs.Common.{◌≡◌, ◌<◌, length, arith, ℕ, Bool, true, false, List, [], ◌∷◌, Result, Ok, Err, IsOk, refl, sym, ap, subst}
-use Rattle.seg_slots.specs.declared.error.SegError.{SegError}
+use Rattle.seg_core.specs.declared.error.SegError.{SegError}
 use Rattle.path_records.specs.declared.error.DbError.{DbError}
 use Rattle.row_map.specs.Database.{RowView}
 use Rattle.path_records.specs.RecordSteps.{◌>>=◌, demand}

@@ -1,10 +1,10 @@
 -- Readings of records, step by step: for `row_records` and `command_records`.
 use Rattle.std.proofs.Common.{◌≡◌, ℕ, zero, suc, ◌<◌, List, [], ◌∷◌, ◌++◌, length, drop, subst, refl, sym, ap, ◌∙◌, append_assoc, append-nil, arith, Ok, Err}
 use Rattle.std.specs.Prelude.{Result, IsOk}
-use Rattle.seg_slots.specs.declared.error.SegError.{SegError}
+use Rattle.seg_core.specs.declared.error.SegError.{SegError}
 use Rattle.seg_core.specs.SegmentView.{SegmentView}
 use Rattle.seg_core.specs.Encoding.{IsSegment}
-use Rattle.seg_slots.specs.Steps.{◌>>=◌ as ◌>>>◌}
+use Rattle.seg_core.specs.Steps.{◌>>=◌ as ◌>>>◌}
 use Rattle.seg_core.specs.Segment.{segment_decoding, segment_outline}
 use Rattle.path_records.specs.declared.error.DbError.{DbError}
 use Rattle.path_records.specs.declared.error.DbError.TheVariants.{BadRecord}

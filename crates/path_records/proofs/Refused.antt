@@ -7,10 +7,10 @@ use Rattle.std.proofs.lemmas.List.{length-drop, length-append, drop_at}
 use Rattle.std.proofs.lemmas.List.Concat.{flat_map-cons}
 use Rattle.byte_lists.specs.Content.{AreBytes, part}
 use Rattle.byte_lists.specs.Numbers.{four_at}
-use Rattle.seg_slots.specs.declared.error.SegError.{SegError}
+use Rattle.seg_core.specs.declared.error.SegError.{SegError}
 use Rattle.seg_core.specs.Encoding.{IsSegment, segment_encoding}
 use Rattle.seg_core.specs.Equality.{same_bytes}
-use Rattle.seg_slots.specs.Message.{last_of}
+use Rattle.seg_core.specs.Message.{last_of}
 use Rattle.seg_core.specs.Registration.{type_of}
 use Rattle.seg_core.specs.Segment.{segment_decoding}
 use Rattle.path_records.specs.declared.error.DbError.{DbError}

@@ -8,7 +8,7 @@ use Rattle.std.proofs.lemmas.Grind.{flat_map-append}
 use Rattle.byte_lists.specs.Content.{AreBytes, part}
 use Rattle.byte_lists.specs.Numbers.{four_at}
 use Rattle.seg_core.specs.Encoding.{IsSegment}
-use Rattle.seg_slots.specs.Message.{last_of}
+use Rattle.seg_core.specs.Message.{last_of}
 use Rattle.seg_core.specs.Registration.{type_of}
 use Rattle.path_records.specs.declared.error.DbError.{DbError}
 use Rattle.path_records.specs.declared.error.DbError.TheVariants.{BadRecord, Order}

@@ -5,7 +5,7 @@ use Rattle.std.specs.List.{slice_get, AllByRecursion}
 use Rattle.std.specs.Option.{option_copied}
 use Rattle.std.specs.Ordering.{is_lt}
 use Rattle.std.specs.declared.cmp.Ordering.TheVariants.{Less}
-use Rattle.seg_slots.specs.Message.{last_of}
+use Rattle.seg_core.specs.Message.{last_of}
 use Rattle.row_map.specs.declared.row.Row.{Row}
 use Rattle.row_map.specs.Database.{RowView, key_order, IsDatabase}
 use Rattle.row_map.specs.Row.{row_view, row_views}

@@ -4,7 +4,7 @@ use Rattle.std.specs.Prelude.{Result, Option}
 use Rattle.std.specs.List.{slice_get}
 use Rattle.std.specs.Option.{option_copied, option_map, option_or}
 use Rattle.std.proofs.lemmas.List.{length-drop}
-use Rattle.seg_slots.specs.Message.{last_of}
+use Rattle.seg_core.specs.Message.{last_of}
 use Rattle.path_records.specs.declared.error.DbError.{DbError}
 use Rattle.path_records.specs.declared.error.DbError.TheVariants.{Order}
 use Rattle.row_map.specs.declared.row.Row.{Row}

@@ -12,7 +12,7 @@ use Rattle.byte_lists.specs.Content.{AreBytes, part}
 use Rattle.byte_lists.specs.Numbers.{four_at, eight_at}
 use Rattle.byte_lists.proofs.Contents.{length-part, bytes-part}
 use Rattle.byte_lists.proofs.BigEndian.{encoded-four_at, encoded-eight_at}
-use Rattle.seg_slots.specs.declared.error.SegError.{SegError}
+use Rattle.seg_core.specs.declared.error.SegError.{SegError}
 use Rattle.seg_core.specs.declared.seg_type.SegType.{SegType}
 use Rattle.seg_core.specs.declared.seg_type.SegType.TheVariants.{Up, Down, Core}
 use Rattle.seg_core.specs.SegmentView.{SegmentView}

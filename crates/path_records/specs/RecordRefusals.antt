@@ -2,7 +2,7 @@
 use Rattle.std.specs.Prelude.{◌≡◌, ◌≢◌, ◌↔◌, ℕ, ◌<◌, List, ◌++◌, length, Bool, false, Err}
 use Rattle.byte_lists.specs.Content.{AreBytes}
 use Rattle.seg_core.specs.Encoding.{IsSegment}
-use Rattle.seg_slots.specs.Message.{last_of}
+use Rattle.seg_core.specs.Message.{last_of}
 use Rattle.path_db.specs.declared.command.Command.{Command}
 use Rattle.path_records.specs.declared.error.DbError.{DbError}
 use Rattle.path_records.specs.declared.error.DbError.TheVariants.{NoMemory, BadRecord, Order}

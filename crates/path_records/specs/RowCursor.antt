@@ -7,7 +7,7 @@ use Rattle.std.specs.Cmp.Lexicographic.{slice_cmp}
 use Rattle.byte_lists.specs.Content.{AreBytes}
 use Rattle.byte_lists.specs.Numbers.{four_at}
 use Rattle.seg_core.specs.Encoding.{IsSegment}
-use Rattle.seg_slots.specs.Message.{last_of}
+use Rattle.seg_core.specs.Message.{last_of}
 use Rattle.row_map.specs.Database.{RowView, key_of, IsDatabase}
 use Rattle.path_records.specs.declared.error.DbError.{DbError}
 use Rattle.path_records.specs.declared.error.DbError.TheVariants.{BadRecord, Order}

@@ -5,7 +5,7 @@ use Rattle.std.specs.Int.{w32, to_be_bytes}
 use Rattle.std.specs.Ordering.{is_lt}
 use Rattle.byte_lists.specs.Content.{part}
 use Rattle.byte_lists.specs.Numbers.{four_at}
-use Rattle.seg_slots.specs.declared.error.SegError.{SegError}
+use Rattle.seg_core.specs.declared.error.SegError.{SegError}
 use Rattle.seg_core.specs.SegmentView.{SegmentView}
 use Rattle.seg_core.specs.Equality.{same_bytes}
 use Rattle.seg_core.specs.Registration.{type_number, type_of}

@@ -9,7 +9,7 @@ ghost use Rattle.path_records.specs.RecordSteps.{GivesRecord, ReadsRecord};
 ghost use Rattle.row_map.specs.Database.{IsDatabase, AreWhole};
 ghost use Rattle.row_map.specs.Row.{row_view, row_views};
 ghost use Rattle.path_records.specs.RowRecord.{row_record, rows_encoding, row_size, has_row, record_of, row_decoding, spelled_segment, HasOutline, is_row_above, rows_decoding};
-ghost use Rattle.seg_slots.specs.Message.{last_of};
+ghost use Rattle.seg_core.specs.Message.{last_of};
 
 use crate::error::DbError;
 use byte_lists::read_u32;

@@ -1,7 +1,7 @@
 -- Each acknowledgement of a session is of the command that its claim names.
 use Rattle.std.proofs.Common.{◌≡◌, inl, inr, ℕ, Bool, List, [], ◌∷◌, ◌++◌, Option, Some, None, Result, Ok, Err, refl, sym, ap, ◌∙◌, subst}
 use Rattle.std.proofs.lemmas.List.{append-nil, append_assoc}
-use Rattle.seg_slots.specs.declared.error.SegError.{SegError}
+use Rattle.seg_core.specs.declared.error.SegError.{SegError}
 use Rattle.seg_core.specs.declared.seg_type.SegType.{SegType}
 use Rattle.seg_core.specs.Registration.{registration_decoding, type_of}
 use Rattle.seg_core.specs.Request.{request_decoding}

@@ -1,8 +1,8 @@
 -- From what is known of a message that was taken, and what the hub answers to its command, to what
 -- the message is answered: for `settle`.
 use Rattle.std.proofs.Common.{◌≡◌, ◌≢◌, ◌⊎◌, ℕ, Bool, List, Option, Some, None, Result, Ok, Err, inl, inr, refl, sym, ap, subst}
-use Rattle.seg_slots.specs.declared.error.SegError.{SegError}
-use Rattle.seg_slots.specs.declared.error.SegError.TheVariants as seg
+use Rattle.seg_core.specs.declared.error.SegError.{SegError}
+use Rattle.seg_core.specs.declared.error.SegError.TheVariants as seg
 use Rattle.seg_core.specs.declared.seg_type.SegType.{SegType}
 use Rattle.seg_core.specs.Registration.{registration_decoding, type_of}
 use Rattle.seg_check.specs.declared.error.CheckError.{CheckError}

@@ -1,7 +1,7 @@
 -- What a service over a hub answers to a message, and what the service is then.
 use Rattle.std.specs.Prelude.{◌≡◌, ℕ, ◌+◌, ◌<◌, ◌≤◌, ◌⊎◌, Bool, true, List, [], ◌∷◌, ◌++◌, length, Option, Some, None, Result, Ok, Err, IsOk}
 use mathlib.Core.List.{IsPrefix}
-use Rattle.seg_slots.specs.declared.error.SegError.{SegError}
+use Rattle.seg_core.specs.declared.error.SegError.{SegError}
 use Rattle.seg_core.specs.declared.seg_type.SegType.{SegType}
 use Rattle.seg_core.specs.Request.{request_decoding}
 use Rattle.seg_core.specs.Registration.{registration_outline, registration_decoding, type_of}

@@ -1,6 +1,6 @@
 -- What a service over a hub knows of a message that it has taken and not answered.
 use Rattle.std.specs.Prelude.{◌≡◌, ◌≢◌, ℕ, Bool, true, List, Option, Some, None, Result, Ok, Err, IsOk}
-use Rattle.seg_slots.specs.declared.error.SegError.TheVariants as seg
+use Rattle.seg_core.specs.declared.error.SegError.TheVariants as seg
 use Rattle.seg_core.specs.declared.seg_type.SegType.{SegType}
 use Rattle.seg_core.specs.Registration.{registration_outline, registration_decoding, type_of}
 use Rattle.seg_check.specs.Signatures.{Verdicts}

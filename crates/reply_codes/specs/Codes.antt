@@ -2,8 +2,8 @@
 use Rattle.std.specs.Prelude.{ℕ}
 use Rattle.pw_wire.specs.declared.error.WireError.{WireError}
 use Rattle.pw_wire.specs.declared.error.WireError.TheVariants.{Truncated, LongVarint, BadField, GroupWire, BadWire}
-use Rattle.seg_slots.specs.declared.error.SegError.{SegError}
-use Rattle.seg_slots.specs.declared.error.SegError.TheVariants.{NoMemory, Wire, KindOfField, RepeatedMessage, MissingField, Range, Chain, Loop, Entries, BadType, TooLarge}
+use Rattle.seg_core.specs.declared.error.SegError.{SegError}
+use Rattle.seg_core.specs.declared.error.SegError.TheVariants.{NoMemory, Wire, KindOfField, RepeatedMessage, MissingField, Range, Chain, Loop, Entries, BadType, TooLarge}
 use Rattle.seg_check.specs.declared.error.CheckError.{CheckError}
 use Rattle.seg_check.specs.declared.error.CheckError.TheVariants.{BadSignature, Expired}
 use Rattle.seg_lookup.specs.declared.error.LookupError.{LookupError}

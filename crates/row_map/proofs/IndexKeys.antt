@@ -14,7 +14,7 @@ use Rattle.seg_core.specs.declared.entry.Entry.{Entry}
 use Rattle.seg_core.specs.EntryView.{entry_view, entry_views}
 use Rattle.seg_core.specs.Digest.{segment_digest}
 use Rattle.seg_core.specs.Registration.{type_number}
-use Rattle.seg_slots.specs.Message.{last_of}
+use Rattle.seg_core.specs.Message.{last_of}
 use Rattle.std.proofs.lemmas.Cmp.{nat_cmp_total, nat_list_cmp_total, tied_itself}
 use Rattle.std.proofs.lemmas.List.{map-append}
 use Rattle.std.proofs.lemmas.List.Folds.{list_any-append}

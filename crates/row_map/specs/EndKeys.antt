@@ -3,7 +3,7 @@ use Rattle.std.specs.Prelude.{◌≡◌, ◌⊎◌, ℕ, ◌+◌, ◌*◌, ◌/�
 use Rattle.std.specs.List.{AllByRecursion}
 use Rattle.std.specs.Option.{option_map, IsSome}
 use Rattle.seg_core.specs.SegmentView.{EntryView}
-use Rattle.seg_slots.specs.Message.{last_of}
+use Rattle.seg_core.specs.Message.{last_of}
 use Rattle.row_map.specs.IndexKey.{IndexKey, is_same, has, AreKnown}
 use Rattle.row_map.specs.declared.end.End.{End}
 use Rattle.row_map.specs.declared.end.End.TheVariants.{First, Last}

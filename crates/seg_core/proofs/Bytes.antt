@@ -9,11 +9,11 @@ use Rattle.pw_wire.specs.Varint.{EncodesNumber, varint_encoding}
 use Rattle.pw_wire.specs.Field.{FieldValue, Varint, Fixed64, Bytes, Fixed32, FieldView, IsValue, bytes_field_encoding}
 use Rattle.pw_wire.specs.Fields.{AreFields, fields, fault}
 use Rattle.pw_wire.proofs.Exports.{whole, varint_encoding_is}
-use Rattle.seg_slots.specs.declared.error.SegError.{SegError}
-use Rattle.seg_slots.specs.declared.error.SegError.TheVariants as error
-use Rattle.seg_slots.specs.declared.shape.FieldKind.{FieldKind}
-use Rattle.seg_slots.specs.Steps.{◌>>=◌, unless_refused}
-use Rattle.seg_slots.specs.Message.{message_fields, misfit_after, varint_in, bytes_of_value, number_fields, number_field, bytes_fields, last_bytes_field, bytes_field_or_empty, last_of}
+use Rattle.seg_core.specs.declared.error.SegError.{SegError}
+use Rattle.seg_core.specs.declared.error.SegError.TheVariants as error
+use Rattle.seg_core.specs.declared.field_kind.FieldKind.{FieldKind}
+use Rattle.seg_core.specs.Steps.{◌>>=◌, unless_refused}
+use Rattle.seg_core.specs.Message.{message_fields, misfit_after, varint_in, bytes_of_value, number_fields, number_field, bytes_fields, last_bytes_field, bytes_field_or_empty, last_of}
 
 -- ---- lists of bytes
 

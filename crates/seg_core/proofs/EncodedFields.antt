@@ -3,9 +3,9 @@ use Rattle.std.proofs.Common.{◌≡◌, ℕ, ◌+◌, ◌≤◌, ◌<◌, ◌^�
 use Rattle.std.proofs.lemmas.List.Concat.{flat_map-cons}
 use Rattle.pw_wire.specs.Field.{FieldView, bytes_field, bytes_field_encoding}
 use Rattle.pw_wire.specs.Fields.{fields, fault}
-use Rattle.seg_slots.specs.declared.shape.FieldKind.{FieldKind}
+use Rattle.seg_core.specs.declared.field_kind.FieldKind.{FieldKind}
 use Rattle.seg_core.specs.Shapes.{path_segment_shape, as_entry_shape, signed_message_shape}
-use Rattle.seg_slots.specs.Message.{message_fields, misfit_after, last_bytes_field, bytes_fields, bytes_field_or_empty}
+use Rattle.seg_core.specs.Message.{message_fields, misfit_after, last_bytes_field, bytes_fields, bytes_field_or_empty}
 use Rattle.seg_core.specs.SegmentView.{EntryView, SegmentView}
 use Rattle.seg_core.specs.Encoding.{bytes_encoding, optional_encoding, signed_encoding, as_entry_encoding, entries_encoding, segment_encoding}
 use Rattle.pw_wire.proofs.Exports.{fields-nil, fault-nil, fields-bytes_field, fault-bytes_field}

@@ -1,3 +1,6 @@
+pub mod Noting
+pub mod Misfits
+pub mod FirstMisfit
 pub mod Whole
 pub mod Bytes
 pub mod Readings

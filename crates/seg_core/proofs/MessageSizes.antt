@@ -9,7 +9,7 @@ use Rattle.pw_wire.specs.Varint.{EncodesNumber}
 use Rattle.pw_wire.specs.Field.{FieldValue, Varint, Fixed64, Bytes, Fixed32, FieldView, IsValue, bytes_field_encoding}
 use Rattle.pw_wire.specs.Fields.{AreFields, fields}
 use Rattle.pw_wire.proofs.Exports.{varint_encoding_shortest}
-use Rattle.seg_slots.specs.Message.{bytes_of_value, bytes_fields}
+use Rattle.seg_core.specs.Message.{bytes_of_value, bytes_fields}
 use Rattle.seg_core.proofs.EncodedLengths.{field-length}
 use Rattle.seg_core.proofs.Sizes.{encoded_len, HasRoom}
 

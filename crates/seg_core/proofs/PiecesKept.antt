@@ -9,11 +9,10 @@ use Rattle.std.proofs.lemmas.List.Elements.{All-head, All-tail, All-weaker, All-
 use Rattle.std.proofs.lemmas.List.Sums.{sum_by-cons}
 use Rattle.pw_wire.specs.Field.{bytes_field_encoding}
 use Rattle.seg_core.specs.declared.entry.MarkedEntry.{MarkedEntry}
-use Rattle.seg_slots.specs.declared.error.SegError.{SegError}
+use Rattle.seg_core.specs.declared.error.SegError.{SegError}
 use Rattle.seg_core.specs.declared.pieces.Span.{Span}
 use Rattle.seg_core.specs.declared.pieces.Spans.{Spans}
-use Rattle.seg_slots.specs.Steps.{◌>>=◌}
-use Rattle.seg_core.specs.Steps.{each}
+use Rattle.seg_core.specs.Steps.{◌>>=◌, each}
 use Rattle.seg_core.specs.SegmentView.{EntryView}
 use Rattle.seg_core.specs.Pieces.{piece_at, pieces_at, IsSpanWithin, AreWithin}
 use Rattle.seg_core.specs.Entry.{as_entry_decoding}

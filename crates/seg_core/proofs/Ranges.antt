@@ -4,13 +4,13 @@ use Rattle.std.specs.Prelude.{Bool, false, ◌==◌, ◌||◌, not, All}
 use Rattle.std.specs.List.{AllByRecursion}
 use Rattle.std.proofs.lemmas.List.Elements.{All-nil, All-cons}
 use Rattle.isd_as.specs.IsdAs.{has_zero_part}
-use Rattle.seg_slots.specs.declared.error.SegError.TheVariants.{Range}
+use Rattle.seg_core.specs.declared.error.SegError.TheVariants.{Range}
 use Rattle.seg_core.specs.declared.body.Body.{Body}
 use Rattle.seg_core.specs.declared.hop.Hop.{Hop}
 use Rattle.seg_core.specs.declared.info.Info.{Info}
 use Rattle.seg_core.specs.Shapes.{hop_field_shape, hop_entry_shape, body_shape, header_and_body_shape, segment_information_shape}
 use Rattle.seg_core.specs.Steps.{each}
-use Rattle.seg_slots.specs.Message.{number_field, bytes_field_or_empty, bytes_fields}
+use Rattle.seg_core.specs.Message.{number_field, bytes_field_or_empty, bytes_fields}
 use Rattle.pw_wire.specs.Decoding.{IsBytes}
 use Rattle.pw_wire.specs.Fields.{fields}
 use Rattle.seg_core.specs.SegmentView.{EntryView, SegmentView}

@@ -5,12 +5,11 @@ use Rattle.std.specs.Option.{option_map}
 use Rattle.std.proofs.lemmas.Bool.{leb-true}
 use Rattle.pw_wire.specs.Field.{FieldView}
 use Rattle.pw_wire.specs.Fields.{fields, fault}
-use Rattle.seg_slots.specs.declared.error.SegError.{SegError}
-use Rattle.seg_slots.specs.declared.error.SegError.TheVariants as error
-use Rattle.seg_slots.specs.declared.shape.FieldKind.{FieldKind}
-use Rattle.seg_slots.specs.Steps.{◌>>=◌, unless_refused}
-use Rattle.seg_core.specs.Steps.{must_hold, at_most, GivesSegment}
-use Rattle.seg_slots.specs.Message.{message_fields, misfit_after, required_message, last_bytes_field}
+use Rattle.seg_core.specs.declared.error.SegError.{SegError}
+use Rattle.seg_core.specs.declared.error.SegError.TheVariants as error
+use Rattle.seg_core.specs.declared.field_kind.FieldKind.{FieldKind}
+use Rattle.seg_core.specs.Steps.{◌>>=◌, unless_refused, must_hold, at_most, GivesSegment}
+use Rattle.seg_core.specs.Message.{message_fields, misfit_after, required_message, last_bytes_field}
 
 -- the value of a step that did not fail
 pub step_ok : {A B : Type 0} (r : Result A SegError) (f : A → Result B SegError) (y : B) → (r >>= f) ≡ Ok y → (x : A) × (r ≡ Ok x) × (f x ≡ Ok y)

@@ -8,12 +8,11 @@ use Rattle.std.specs.Option.{option_map, option_or}
 use Rattle.pw_wire.specs.declared.error.WireError.{WireError}
 use Rattle.pw_wire.specs.Field.{FieldView}
 use Rattle.pw_wire.specs.Fields.{fields, fault}
-use Rattle.seg_slots.specs.declared.error.SegError.{SegError}
-use Rattle.seg_slots.specs.declared.error.SegError.TheVariants.{NoMemory, Wire, KindOfField, RepeatedMessage, MissingField, Range, Chain, Loop, Entries, BadType, TooLarge}
-use Rattle.seg_slots.specs.declared.shape.FieldKind.{FieldKind}
-use Rattle.seg_slots.specs.Steps.{◌>>=◌, unless_refused}
-use Rattle.seg_core.specs.Steps.{must_hold, at_most, each, result_map}
-use Rattle.seg_slots.specs.Message.{message_fields, field_kind, suits, is_single, misfit_at, misfit_after, required_message, last_bytes_field}
+use Rattle.seg_core.specs.declared.error.SegError.{SegError}
+use Rattle.seg_core.specs.declared.error.SegError.TheVariants.{NoMemory, Wire, KindOfField, RepeatedMessage, MissingField, Range, Chain, Loop, Entries, BadType, TooLarge}
+use Rattle.seg_core.specs.declared.field_kind.FieldKind.{FieldKind}
+use Rattle.seg_core.specs.Steps.{◌>>=◌, unless_refused, must_hold, at_most, each, result_map}
+use Rattle.seg_core.specs.Message.{message_fields, field_kind, suits, is_single, misfit_at, misfit_after, required_message, last_bytes_field}
 use Rattle.seg_core.specs.Segment.{info_decoding, segment_outline, segment_decoding}
 use Rattle.seg_core.specs.Registration.{type_of, MapEntry, entry_rows, segments_decoding, new_type, map_entry_decoding, map_decoding, registration_outline, registration_decoding}
 use Rattle.seg_core.specs.Request.{request_decoding}

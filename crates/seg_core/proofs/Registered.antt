@@ -7,12 +7,12 @@ use Rattle.std.proofs.lemmas.List.Sums.{sum_by-append, sum_by-cons}
 use Rattle.pw_wire.specs.Decoding.{IsBytes}
 use Rattle.pw_wire.specs.Field.{bytes_field_encoding}
 use Rattle.pw_wire.specs.Fields.{fields}
-use Rattle.seg_slots.specs.declared.error.SegError.{SegError}
-use Rattle.seg_slots.specs.declared.error.SegError.TheVariants.{TooLarge}
+use Rattle.seg_core.specs.declared.error.SegError.{SegError}
+use Rattle.seg_core.specs.declared.error.SegError.TheVariants.{TooLarge}
 use Rattle.seg_core.specs.declared.seg_type.SegType.{SegType}
 use Rattle.seg_core.specs.Shapes.{map_shape, map_entry_shape, segments_shape}
 use Rattle.seg_core.specs.Steps.{result_map}
-use Rattle.seg_slots.specs.Message.{number_field, bytes_fields, last_bytes_field, bytes_field_or_empty}
+use Rattle.seg_core.specs.Message.{number_field, bytes_fields, last_bytes_field, bytes_field_or_empty}
 use Rattle.seg_core.specs.SegmentView.{SegmentView}
 use Rattle.seg_core.specs.Segment.{segment_decoding}
 use Rattle.seg_core.specs.Registration.{MapEntry, typed_segments, entry_rows, new_type, segments_decoding, map_entry_decoding, map_decoding, registration_outline, registration_decoding}

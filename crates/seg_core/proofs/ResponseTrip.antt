@@ -8,11 +8,11 @@ use Rattle.std.proofs.lemmas.List.Concat.{flat_map-cons}
 use Rattle.std.proofs.lemmas.List.Folds.{flat_map-map}
 use Rattle.pw_wire.specs.Field.{FieldView, varint_field, bytes_field, bytes_field_encoding}
 use Rattle.pw_wire.proofs.Exports.{fields-varint_field, fault-varint_field}
-use Rattle.seg_slots.specs.declared.error.SegError.TheVariants.{TooLarge}
+use Rattle.seg_core.specs.declared.error.SegError.TheVariants.{TooLarge}
 use Rattle.seg_core.specs.declared.seg_type.SegType.{SegType}
 use Rattle.seg_core.specs.declared.seg_type.SegType.TheVariants.{Up, Down, Core}
 use Rattle.seg_core.specs.Shapes.{map_shape, map_entry_shape, segments_shape}
-use Rattle.seg_slots.specs.Message.{misfit_after, bytes_fields}
+use Rattle.seg_core.specs.Message.{misfit_after, bytes_fields}
 use Rattle.seg_core.specs.SegmentView.{SegmentView}
 use Rattle.seg_core.specs.Steps.{result_map}
 use Rattle.seg_core.specs.Registration.{type_number, typed_segments, MapEntry, entry_rows, has_type, new_type, segments_decoding, map_entry_decoding, map_decoding, registration_outline, registration_decoding}

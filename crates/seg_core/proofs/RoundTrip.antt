@@ -8,12 +8,11 @@ use Rattle.std.proofs.lemmas.List.Concat.{flat_map-cons}
 use Rattle.std.proofs.lemmas.List.{length-map}
 use Rattle.pw_wire.specs.Decoding.{IsBytes}
 use Rattle.pw_wire.specs.Field.{bytes_field, bytes_field_encoding}
-use Rattle.seg_slots.specs.declared.error.SegError.{SegError}
-use Rattle.seg_slots.specs.declared.error.SegError.TheVariants.{Chain, Loop, Entries, MissingField, TooLarge}
+use Rattle.seg_core.specs.declared.error.SegError.{SegError}
+use Rattle.seg_core.specs.declared.error.SegError.TheVariants.{Chain, Loop, Entries, MissingField, TooLarge}
 use Rattle.seg_core.specs.Shapes.{path_segment_shape, as_entry_shape, signed_message_shape}
-use Rattle.seg_slots.specs.Steps.{◌>>=◌}
-use Rattle.seg_core.specs.Steps.{must_hold, each}
-use Rattle.seg_slots.specs.Message.{required_message, bytes_fields}
+use Rattle.seg_core.specs.Steps.{◌>>=◌, must_hold, each}
+use Rattle.seg_core.specs.Message.{required_message, bytes_fields}
 use Rattle.seg_core.specs.SegmentView.{EntryView, SegmentView}
 use Rattle.seg_core.specs.Entry.{header_and_body_decoding, as_entry_decoding}
 use Rattle.seg_core.specs.WellFormed.{is_entry_count, is_chain, has_no_loop}

@@ -2,13 +2,12 @@
 -- and for reading a response back as its rows.
 use Rattle.std.proofs.Common.{◌≡◌, ◌≢◌, ℕ, List, [], ◌∷◌, ◌++◌, Result, Ok, Err, refl, sym, ap, subst, ◌∙◌, append-nil}
 use Rattle.std.proofs.lemmas.Grind.{flat_map-append}
-use Rattle.seg_slots.specs.declared.error.SegError.{SegError}
-use Rattle.seg_slots.specs.declared.error.SegError.TheVariants.{NoMemory}
+use Rattle.seg_core.specs.declared.error.SegError.{SegError}
+use Rattle.seg_core.specs.declared.error.SegError.TheVariants.{NoMemory}
 use Rattle.seg_core.specs.declared.earlier.Earlier.{Earlier}
 use Rattle.seg_core.specs.declared.seg_type.SegType.{SegType}
 use Rattle.seg_core.specs.SegmentView.{SegmentView}
-use Rattle.seg_slots.specs.Steps.{◌>>=◌}
-use Rattle.seg_core.specs.Steps.{result_map}
+use Rattle.seg_core.specs.Steps.{◌>>=◌, result_map}
 use Rattle.seg_core.specs.Registration.{typed_segments, MapEntry, entry_rows, map_entry_decoding, map_decoding}
 use Rattle.seg_core.specs.Earlier.{with_type, AreIn}
 use Rattle.seg_core.proofs.Types.{AreIn-with}

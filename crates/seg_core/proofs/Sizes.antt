@@ -7,7 +7,7 @@ use Rattle.std.specs.Option.{option_or}
 use Rattle.std.proofs.lemmas.List.Sums.{sum_by-cons}
 use Rattle.pw_wire.specs.Field.{bytes_field_encoding}
 use Rattle.pw_wire.specs.Fields.{fields}
-use Rattle.seg_slots.specs.Message.{last_of, last_bytes_field, bytes_fields, bytes_field_or_empty}
+use Rattle.seg_core.specs.Message.{last_of, last_bytes_field, bytes_fields, bytes_field_or_empty}
 use Rattle.seg_core.specs.Encoding.{bytes_encoding, optional_encoding}
 use Rattle.pw_wire.proofs.Exports.{varint_encoding-mono}
 

@@ -9,9 +9,8 @@ use Rattle.seg_core.specs.declared.seg_type.SegType.{SegType}
 use Rattle.seg_core.specs.declared.seg_type.SegType.TheVariants.{Up, Down, Core}
 use Rattle.seg_core.specs.SegmentView.{SegmentView}
 use Rattle.seg_core.specs.Registration.{type_number, type_of, MapEntry, has_type, new_type}
-use Rattle.seg_slots.specs.declared.error.SegError.TheVariants.{RepeatedMessage}
-use Rattle.seg_slots.specs.Steps.{◌>>=◌}
-use Rattle.seg_core.specs.Steps.{must_hold}
+use Rattle.seg_core.specs.declared.error.SegError.TheVariants.{RepeatedMessage}
+use Rattle.seg_core.specs.Steps.{◌>>=◌, must_hold}
 use Rattle.seg_core.specs.Earlier.{is_in, with_type, AreIn}
 
 -- ---- numbers

@@ -8,11 +8,10 @@ use Rattle.std.proofs.lemmas.List.Sums.{sum_by-cons}
 use Rattle.pw_wire.specs.Decoding.{IsBytes}
 use Rattle.pw_wire.specs.Field.{bytes_field_encoding}
 use Rattle.pw_wire.specs.Fields.{fields}
-use Rattle.seg_slots.specs.declared.error.SegError.TheVariants.{Chain, Loop, Entries, TooLarge}
+use Rattle.seg_core.specs.declared.error.SegError.TheVariants.{Chain, Loop, Entries, TooLarge}
 use Rattle.seg_core.specs.Shapes.{path_segment_shape, as_entry_shape, signed_message_shape}
-use Rattle.seg_slots.specs.Steps.{◌>>=◌}
-use Rattle.seg_core.specs.Steps.{each}
-use Rattle.seg_slots.specs.Message.{last_bytes_field, bytes_fields, bytes_field_or_empty}
+use Rattle.seg_core.specs.Steps.{◌>>=◌, each}
+use Rattle.seg_core.specs.Message.{last_bytes_field, bytes_fields, bytes_field_or_empty}
 use Rattle.seg_core.specs.SegmentView.{EntryView, SegmentView}
 use Rattle.seg_core.specs.EntryView.{entry_of}
 use Rattle.seg_core.specs.Entry.{header_and_body_decoding, as_entry_decoding}

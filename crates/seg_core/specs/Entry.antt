@@ -1,14 +1,13 @@
 -- Reading the entry of one AS, beginning with its hop field.
 use Rattle.std.specs.Prelude.{ℕ, List, ◌==◌, not, length, Result, Ok, ◌^◌, ◌-◌}
 use Rattle.isd_as.specs.IsdAs.{has_zero_part}
-use Rattle.seg_slots.specs.declared.error.SegError.{SegError}
-use Rattle.seg_slots.specs.declared.error.SegError.TheVariants.{Range}
+use Rattle.seg_core.specs.declared.error.SegError.{SegError}
+use Rattle.seg_core.specs.declared.error.SegError.TheVariants.{Range}
 use Rattle.seg_core.specs.declared.hop.Hop.{Hop}
 use Rattle.seg_core.specs.declared.body.Body.{Body}
 use Rattle.seg_core.specs.Shapes.{hop_field_shape, hop_entry_shape, peer_entry_shape, body_shape, header_and_body_shape, signed_message_shape, as_entry_shape}
-use Rattle.seg_slots.specs.Steps.{◌>>=◌}
-use Rattle.seg_core.specs.Steps.{must_hold, at_most, each}
-use Rattle.seg_slots.specs.Message.{message_fields, required_message, number_field, last_bytes_field, bytes_fields, bytes_field_or_empty}
+use Rattle.seg_core.specs.Steps.{◌>>=◌, must_hold, at_most, each}
+use Rattle.seg_core.specs.Message.{message_fields, required_message, number_field, last_bytes_field, bytes_fields, bytes_field_or_empty}
 use Rattle.seg_core.specs.SegmentView.{EntryView}
 
 -- A hop field: where a segment enters and leaves an AS, and how long the hop field is valid.

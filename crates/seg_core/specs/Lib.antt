@@ -1,4 +1,6 @@
 pub mod Steps
+pub mod Message
+pub mod Slots
 pub mod Shapes
 pub mod SegmentView
 pub mod Pieces

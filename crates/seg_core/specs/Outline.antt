@@ -1,7 +1,7 @@
 -- The outline of a segment as contracts see it.
 use Rattle.pw_wire.specs.Fields.{fields}
 use Rattle.seg_core.specs.declared.outline.Outline.{Outline}
-use Rattle.seg_slots.specs.Message.{bytes_fields}
+use Rattle.seg_core.specs.Message.{bytes_fields}
 use Rattle.seg_core.specs.Segment.{SegmentOutline}
 
 -- A segment up to its entries, without its location in memory.

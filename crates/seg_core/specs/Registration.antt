@@ -1,15 +1,14 @@
 -- Reading a registration: a map from types to segments.
 use Rattle.std.specs.Prelude.{ℕ, zero, suc, List, [], ◌∷◌, ◌++◌, length, map, Bool, nat_le, nat_lt, ◌+◌, ◌==◌, not, Result, Ok, Err}
 use Rattle.std.specs.List.{list_any, flat_map}
-use Rattle.seg_slots.specs.declared.error.SegError.{SegError}
-use Rattle.seg_slots.specs.declared.error.SegError.TheVariants.{RepeatedMessage, BadType, TooLarge}
+use Rattle.seg_core.specs.declared.error.SegError.{SegError}
+use Rattle.seg_core.specs.declared.error.SegError.TheVariants.{RepeatedMessage, BadType, TooLarge}
 use Rattle.seg_core.specs.declared.format.TheConstants.{MOST_REGISTERED_BYTES, MOST_REGISTERED}
 use Rattle.seg_core.specs.declared.seg_type.SegType.{SegType}
 use Rattle.seg_core.specs.declared.seg_type.SegType.TheVariants.{Up, Down, Core}
 use Rattle.seg_core.specs.Shapes.{map_shape, map_entry_shape, segments_shape}
-use Rattle.seg_slots.specs.Steps.{◌>>=◌}
-use Rattle.seg_core.specs.Steps.{must_hold, result_map}
-use Rattle.seg_slots.specs.Message.{message_fields, number_field, bytes_fields, bytes_field_or_empty}
+use Rattle.seg_core.specs.Steps.{◌>>=◌, must_hold, result_map}
+use Rattle.seg_core.specs.Message.{message_fields, number_field, bytes_fields, bytes_field_or_empty}
 use Rattle.seg_core.specs.SegmentView.{SegmentView}
 use Rattle.seg_core.specs.Segment.{segment_decoding}
 

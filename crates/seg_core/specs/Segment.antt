@@ -1,13 +1,12 @@
 -- Reading a path segment.
 use Rattle.std.specs.Prelude.{ℕ, List, length, nat_le, ◌^◌, ◌-◌, Result, Ok}
-use Rattle.seg_slots.specs.declared.error.SegError.{SegError}
-use Rattle.seg_slots.specs.declared.error.SegError.TheVariants.{Chain, Loop, Entries, TooLarge}
+use Rattle.seg_core.specs.declared.error.SegError.{SegError}
+use Rattle.seg_core.specs.declared.error.SegError.TheVariants.{Chain, Loop, Entries, TooLarge}
 use Rattle.seg_core.specs.declared.info.Info.{Info}
 use Rattle.seg_core.specs.declared.format.TheConstants.{MOST_SEGMENT_BYTES}
 use Rattle.seg_core.specs.Shapes.{path_segment_shape, segment_information_shape}
-use Rattle.seg_slots.specs.Steps.{◌>>=◌}
-use Rattle.seg_core.specs.Steps.{must_hold, at_most, each}
-use Rattle.seg_slots.specs.Message.{message_fields, number_field, bytes_fields, bytes_field_or_empty}
+use Rattle.seg_core.specs.Steps.{◌>>=◌, must_hold, at_most, each}
+use Rattle.seg_core.specs.Message.{message_fields, number_field, bytes_fields, bytes_field_or_empty}
 use Rattle.seg_core.specs.SegmentView.{SegmentView}
 use Rattle.seg_core.specs.Entry.{as_entry_decoding}
 use Rattle.seg_core.specs.WellFormed.{is_entry_count, is_chain, has_no_loop}

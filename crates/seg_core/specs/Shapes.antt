@@ -1,8 +1,8 @@
 -- The shapes of the messages: the kind of the value under each of their field numbers. A shape is a
 -- list by field numbers from 0 on; no field has the number 0.
 use Rattle.std.specs.Prelude.{List, [], ◌∷◌}
-use Rattle.seg_slots.specs.declared.shape.FieldKind.{FieldKind}
-use Rattle.seg_slots.specs.declared.shape.FieldKind.TheVariants.{Unknown, Number, Bytes, Message, Messages}
+use Rattle.seg_core.specs.declared.field_kind.FieldKind.{FieldKind}
+use Rattle.seg_core.specs.declared.field_kind.FieldKind.TheVariants.{Unknown, Number, Bytes, Message, Messages}
 
 -- The shape of a request: source and destination.
 abbrev pub request_shape : List FieldKind

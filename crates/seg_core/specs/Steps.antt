@@ -1,8 +1,23 @@
--- The steps of a reading of segments: tests, limits and lists. The first refusal is the result.
-use Rattle.std.specs.Prelude.{◌≡◌, ◌≢◌, ℕ, List, [], ◌∷◌, Bool, nat_le, Result, Ok, Err, if◌then◌else◌}
-use Rattle.seg_slots.specs.declared.error.SegError.{SegError}
-use Rattle.seg_slots.specs.declared.error.SegError.TheVariants.{NoMemory, Range}
-use Rattle.seg_slots.specs.Steps.{◌>>=◌}
+-- A reading gives a value, or the first refusal: its steps, tests, limits and lists.
+use Rattle.std.specs.Prelude.{◌≡◌, ◌≢◌, ℕ, List, [], ◌∷◌, Bool, nat_le, Option, Some, None, Result, Ok, Err, if◌then◌else◌}
+use Rattle.seg_core.specs.declared.error.SegError.{SegError}
+use Rattle.seg_core.specs.declared.error.SegError.TheVariants.{NoMemory, Range}
+
+-- One step, and then the next steps with its value.
+infixl 10 ◌>>=◌
+abbrev pub ◌>>=◌ : {A B : Type 0} → Result A SegError → (A → Result B SegError) → Result B SegError
+(Ok x) >>= rest = rest x
+(Err e) >>= rest = Err e
+
+-- Goes on where there is no refusal.
+abbrev pub unless_refused : Option SegError → Result (Unit {0}) SegError
+unless_refused None = Ok tt
+unless_refused (Some refusal) = Err refusal
+
+-- A call that takes no memory returns exactly what the reading gives, seen by `view`.
+abbrev pub ReadsFields : {X Y : Type 0} → (X → Y) → Result X SegError → Result Y SegError → Type 0
+ReadsFields view (Ok x) reading = reading ≡ Ok (view x)
+ReadsFields view (Err e) reading = reading ≡ Err e
 
 -- Goes on where the test holds; a test that fails is refused for this reason.
 abbrev pub must_hold : Bool → SegError → Result (Unit {0}) SegError

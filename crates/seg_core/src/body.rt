@@ -1,16 +1,17 @@
 //! The signed body of an AS entry.
 
-ghost use Rattle.seg_slots.specs.Steps.{ReadsFields};
-ghost use Rattle.seg_core.specs.Steps.{each, result_map};
-ghost use Rattle.seg_slots.specs.Message.{bytes_fields};
+ghost use Rattle.seg_core.specs.Steps.{ReadsFields, each, result_map};
+ghost use Rattle.seg_core.specs.Message.{bytes_fields};
 ghost use Rattle.pw_wire.specs.Fields.{fields};
 ghost use Rattle.seg_core.specs.Entry.{peer_entry_decoding, body_decoding, header_and_body_decoding};
 
+use crate::bytes_fields::BytesFields;
+use crate::error::SegError;
 use crate::hop::{Hop, read_hop_entry, read_peer_entry};
 use crate::limits::{check, u32_of};
 use crate::shape::{BODY, HEADER_AND_BODY};
+use crate::slots::{Slots, slots_of};
 use isd_as::IsdAs;
-use seg_slots::{BytesFields, SegError, Slots, slots_of};
 
 /// The numbers in the signed body of an AS entry. The ISD-AS numbers have 64 bits.
 #[derive(Clone, Copy)]

@@ -3,11 +3,11 @@
 ghost use Rattle.std.specs.Prelude.{◌≡◌, List, []};
 ghost use Rattle.seg_core.specs.Earlier.{is_in, with_type, AreIn};
 ghost use Rattle.seg_core.specs.Registration.{MapEntry, new_type};
-ghost use Rattle.seg_slots.specs.Steps.{ReadsFields};
+ghost use Rattle.seg_core.specs.Steps.{ReadsFields};
 
+use crate::error::SegError;
 use crate::limits::check;
 use crate::seg_type::SegType;
-use seg_slots::SegError;
 
 /// Which types have had an entry.
 #[derive(Clone, Copy)]

@@ -3,16 +3,17 @@
 ghost use Rattle.std.specs.Prelude.{◌≡◌, IfOk};
 ghost use Rattle.std.specs.Arc.{arc_value};
 ghost use Rattle.std.specs.Option.{option_map};
-ghost use Rattle.seg_slots.specs.Steps.{ReadsFields};
+ghost use Rattle.seg_core.specs.Steps.{ReadsFields};
 ghost use Rattle.seg_core.specs.Pieces.{AreWithin};
 ghost use Rattle.seg_core.specs.Entry.{as_entry_decoding};
 ghost use Rattle.seg_core.specs.EntryView.{entry_view, borrowed_view, marked_view};
 
 use crate::body::{Body, read_header_and_body};
+use crate::error::SegError;
 use crate::pieces::{Pieces, Spans};
 use crate::shape::{AS_ENTRY, SIGNED_MESSAGE};
+use crate::slots::slots_of;
 use isd_as::IsdAs;
-use seg_slots::{SegError, slots_of};
 use std::alloc::AllocError;
 use std::fmt;
 use std::sync::Arc;

@@ -1,11 +1,12 @@
 //! Hop entries and peer entries, down to their hop fields.
 
-ghost use Rattle.seg_slots.specs.Steps.{ReadsFields};
+ghost use Rattle.seg_core.specs.Steps.{ReadsFields};
 ghost use Rattle.seg_core.specs.Entry.{hop_field_decoding, hop_entry_decoding, peer_entry_decoding};
 
+use crate::error::SegError;
 use crate::limits::{check, u8_of, u16_of, u32_of};
 use crate::shape::{HOP_ENTRY, HOP_FIELD, PEER_ENTRY};
-use seg_slots::{SegError, slots_of};
+use crate::slots::slots_of;
 
 /// The length of a MAC in bytes.
 const MAC_LEN: usize = 6;

@@ -1,11 +1,12 @@
 //! When a segment was made, and its id.
 
-ghost use Rattle.seg_slots.specs.Steps.{ReadsFields};
+ghost use Rattle.seg_core.specs.Steps.{ReadsFields};
 ghost use Rattle.seg_core.specs.Segment.{info_decoding};
 
+use crate::error::SegError;
 use crate::limits::{u16_of, u32_of};
 use crate::shape::SEGMENT_INFORMATION;
-use seg_slots::{SegError, slots_of};
+use crate::slots::slots_of;
 
 /// A segment's timestamp, in seconds since 1970, and its id, which the beaconing AS chooses.
 #[derive(Clone, Copy)]

@@ -7,10 +7,13 @@
 #![tactic(auto)]
 
 mod body;
+mod bytes_fields;
 mod digest;
 mod earlier;
 mod entry;
 mod equality;
+mod error;
+mod field_kind;
 mod format;
 mod hop;
 mod info;
@@ -27,14 +30,17 @@ mod response;
 mod seg_type;
 mod segment;
 mod shape;
+mod slots;
 mod typed_response;
 mod writing;
 
 pub use entry::Entry;
+pub use error::SegError;
 pub use format::{MOST_ENTRIES, MOST_REGISTERED, MOST_REGISTERED_BYTES, MOST_SEGMENT_BYTES};
 pub use laws::decoding::{
     decodings_want_no_memory, path_refusals_are_exact, type_numbers_are_exact,
 };
+pub use laws::fields::first_misfit_is_exact;
 pub use laws::messages::{
     encodings_are_injective, encodings_are_shortest, path_tests_are_exact,
     read_registrations_are_whole, read_segments_are_whole, responses_are_short,
@@ -43,7 +49,6 @@ pub use laws::messages::{
 pub use registration::read_registration;
 pub use request::read_request;
 pub use response::{write_response, write_response_of};
-pub use seg_slots::{SegError, first_misfit_is_exact};
 pub use seg_type::SegType;
 pub use segment::{Segment, read_segment};
 pub use typed_response::write_response_of_type;

@@ -1,10 +1,9 @@
 //! Tests of one number or condition, each with its refusal.
 
 ghost use Rattle.std.specs.Prelude.{◌-◌, ◌^◌};
-ghost use Rattle.seg_slots.specs.Steps.{ReadsFields};
-ghost use Rattle.seg_core.specs.Steps.{at_most, must_hold};
+ghost use Rattle.seg_core.specs.Steps.{ReadsFields, at_most, must_hold};
 
-use seg_slots::SegError;
+use crate::error::SegError;
 
 /// The number, where it has at most 8 bits.
 pub(crate) fn u8_of(n: u64) -> Result<u8, SegError>

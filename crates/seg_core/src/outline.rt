@@ -2,18 +2,20 @@
 
 ghost use Rattle.std.specs.Prelude.{◌≡◌, ◌≢◌, length, IfErr};
 ghost use Rattle.pw_wire.specs.Fields.{fields};
-ghost use Rattle.seg_slots.specs.declared.error.SegError.TheVariants.{NoMemory};
-ghost use Rattle.seg_slots.specs.Steps.{ReadsFields};
-ghost use Rattle.seg_slots.specs.Message.{bytes_fields};
+ghost use Rattle.seg_core.specs.declared.error.SegError.TheVariants.{NoMemory};
+ghost use Rattle.seg_core.specs.Steps.{ReadsFields};
+ghost use Rattle.seg_core.specs.Message.{bytes_fields};
 ghost use Rattle.seg_core.specs.Outline.{outline_view};
 ghost use Rattle.seg_core.specs.Segment.{segment_outline};
 ghost use Rattle.seg_core.specs.WellFormed.{is_entry_count};
 
+use crate::bytes_fields::BytesFields;
+use crate::error::SegError;
 use crate::format::{MOST_ENTRIES, MOST_SEGMENT_BYTES};
 use crate::info::{Info, read_info};
 use crate::limits::check;
 use crate::shape::PATH_SEGMENT;
-use seg_slots::{BytesFields, SegError, slots_of};
+use crate::slots::slots_of;
 
 /// A segment whose entries are not read yet.
 #[derive(Clone, Copy)]

@@ -3,23 +3,24 @@
 ghost use Rattle.std.specs.Prelude.{◌≡◌, ◌≢◌, List, [], ◌++◌, length, IfOk, IfErr, IsOk};
 ghost use Rattle.std.specs.List.{AllByRecursion};
 ghost use Rattle.pw_wire.specs.Fields.{fields};
-ghost use Rattle.seg_slots.specs.Steps.{ReadsFields};
-ghost use Rattle.seg_core.specs.Steps.{GivesSegment, result_map};
-ghost use Rattle.seg_slots.specs.Message.{bytes_fields};
+ghost use Rattle.seg_core.specs.Steps.{ReadsFields, GivesSegment, result_map};
+ghost use Rattle.seg_core.specs.Message.{bytes_fields};
 ghost use Rattle.seg_core.specs.SegmentView.{SegmentView};
-ghost use Rattle.seg_slots.specs.declared.error.SegError.TheVariants.{NoMemory};
+ghost use Rattle.seg_core.specs.declared.error.SegError.TheVariants.{NoMemory};
 ghost use Rattle.seg_core.specs.declared.seg_type.SegType.{SegType};
 ghost use Rattle.seg_core.specs.Earlier.{AreIn};
 ghost use Rattle.seg_core.specs.Registration.{MapEntry, entry_rows, map_decoding, map_entry_decoding, segments_decoding, registration_outline, registration_decoding, typed_segments};
 ghost use Rattle.seg_core.specs.Encoding.{IsSegment};
 
+use crate::bytes_fields::BytesFields;
 use crate::earlier::Earlier;
+use crate::error::SegError;
 use crate::format::{MOST_REGISTERED, MOST_REGISTERED_BYTES};
 use crate::limits::check;
 use crate::seg_type::SegType;
 use crate::segment::{Segment, read_segment};
 use crate::shape::{MAP_ENTRY, SEGMENT_MAP, SEGMENTS};
-use seg_slots::{BytesFields, SegError, slots_of};
+use crate::slots::slots_of;
 use std::alloc::Global;
 
 /// Appends the segments of one type to the segments before them.

@@ -1,12 +1,13 @@
 //! Requests for segments.
 
 ghost use Rattle.isd_as.specs.IsdAs.{isd_as_number};
-ghost use Rattle.seg_slots.specs.Steps.{ReadsFields};
+ghost use Rattle.seg_core.specs.Steps.{ReadsFields};
 ghost use Rattle.seg_core.specs.Request.{request_decoding};
 
+use crate::error::SegError;
 use crate::shape::REQUEST;
+use crate::slots::slots_of;
 use isd_as::IsdAs;
-use seg_slots::{SegError, slots_of};
 
 /// The source and the destination of a `SegmentsRequest`, 0-0 where the message has none. The call
 /// takes no memory.

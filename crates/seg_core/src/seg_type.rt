@@ -1,9 +1,9 @@
 //! The types of segments.
 
 ghost use Rattle.std.specs.Prelude.{◌≡◌};
-ghost use Rattle.seg_slots.specs.Steps.{ReadsFields};
+ghost use Rattle.seg_core.specs.Steps.{ReadsFields};
 
-use seg_slots::SegError;
+use crate::error::SegError;
 
 /// The type of a segment: up and down segments lead from a core AS outwards, core segments from one
 /// core AS to another. The numbers of the variants are those of the messages.

@@ -1,7 +1,7 @@
 //! The shapes of the messages: the kind of the value under each of their field numbers.
 
-use seg_slots::FieldKind;
-use seg_slots::FieldKind::{Bytes, Message, Messages, Number, Unknown};
+use crate::field_kind::FieldKind;
+use crate::field_kind::FieldKind::{Bytes, Message, Messages, Number, Unknown};
 
 // Each shape is a list by field numbers. No field has the number 0.
 

@@ -6,7 +6,7 @@ use Rattle.session_core.specs.declared.command_kind.CommandKind.{CommandKind}
 use Rattle.session_core.specs.Commands.{command_kind}
 use Rattle.session_core.specs.Frames.{MessageView}
 use Rattle.session_core.specs.Reply.{ReplyView, Refused}
-use Rattle.seg_slots.specs.declared.error.SegError.{SegError}
+use Rattle.seg_core.specs.declared.error.SegError.{SegError}
 use Rattle.session_limits.specs.declared.limit.Limit.{Limit}
 use Rattle.session_limits.specs.declared.limit.Limit.TheVariants.{NoMemory, Future, NoRoom, NoCommands}
 use Rattle.session_limits.specs.Limits.{LimitedView, LimitedAnswers, IsAdmission, after_judging, limit_code}

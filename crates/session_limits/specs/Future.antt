@@ -2,7 +2,7 @@
 use Rattle.std.specs.Prelude.{◌≡◌, ℕ, ◌+◌, ◌*◌, Bool, true, false, nat_lt, List, Option, Some, None, Result, Ok, Err}
 use Rattle.std.specs.List.{list_any}
 use Rattle.std.specs.Result.{is_ok}
-use Rattle.seg_slots.specs.declared.error.SegError.{SegError}
+use Rattle.seg_core.specs.declared.error.SegError.{SegError}
 use Rattle.seg_core.specs.Registration.{registration_decoding}
 use Rattle.row_map.specs.Database.{RowView}
 use Rattle.session_core.specs.declared.message.Message.TheVariants.{Register, Purge}

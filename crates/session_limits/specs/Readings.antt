@@ -1,8 +1,8 @@
 -- Which commands can be read.
 use Rattle.std.specs.Prelude.{◌≡◌, ◌≢◌, ℕ, Bool, true, Option, Some, None, Err, IsOk}
 use Rattle.std.specs.Result.{is_ok}
-use Rattle.seg_slots.specs.declared.error.SegError.{SegError}
-use Rattle.seg_slots.specs.declared.error.SegError.TheVariants.{NoMemory}
+use Rattle.seg_core.specs.declared.error.SegError.{SegError}
+use Rattle.seg_core.specs.declared.error.SegError.TheVariants.{NoMemory}
 use Rattle.seg_core.specs.Registration.{registration_outline, registration_decoding, type_of}
 use Rattle.session_core.specs.declared.message.Message.TheVariants.{Register, Remove}
 use Rattle.session_core.specs.Frames.{MessageView}

@@ -1,7 +1,7 @@
 //! Laws of what a limited service answers. Each law is the contract of a function that does nothing.
 
 ghost use Rattle.std.specs.Prelude.{◌≡◌, false, Option, IsSome};
-ghost use Rattle.seg_slots.specs.declared.error.SegError.{SegError};
+ghost use Rattle.seg_core.specs.declared.error.SegError.{SegError};
 ghost use Rattle.session_core.specs.Commands.{command_kind};
 ghost use Rattle.session_core.specs.Frames.{MessageView};
 ghost use Rattle.session_core.specs.Reply.{ReplyView, Refused};

@@ -3,11 +3,11 @@
 
 ghost use Rattle.std.specs.Prelude.{◌≡◌, ◌≢◌, ◌↔◌, ℕ, List, Some, None, Ok, Err};
 ghost use Rattle.pw_wire.specs.Field.{FieldView};
-ghost use Rattle.seg_slots.specs.declared.error.SegError.{SegError};
-ghost use Rattle.seg_slots.specs.declared.error.SegError.TheVariants.{NoMemory, Chain, Loop};
+ghost use Rattle.seg_core.specs.declared.error.SegError.{SegError};
+ghost use Rattle.seg_core.specs.declared.error.SegError.TheVariants.{NoMemory, Chain, Loop};
 ghost use Rattle.seg_core.specs.declared.seg_type.SegType.{SegType};
-ghost use Rattle.seg_slots.specs.declared.shape.FieldKind.{FieldKind};
-ghost use Rattle.seg_slots.specs.Message.{AllFit, HasFirstMisfit, first_misfit};
+ghost use Rattle.seg_core.specs.declared.field_kind.FieldKind.{FieldKind};
+ghost use Rattle.seg_core.specs.Message.{AllFit, HasFirstMisfit, first_misfit};
 ghost use Rattle.seg_core.specs.PathRefusals.{HasLoop, HasNoChain};
 ghost use Rattle.seg_core.specs.Registration.{registration_decoding, type_number, type_of};
 ghost use Rattle.seg_core.specs.Request.{request_decoding};

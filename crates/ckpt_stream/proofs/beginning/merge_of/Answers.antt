@@ -8,7 +8,7 @@ use Rattle.row_map.specs.Database.{RowView, IsDatabase, rows_len}
 use Rattle.store_layout.specs.Layout.{area_at}
 use Rattle.store_layout.specs.Geometry.{geometry_view}
 use Rattle.ckpt_pair.specs.Heads.{head_view}
-use Rattle.row_edits.specs.Rewriting.{untaken}
+use Rattle.ckpt_stream.specs.Rewriting.{untaken}
 use Rattle.store_open.specs.declared.sealed.SealedError.{SealedError}
 use Rattle.ckpt_stream.proofs.Looks.{stays_same, stays_piece, stays_damaged, fault_piece, looks_ok, looks_damaged, looks_refused}
 use Rattle.ckpt_stream.specs.Sums.{AreSummed}

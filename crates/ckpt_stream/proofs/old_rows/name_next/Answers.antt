@@ -4,7 +4,7 @@ use Rattle.std.proofs.lemmas.List.{length-take-le, take-append-drop}
 use Rattle.std.proofs.Math.Seq.{take-append-add}
 use Rattle.path_db.specs.declared.command.Command.{Command}
 use Rattle.row_map.specs.Database.{RowView}
-use Rattle.row_edits.specs.Planner.{HasSeen}
+use Rattle.ckpt_stream.specs.Planner.{HasSeen}
 use Rattle.ckpt_stream.proofs.old_rows.name_next.Goals as goal
 
 -- the first commands, and those after them up to a place

@@ -2,7 +2,7 @@
 use Rattle.std.proofs.Common.{List, sym, subst}
 use Rattle.row_map.specs.Database.{RowView}
 use Rattle.ckpt_pair.specs.Stream.{HasStreamed}
-use Rattle.row_edits.specs.Planner.{HasSeen}
+use Rattle.ckpt_stream.specs.Planner.{HasSeen}
 use Rattle.ckpt_stream.proofs.old_rows.see_rows.Goals as goal
 
 pub rows-preserved : goal.rows-preserved

@@ -2,7 +2,7 @@
 use Rattle.std.proofs.Common.{ℕ, List}
 use Rattle.path_db.specs.declared.command.Command.{Command}
 use Rattle.ckpt_pair.specs.Stream.{HasStreamed}
-use Rattle.row_edits.specs.Planner.{HasSeen}
+use Rattle.ckpt_stream.specs.Planner.{HasSeen}
 use Rattle.ckpt_stream.proofs.old_rows.see_rows.Given as goal
 
 -- The rows that the stream gave are noted and planned.

@@ -3,7 +3,7 @@ use Rattle.std.proofs.Common.{◌≤◌, ◌∙◌, List, length, ap, subst, ari
 use Rattle.std.proofs.lemmas.List.{take_all}
 use Rattle.path_db.specs.declared.command.Command.{Command}
 use Rattle.path_db.specs.Command.{database_after_all}
-use Rattle.row_edits.specs.Planner.{HasSeen}
+use Rattle.ckpt_stream.specs.Planner.{HasSeen}
 use Rattle.ckpt_stream.proofs.OldRows.{rows_sized}
 use Rattle.ckpt_stream.proofs.old_rows.settle_rows.Goals as goal
 

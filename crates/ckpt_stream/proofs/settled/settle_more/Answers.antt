@@ -1,7 +1,7 @@
 -- All is settled.
 use Rattle.std.proofs.Common.{subst}
-use Rattle.row_edits.specs.declared.settling.Settled.{Settled}
-use Rattle.row_edits.specs.Settling.{SettlesOn}
+use Rattle.ckpt_stream.specs.declared.settling.Settled.{Settled}
+use Rattle.ckpt_stream.specs.Settling.{SettlesOn}
 use Rattle.ckpt_stream.proofs.settled.settle_more.Goals as goal
 
 pub returns-in-Done-clause-whole : goal.returns-in-Done-clause-whole

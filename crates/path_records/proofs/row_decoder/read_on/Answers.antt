@@ -2,7 +2,7 @@ use Rattle.std.proofs.Common.{rules, arith, ◌≡◌, true, false, ◌∷◌, [
 use Rattle.std.proofs.lemmas.List.{map-append}
 use Rattle.std.proofs.lemmas.Result.{err_from_is_err_and}
 use Rattle.byte_lists.specs.Content.{AreBytes}
-use Rattle.seg_slots.specs.Message.{last_of}
+use Rattle.seg_core.specs.Message.{last_of}
 use Rattle.row_map.specs.Database.{RowView}
 use Rattle.row_map.specs.Row.{row_view, row_views}
 use Rattle.path_records.specs.RowRecord.{has_row, row_size, is_row_above}

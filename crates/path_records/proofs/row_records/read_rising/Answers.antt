@@ -1,6 +1,6 @@
 use Rattle.std.proofs.Common.{rules, ◌≡◌, ◌<◌, true, false, [], ◌∷◌, ◌++◌, length, Err, ap, ◌∙◌}
 use Rattle.std.proofs.lemmas.List.{map-append}
-use Rattle.seg_slots.specs.Message.{last_of}
+use Rattle.seg_core.specs.Message.{last_of}
 use Rattle.path_records.specs.declared.error.DbError.{DbError}
 use Rattle.row_map.specs.Database.{RowView}
 use Rattle.row_map.specs.Row.{row_view, row_views}

@@ -1,7 +1,7 @@
 use Rattle.std.proofs.Common.{◌≡◌}
 use Rattle.pw_wire.specs.Fields.{fields}
 use Rattle.seg_core.specs.Steps.{each, result_map}
-use Rattle.seg_slots.specs.Message.{bytes_fields}
+use Rattle.seg_core.specs.Message.{bytes_fields}
 use Rattle.seg_core.specs.Entry.{peer_entry_decoding}
 use Rattle.seg_core.proofs.body.check_peer_entries.Given as goal
 

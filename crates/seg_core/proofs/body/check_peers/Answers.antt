@@ -5,7 +5,7 @@ use Rattle.std.specs.Option.{option_map, option_or}
 use Rattle.std.specs.Borrow.{Bor}
 use Rattle.pw_wire.specs.Fields.{fields}
 use Rattle.seg_core.specs.Steps.{each, result_map}
-use Rattle.seg_slots.specs.Message.{last_of, bytes_fields}
+use Rattle.seg_core.specs.Message.{last_of, bytes_fields}
 use Rattle.seg_core.specs.Entry.{peer_entry_decoding}
 use Rattle.seg_core.proofs.body.check_peers.Goals as goal
 

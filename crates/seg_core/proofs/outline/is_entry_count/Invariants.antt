@@ -1,6 +1,6 @@
 use Rattle.std.proofs.Common.{◌≡◌, ◌+◌, ◌≤◌, length}
 use Rattle.pw_wire.specs.Fields.{fields}
-use Rattle.seg_slots.specs.Message.{bytes_fields}
+use Rattle.seg_core.specs.Message.{bytes_fields}
 use Rattle.seg_core.proofs.outline.is_entry_count.Given as goal
 
 -- The messages that were counted and those that are left are all of them.

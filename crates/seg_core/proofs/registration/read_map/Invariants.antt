@@ -1,5 +1,5 @@
 use Rattle.pw_wire.specs.Fields.{fields}
-use Rattle.seg_slots.specs.Message.{bytes_fields}
+use Rattle.seg_core.specs.Message.{bytes_fields}
 use Rattle.seg_core.proofs.Rows.{Found}
 use Rattle.seg_core.proofs.registration.read_map.Given as goal
 

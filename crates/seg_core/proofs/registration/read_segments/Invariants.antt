@@ -1,7 +1,7 @@
 use Rattle.std.proofs.Common.{◌≡◌, ◌++◌, length}
 use Rattle.pw_wire.specs.Fields.{fields}
 use Rattle.seg_core.specs.Steps.{result_map}
-use Rattle.seg_slots.specs.Message.{bytes_fields}
+use Rattle.seg_core.specs.Message.{bytes_fields}
 use Rattle.seg_core.specs.Registration.{segments_decoding, typed_segments}
 use Rattle.seg_core.proofs.registration.read_segments.Given as goal
 

@@ -1,6 +1,6 @@
 use Rattle.std.proofs.Common.{length}
 use Rattle.pw_wire.specs.Fields.{fields}
-use Rattle.seg_slots.specs.Message.{bytes_fields}
+use Rattle.seg_core.specs.Message.{bytes_fields}
 use Rattle.seg_core.proofs.PiecesKept.{IsPut, AllWithin-more, decoding-more, put-more, room-more}
 use Rattle.seg_core.proofs.segment.read_entries.Goals as goal
 

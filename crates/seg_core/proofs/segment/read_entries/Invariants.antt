@@ -3,9 +3,8 @@ use Rattle.std.specs.List.{sum_by}
 use Rattle.pw_wire.specs.Field.{bytes_field_encoding}
 use Rattle.pw_wire.specs.Fields.{fields}
 use Rattle.seg_core.specs.declared.format.TheConstants.{MOST_SEGMENT_BYTES}
-use Rattle.seg_slots.specs.Steps.{◌>>=◌}
-use Rattle.seg_core.specs.Steps.{each}
-use Rattle.seg_slots.specs.Message.{bytes_fields}
+use Rattle.seg_core.specs.Steps.{◌>>=◌, each}
+use Rattle.seg_core.specs.Message.{bytes_fields}
 use Rattle.seg_core.specs.Entry.{as_entry_decoding}
 use Rattle.seg_core.specs.EntryView.{marked_views}
 use Rattle.seg_core.specs.Encoding.{entries_encoding}

@@ -1,7 +1,7 @@
 -- What is made after the piece that is written.
 use Rattle.std.proofs.Common.{arith, length, ap, subst}
 use Rattle.std.specs.Prelude.{OnOk}
-use Rattle.row_edits.specs.Rewriting.{RewriteView}
+use Rattle.ckpt_stream.specs.Rewriting.{RewriteView}
 use Rattle.ckpt_stream.specs.Merge.{MergeView, after_piece, MakesOn}
 use Rattle.ckpt_stream.proofs.Written.{made_on}
 use Rattle.ckpt_stream.proofs.merge.Merge.write_next.Goals as goal

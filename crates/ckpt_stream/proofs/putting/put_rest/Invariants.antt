@@ -1,0 +1,13 @@
+use Rattle.std.proofs.Common.{ℕ, ◌-◌, length, Bool, List}
+use Rattle.row_map.specs.Database.{RowView}
+use Rattle.ckpt_stream.specs.Planning.{IsPlanned, IsEnding}
+use Rattle.ckpt_stream.proofs.putting.put_rest.Given as goal
+
+-- The edits are those after the last row, with a key more each time.
+abbrev pub invariant-loop-at : goal.invariant-loop-at
+invariant-loop-at l =
+    (p : RowView → Bool) (seen : List RowView) (kept : ℕ) (olds : List RowView)
+    → IsPlanned l.keys p seen l.fn.at l.fn.edits.items kept olds → IsEnding l.keys p seen l.at l.edits.items kept olds
+
+abbrev pub decreases-loop-at : goal.decreases-loop-at
+decreases-loop-at l = length l.keys - l.at

@@ -1,8 +1,0 @@
-use Rattle.row_edits.specs.Rewriting.{Rewrites, steps_left}
-use Rattle.row_edits.proofs.rewrite.Rewrite.rewrite.Given as goal
-
-abbrev pub invariant-loop : goal.invariant-loop
-invariant-loop l = Rewrites l.from l.window l.initial.self l.self
-
-abbrev pub decreases-loop : goal.decreases-loop
-decreases-loop l = steps_left l.self

@@ -1,6 +1,0 @@
-use Rattle.std.proofs.Common.{take}
-use Rattle.row_map.specs.Database.{AreWhole}
-use Rattle.row_edits.proofs.whole.rows_are_whole.Given as goal
-
-abbrev pub invariant-loop-row : goal.invariant-loop-row
-invariant-loop-row l = AreWhole (take l.row-index l.rows)

@@ -1,8 +1,0 @@
-use Rattle.seg_slots.proofs.FirstMisfit.{all_fit-iff, first_misfit-iff}
-use Rattle.seg_slots.proofs.laws.first_misfit_is_exact.Goals as goal
-
-pub returns-clause-misfit : goal.returns-clause-misfit
-returns-clause-misfit c = λ shape fs refusal. first_misfit-iff shape fs refusal
-
-pub returns-clause-none : goal.returns-clause-none
-returns-clause-none c = λ shape fs. all_fit-iff shape fs
