@@ -328,6 +328,7 @@ impl<D: Device, N: HubName, R: Wait + Clock> Steps for Hub<D, N, R> {
     }
 
     fn rest(&self, awaited: Awaited, seen: u64) {
-        self.changes.rest(&self.rt, awaited, seen);
+        let most = self.longest_rest();
+        self.changes.rest_for(&self.rt, awaited, seen, most);
     }
 }

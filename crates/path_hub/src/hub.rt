@@ -197,6 +197,7 @@ impl<D: Device, N: HubName, R: Wait + Clock> Hub<D, N, R> {
                 return Ok(outcome?);
             }
             if is_asked && waiter.has_left() {
+                self.changes.announce(Awaited::Work);
                 return Err(HubError::NotAwaited);
             }
             if !self.lead() {

@@ -3,10 +3,15 @@
 use crate::handing::MOST_TAKEN;
 use crate::hub::Hub;
 use hub_claims::HubName;
+use hub_status::LONGEST_REST;
 use sector_dev::Device;
 use std::sync::Wait;
-use std::time::{Clock, Instant};
+use std::time::{Clock, Duration, Instant};
 use store_loops::{Awaited, DeviceCall};
+
+/// The longest rest of an actor without work, in milliseconds. A command that nobody waits for any
+/// more is committed after it.
+const IDLE_REST: u64 = 1000;
 
 impl<D: Device, N: HubName, R: Wait + Clock> Hub<D, N, R> {
     /// Waits for the sessions that were just answered, so that they are in one group again: until
@@ -47,6 +52,13 @@ impl<D: Device, N: HubName, R: Wait + Clock> Hub<D, N, R> {
             }
         }
         false
+    }
+
+    /// How long an actor rests at most where no change wakes it: 10 milliseconds where commands wait
+    /// or are pending, and else a second.
+    pub(crate) fn longest_rest(&self) -> Duration {
+        let is_idle = self.waiting() == 0 && self.status.is_idle(&self.rt);
+        Duration::from_millis(if is_idle { IDLE_REST } else { LONGEST_REST })
     }
 
     /// The number of commands that wait in the queue.
