@@ -1,10 +1,10 @@
 //! Reading rows in threads.
 
-ghost use Rattle.std.specs.Prelude.{◌≡◌, ◌≢◌, ◌≤◌, ◌++◌, true, false, length, drop, IfSome, IfOk, IfErr};
+ghost use Rattle.std.specs.Prelude.{◌≡◌, ◌≢◌, ◌≤◌, [], ◌++◌, true, length, IfSome, IfOk, IfErr};
 ghost use Rattle.path_records.specs.declared.error.DbError.TheVariants.{NoMemory};
 ghost use Rattle.row_map.specs.Database.{IsDatabase};
 ghost use Rattle.row_map.specs.Row.{row_views};
-ghost use Rattle.path_records.specs.RowRecord.{rows_encoding, has_row};
+ghost use Rattle.path_records.specs.RowRecord.{rows_encoding};
 ghost use Rattle.path_records.specs.DatabaseReader.{AreRowsOf, AreRefused, AreReadOn};
 
 use crate::error::DbError;
@@ -28,8 +28,7 @@ pub fn read_in_threads<R: Threads + Sync>(
     ensures read { IfOk result (λ read. AreReadOn (row_views rows.items) (row_views read.0.items) bytes.now read.1) }
     ensures refused { IfErr result (λ e. e ≢ NoMemory → AreRefused (rows_encoding (row_views rows.items) ++ bytes.now) e) }
 {
-    let taken = whole_rows(bytes);
-    let Some(mut more) = read_by_four(rt, alloc, &bytes[..taken]) else {
+    let Some((mut more, taken)) = read_by_four(rt, alloc, bytes) else {
         return read_on(alloc, rows, bytes);
     };
     if !are_above(&rows, &more) {
@@ -40,48 +39,51 @@ pub fn read_in_threads<R: Threads + Sync>(
     Ok((rows, taken))
 }
 
-/// The length of the whole rows at the front of the bytes, by the length fields of their segments.
-fn whole_rows(bytes: &[u8]) -> usize
-    ensures within { result ≤ length bytes.now }
-    ensures rest { has_row (drop result bytes.now) ≡ false }
+/// The whole rows at the front of the bytes, read by four threads, and how many bytes their records
+/// have; `None` where the bytes are refused, or memory is. The length fields of three quarters of
+/// the rows are read once before, to find where rows end.
+fn read_by_four<R: Threads + Sync>(rt: &R, alloc: Global, bytes: &[u8]) -> Option<(Vec<Row>, usize)>
+    ensures { IfSome result (λ read. AreReadOn [] (row_views read.0.items) bytes.now read.1) }
 {
-    let mut left = bytes;
-    while let Ok(size) = size_of_row(left) {
-        left = &left[size..];
-    }
-    bytes.len() - left.len()
-}
-
-/// The rows of all of the bytes, read by four threads; `None` where the bytes are refused, or
-/// memory is.
-fn read_by_four<R: Threads + Sync>(rt: &R, alloc: Global, bytes: &[u8]) -> Option<Vec<Row>>
-    ensures { IfSome result (λ rows. AreRowsOf (row_views rows.items) bytes.now) }
-{
-    let (low, high) = bytes.split_at(half_of(bytes));
+    let quarter = bytes.len() / 4;
+    let (first, behind) = bytes.split_at(rows_of_len(bytes, quarter));
+    let (second, behind) = behind.split_at(rows_of_len(behind, quarter));
+    let (third, last) = behind.split_at(rows_of_len(behind, quarter));
     let (front, back) = join(
         rt,
-        || read_by_two(rt, alloc, low),
-        || read_by_two(rt, alloc, high),
+        || read_by_two(rt, alloc, first, second),
+        || read_by_two(rt, alloc, third, last),
     );
-    joined(front?, back?)
+    let (front, whole) = front?;
+    if whole < first.len() + second.len() {
+        return None;
+    }
+    let (back, taken) = back?;
+    Some((joined(front, back)?, whole + taken))
 }
 
-/// The rows of all of the bytes, read by two threads; `None` where the bytes are refused, or memory
-/// is.
-fn read_by_two<R: Threads + Sync>(rt: &R, alloc: Global, bytes: &[u8]) -> Option<Vec<Row>>
-    ensures { IfSome result (λ rows. AreRowsOf (row_views rows.items) bytes.now) }
+/// The whole rows at the front of two slices, one after the other, read by two threads, and how many
+/// bytes their records have; `None` where the bytes are refused, or memory is, or a row of the first
+/// slice does not end in it.
+fn read_by_two<R: Threads + Sync>(
+    rt: &R,
+    alloc: Global,
+    low: &[u8],
+    high: &[u8],
+) -> Option<(Vec<Row>, usize)>
+    ensures { IfSome result (λ read. AreReadOn [] (row_views read.0.items) (low.now ++ high.now) read.1) }
 {
-    let (low, high) = bytes.split_at(half_of(bytes));
-    let (front, back) = join(rt, || read_all(alloc, low), || read_all(alloc, high));
-    joined(front?, back?)
+    let (front, back) = join(rt, || read_all(alloc, low), || read_first(alloc, high));
+    let (back, taken) = back?;
+    Some((joined(front?, back)?, low.len() + taken))
 }
 
-/// The length of about half of the bytes, which ends where a row does if the bytes are whole rows.
-fn half_of(bytes: &[u8]) -> usize
+/// The length of the first rows, which have at least this many bytes, or of all whole rows.
+fn rows_of_len(bytes: &[u8], least: usize) -> usize
     ensures { result ≤ length bytes.now }
 {
     let mut at = 0;
-    while at < bytes.len() / 2 {
+    while at < least {
         let Ok(size) = size_of_row(&bytes[at..]) else {
             return at;
         };
@@ -90,11 +92,19 @@ fn half_of(bytes: &[u8]) -> usize
     at
 }
 
+/// The whole rows at the front of the bytes, and how many bytes their records have; `None` where the
+/// bytes are refused, or memory is.
+fn read_first(alloc: Global, bytes: &[u8]) -> Option<(Vec<Row>, usize)>
+    ensures { IfSome result (λ read. AreReadOn [] (row_views read.0.items) bytes.now read.1) }
+{
+    read_on(alloc, Vec::new(alloc), bytes).ok()
+}
+
 /// The rows of all of the bytes; `None` where the bytes are refused, or memory is.
 fn read_all(alloc: Global, bytes: &[u8]) -> Option<Vec<Row>>
     ensures { IfSome result (λ rows. AreRowsOf (row_views rows.items) bytes.now) }
 {
-    let (rows, taken) = read_on(alloc, Vec::new(alloc), bytes).ok()?;
+    let (rows, taken) = read_first(alloc, bytes)?;
     if taken < bytes.len() {
         return None;
     }

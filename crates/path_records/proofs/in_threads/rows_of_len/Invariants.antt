@@ -1,5 +1,5 @@
 use Rattle.std.proofs.Common.{◌≤◌, ◌-◌, length}
-use Rattle.path_records.proofs.in_threads.half_of.Given as goal
+use Rattle.path_records.proofs.in_threads.rows_of_len.Given as goal
 
 -- The length is at most that of the bytes.
 abbrev pub invariant-loop-at : goal.invariant-loop-at
