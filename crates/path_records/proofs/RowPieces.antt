@@ -121,6 +121,19 @@ module _ (rows : List RowView) (left fed : List ℕ) (is : IsDatabase rows) (sam
       ∙ row_falls (rows_decoding (rows_encoding rows ++ (left ++ behind))) rows row (left ++ behind) (some behind) (row_longer left behind there ∙ read) falls
       (behind_database rows (left ++ behind) is)
 
+-- bytes that begin with refused ones are refused for the same reason
+pub refused_longer : (fed more : List ℕ) (e : DbError) → AreRefused fed e → AreRefused (fed ++ more) e
+refused_longer fed more e refused behind = ap rows_decoding (append_assoc fed more behind) ∙ refused (more ++ behind)
+
+-- ---- a piece that is fed in three parts
+
+-- the bytes that were fed before, and the piece
+pub parts_fed : (fed piece head behind segment rest one two : List ℕ) → piece ≡ head ++ behind → behind ≡ segment ++ rest → one ≡ fed ++ head → two ≡ one ++ segment
+    → two ++ rest ≡ fed ++ piece
+parts_fed fed piece head behind segment rest one two whole parts first second =
+    ap (λ (t : List ℕ). t ++ rest) second ∙ append_assoc one segment rest ∙ ap (λ (t : List ℕ). one ++ t) (sym parts)
+    ∙ ap (λ (t : List ℕ). t ++ behind) first ∙ append_assoc fed head behind ∙ ap (λ (t : List ℕ). fed ++ t) (sym whole)
+
 -- ---- the end
 
 pub all_read : (rows : List RowView) (rest : List ℕ) → IsDatabase rows → length rest ≡ 0 → rows_decoding (rows_encoding rows ++ rest) ≡ Ok rows

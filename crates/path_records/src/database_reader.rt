@@ -8,9 +8,10 @@ ghost use Rattle.path_records.specs.RowRecord.{rows_decoding};
 ghost use Rattle.path_records.specs.DatabaseReader.{AreRefused};
 
 use crate::error::DbError;
-use crate::row_decoder::{OneThread, RowDecoder};
+use crate::row_decoder::{OneThread, RowDecoder, read_on};
+use byte_lists::read_u32;
 use path_db::PathDb;
-use row_map::Row;
+use row_map::{ROW_HEAD, Row};
 use std::alloc::{AllocError, Global};
 use std::marker::Model;
 
@@ -68,15 +69,63 @@ impl DatabaseReader {
         if piece.is_empty() {
             return Ok(self);
         }
+        let (head, behind) = piece.split_at(self.missing().min(piece.len()));
+        let reader = self.feed_joined(head)?;
+        let (segment, behind) = behind.split_at(reader.missing().min(behind.len()));
+        reader.feed_joined(segment)?.feed_apart(by, behind)
+    }
+
+    /// How many bytes the head of the record that is not whole yet lacks, or its segment where the
+    /// head is there. No clause depends on this number.
+    fn missing(&self) -> usize {
+        let has = self.rest.len();
+        if has == 0 {
+            return 0;
+        }
+        if has < ROW_HEAD {
+            return ROW_HEAD - has;
+        }
+        (ROW_HEAD + read_u32(&self.rest, 1) as usize).saturating_sub(has)
+    }
+
+    /// Reads bytes on the calling thread, after those of the record that is not whole yet. The bytes
+    /// are copied.
+    fn feed_joined(self, bytes: &[u8]) -> Result<DatabaseReader, DbError>
+        ensures fed { IfOk result (λ reader. reader ≡ self ++ bytes.now) }
+        ensures refused { IfErr result (λ e. e ≢ NoMemory → AreRefused (self ++ bytes.now) e) }
+    {
+        if bytes.is_empty() {
+            return Ok(self);
+        }
         let DatabaseReader {
             alloc,
             rows,
             mut rest,
         } = self;
-        rest.extend_from_slice(piece)?;
-        let (rows, taken) = by.read_on(alloc, rows, &rest)?;
+        rest.extend_from_slice(bytes)?;
+        let (rows, taken) = read_on(alloc, rows, &rest)?;
         let rest = cut_front(rest, taken)?;
         Ok(DatabaseReader { alloc, rows, rest })
+    }
+
+    /// Reads bytes in this way where no record before them is cut. Only those of a record that is not
+    /// whole are copied.
+    fn feed_apart<B: RowDecoder>(self, by: &B, bytes: &[u8]) -> Result<DatabaseReader, DbError>
+        requires { B.is_ready by.now }
+        ensures fed { IfOk result (λ reader. reader ≡ self ++ bytes.now) }
+        ensures refused { IfErr result (λ e. e ≢ NoMemory → AreRefused (self ++ bytes.now) e) }
+    {
+        if self.rest.is_empty() {
+            let DatabaseReader {
+                alloc,
+                rows,
+                mut rest,
+            } = self;
+            let (rows, taken) = by.read_on(alloc, rows, bytes)?;
+            rest.extend_from_slice(&bytes[taken..])?;
+            return Ok(DatabaseReader { alloc, rows, rest });
+        }
+        self.feed_joined(bytes)
     }
 
     /// The rows of all bytes that were fed, as `read_rows` returns them. The call takes memory only
