@@ -25,6 +25,6 @@ pub use laws::rows::{
     read_checkpoints_are_databases, streams_read_halves,
 };
 pub use path_records::DatabaseReader;
-pub use pieces::{feed_rows, feed_rows_by, finish_rows};
+pub use pieces::{feed_rows_by, finish_rows};
 pub use reading::{Checkpoint, Front, read_front, read_half};
 pub use row_stream::RowStream;

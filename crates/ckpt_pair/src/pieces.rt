@@ -12,20 +12,10 @@ ghost use Rattle.ckpt_pair.specs.Reading.{or_bad_checkpoint, AreNoRows};
 use crate::error::PairError;
 use crate::reading::has_count;
 use path_db::PathDb;
-use path_records::{DatabaseReader, DbError, OneThread, RowDecoder};
+use path_records::{DatabaseReader, DbError, RowDecoder};
 
-/// Reads the next piece of the rows' bytes, cut anywhere, on the calling thread. A `BadCheckpoint`
-/// does not depend on the count of rows or on the bytes after this piece. An empty piece takes no
-/// memory.
-pub fn feed_rows(reader: DatabaseReader, piece: &[u8]) -> Result<DatabaseReader, PairError>
-    ensures fed { IfOk result (λ more. more ≡ reader ++ piece.now) }
-    ensures refused { IfErr result (λ e. e ≢ NoMemory → (e ≡ BadCheckpoint) × AreNoRows (reader ++ piece.now)) }
-    ensures memory { IfErr result (λ e. 0 < length piece.now) }
-{
-    feed_rows_by(&OneThread, reader, piece)
-}
-
-/// Reads the next piece of the rows' bytes as `feed_rows` does, in this way.
+/// Reads the next piece of the rows' bytes, cut anywhere, in this way. A `BadCheckpoint` does not
+/// depend on the count of rows or on the bytes after this piece. An empty piece takes no memory.
 pub fn feed_rows_by<B: RowDecoder>(
     by: &B,
     reader: DatabaseReader,

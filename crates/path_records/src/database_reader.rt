@@ -8,7 +8,7 @@ ghost use Rattle.path_records.specs.RowRecord.{rows_decoding};
 ghost use Rattle.path_records.specs.DatabaseReader.{AreRefused};
 
 use crate::error::DbError;
-use crate::row_decoder::{OneThread, RowDecoder, read_on};
+use crate::row_decoder::{RowDecoder, read_on};
 use byte_lists::read_u32;
 use path_db::PathDb;
 use row_map::{ROW_HEAD, Row};
@@ -46,16 +46,6 @@ impl DatabaseReader {
             rows: Vec::new(alloc),
             rest: Vec::new(alloc),
         }
-    }
-
-    /// Reads the next piece on the calling thread. The refusal does not depend on the bytes after
-    /// this piece. An empty piece takes no memory.
-    pub fn feed(self, piece: &[u8]) -> Result<DatabaseReader, DbError>
-        ensures fed { IfOk result (λ reader. reader ≡ self ++ piece.now) }
-        ensures refused { IfErr result (λ e. e ≢ NoMemory → AreRefused (self ++ piece.now) e) }
-        ensures memory { IfErr result (λ e. 0 < length piece.now) }
-    {
-        self.feed_by(&OneThread, piece)
     }
 
     /// Reads the next piece in this way. The refusal does not depend on the bytes after this piece.

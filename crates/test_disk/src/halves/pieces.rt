@@ -2,8 +2,9 @@
 
 use crate::halves::area::{area, changed, rows_of};
 use crate::host::Host;
-use ckpt_pair::{DatabaseReader, PairError, feed_rows, finish_rows, read_front};
+use ckpt_pair::{DatabaseReader, PairError, feed_rows_by, finish_rows, read_front};
 use path_db::PathDb;
+use path_records::OneThread;
 use std::alloc::Global;
 use std::test::Fail;
 use test_support::{TestHost, assert_same};
@@ -22,7 +23,7 @@ fn read(alloc: Global, bytes: &[u8], size: usize, count: u32) -> Result<(usize, 
     let mut reader = DatabaseReader::new(alloc);
     if size > 0 {
         for piece in bytes.chunks(size) {
-            reader = feed_rows(reader, piece)?;
+            reader = feed_rows_by(&OneThread, reader, piece)?;
         }
     }
     let db = finish_rows(reader, count)?;

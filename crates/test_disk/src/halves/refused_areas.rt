@@ -6,11 +6,11 @@ use crate::checks::assert_bytes;
 use crate::halves::area::{area, changed, rows_of};
 use crate::host::Host;
 use ckpt_pair::{
-    Checkpoint, DatabaseReader, Head, PairError, encode_checkpoint, feed_rows, finish_rows,
+    Checkpoint, DatabaseReader, Head, PairError, encode_checkpoint, feed_rows_by, finish_rows,
     read_half,
 };
 use path_db::PathDb;
-use path_records::write_rows;
+use path_records::{OneThread, write_rows};
 use std::alloc::Global;
 use std::test::Fail;
 use test_support::{TestHost, assert_same, assert_true};
@@ -154,7 +154,7 @@ fn refused_memory_of_read_checkpoints(rt: HostRuntime) -> Result<(), Fail> {
 fn read_in_pieces(alloc: Global, bytes: &[u8], count: u32) -> Result<PathDb, PairError> {
     let mut reader = DatabaseReader::new(alloc);
     for piece in bytes.chunks(50) {
-        reader = feed_rows(reader, piece)?;
+        reader = feed_rows_by(&OneThread, reader, piece)?;
     }
     finish_rows(reader, count)
 }

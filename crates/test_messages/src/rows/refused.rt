@@ -8,7 +8,8 @@ use crate::rows::commands::registration;
 use crate::rows::records::{assert_written_as, changed, read_again, rows_of};
 use path_db::{Command, PathDb};
 use path_records::{
-    DatabaseReader, DbError, is_within_limits, read_command, read_rows, write_command, write_rows,
+    DatabaseReader, DbError, OneThread, is_within_limits, read_command, read_rows, write_command,
+    write_rows,
 };
 use std::alloc::{AllocError, Global};
 use std::test::Fail;
@@ -112,7 +113,7 @@ fn refused_memory_of_read_rows(rt: HostRuntime) -> Result<(), Fail> {
 fn read_in_pieces(alloc: Global, bytes: &[u8]) -> Result<PathDb, DbError> {
     let mut reader = DatabaseReader::new(alloc);
     for piece in bytes.chunks(50) {
-        reader = reader.feed(piece)?;
+        reader = reader.feed_by(&OneThread, piece)?;
     }
     reader.finish()
 }
