@@ -14,7 +14,7 @@ PAGES = [
     Tool("blocks", "pages.blocks", "each block of commands has a tool that carries it out, or says why none does; --list"),
     Tool("apart", "pages.apart", "no crate of the program uses a crate of tests"),
     Tool("unsafe", "pages.unsafe", "no crate has `unsafe`, but for the two lines that need it"),
-    Tool("help-texts", "pages.help_texts", "the man page and the completions have the program's commands and options"),
+    Tool("help-texts", "pages.help_texts", "the man page and the completions have the program's commands and options, and each number is checked"),
     Tool("codes", "pages.codes", "the pages, the crate and the clients have the codes of docs/codes.csv; --write"),
     Tool("plots-page", "pages.plots_page", "the page of plots in crates/status_page is its page/plots.html; --write"),
     Tool("versions", "pages.versions", "the program, the clients, the gateway and the pages have one version"),

@@ -5,6 +5,9 @@ crates/test_program/stdout and is compared there with that of crates/cli_words:
 - the words in deploy/pathd.bash and deploy/pathd.zsh,
 - the table of options in docs/CLI.md.
 
+Each option whose value is a number by that help has to have its row in `HasPlainNumbers` of
+crates/cli_words/specs/Numbers.antt and in `check_numbers` of its src/reading.rt, and no other one.
+
     tools/pathd-tools help-texts [--write] [PROGRAM]
 
 Without --write it prints which of them differ, and nothing else. With PROGRAM the help that it
@@ -27,10 +30,13 @@ from pathd_tools.toolbox import parser
 HELP = CRATES / "test_program/stdout"
 DEPLOY = TOP / "deploy"
 CLI = TOP / "docs/CLI.md"
+WORDS = CRATES / "cli_words"
 BEGIN = "<!-- tools/pathd-tools help-texts --write -->"
 WIDTH = 100
 # What is a file among the arguments, and what may come after the words of `ask`.
 FILES = {"DEV", "OLD", "NEW", "WORD"}
+# The values of options that are no numbers, as the help names them.
+TEXTS = {"ADDR", "HEX", "LIST"}
 # The options that take no part in a table: `clap` adds them.
 ADDED = {"--help", "--version"}
 
@@ -208,6 +214,24 @@ def table(commands: Commands) -> str:
     return "\n".join(["| option | what it does (what is so without it) |", "|---|---|", *lines])
 
 
+# The options whose values are numbers
+
+
+def unlike_numbers(commands: Commands) -> list[str]:
+    """Which options are numbers by the help, and have no row in the definition or in the check, or the other way round."""
+    numbers = {it.name[2:] for command in commands.values() for it in command.options() if it.value and it.value not in TEXTS}
+    names = dict(re.findall(r'^pub const (\w+): &str = "([\w-]+)";', (WORDS / "src/lib.rt").read_text(), re.M))
+    rows = {
+        "specs/Numbers.antt": re.findall(r'IsPlainNumber rows \(codes "([\w-]+)"\)', (WORDS / "specs/Numbers.antt").read_text()),
+        "src/reading.rt, check_numbers": [names.get(it, it) for it in re.findall(r"check_number\(alloc, subcommand, options, (\w+)\)", (WORDS / "src/reading.rt").read_text())],
+    }
+    lines = []
+    for place, found in rows.items():
+        lines += [f"crates/cli_words/{place}: no row for --{it}, whose value is a number" for it in sorted(numbers.difference(found))]
+        lines += [f"crates/cli_words/{place}: a row for --{it}, which is no option with a number" for it in sorted(set(found) - numbers)]
+    return lines
+
+
 def main(words: list[str]) -> int:
     options = parser(__doc__)
     options.add_argument("--write", action="store_true", help="write the texts")
@@ -224,7 +248,7 @@ def main(words: list[str]) -> int:
             print(f"deploy/{name}: `tools/pathd-tools help-texts --write` would change it")
             differs = 1
     with tempfile.TemporaryDirectory() as folder:
-        lines = Bash(folder).differences(commands)
+        lines = Bash(folder).differences(commands) + unlike_numbers(commands)
     if wanted.program and commands != commands_by(lambda name: subprocess.run([wanted.program, *([name] if name else []), "--help"], capture_output=True, text=True, check=True).stdout):
         lines.append(f"{wanted.program} prints other help than crates/test_program/stdout has")
     print("".join(it + "\n" for it in lines), end="")
