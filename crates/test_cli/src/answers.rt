@@ -47,8 +47,8 @@ const CHECKPOINTER: MemoryWaits = MemoryWaits {
     checkpointer: true,
 };
 
-/// What a server is doing: whether the store has stopped, which threads wait for memory, and for how
-/// many microseconds a call of the device has been under way.
+/// What a server is doing: whether the store has stopped, which threads wait for memory, and for
+/// how many microseconds a call of the device has been under way.
 type Doing = (bool, MemoryWaits, Option<u64>);
 
 /// What a server is doing, what is asked for, and the answer.

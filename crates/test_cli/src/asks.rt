@@ -11,8 +11,8 @@ use std::process::Abort;
 use std::test::Fail;
 use test_support::digits;
 
-/// A link over which these replies come, a byte at a time, and then the end. A time that has begun is
-/// for one send, or for reading one reply.
+/// A link over which these replies come, a byte at a time, and then the end. A time that has begun
+/// is for one send, or for reading one reply.
 #[derive(Drop)]
 pub(crate) struct Script {
     replies: Vec<u8>,

@@ -1,7 +1,7 @@
-//! Tests of the command line: how its words are read, rows as lines, what a server is asked and what
-//! is printed of its replies, commands over a store whose device, output or memory fails, the page
-//! of a server's numbers and what else its peers are answered, and the error line and the status
-//! with which the program ends. Whole command lines are in `test_program`.
+//! Tests of the command line: how its words are read, rows as lines, what a server is asked and
+//! what is printed of its replies, commands over a store whose device, output or memory fails, the
+//! page of a server's numbers and what else its peers are answered, and the error line and the
+//! status with which the program ends. Whole command lines are in `test_program`.
 #![tactic(auto)]
 
 #[cfg(test)]

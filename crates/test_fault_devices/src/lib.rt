@@ -1,5 +1,5 @@
-//! Devices and files in memory for tests: devices that stop, tear a write or fail a call where a test
-//! wants it, a gate before each sync, and files whose transfers are short.
+//! Devices and files in memory for tests: devices that stop, tear a write or fail a call where a
+//! test wants it, a gate before each sync, and files whose transfers are short.
 //!
 //! To the layer above, each is a `Device` or a `FileCalls` of `sector_dev`, with contracts that say
 //! which call fails and what a stop leaves.

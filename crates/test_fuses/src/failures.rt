@@ -350,7 +350,8 @@ const NONE_FAILED: Failures = Failures {
     is_whole: false,
 };
 
-/// Has a script's run fail at the call of this number, and the openings of the image that it leaves.
+/// Has a script's run fail at the call of this number, and the openings of the image that it
+/// leaves.
 fn failing_at<F: FailingDevices>(
     rt: &impl TestHost,
     alloc: Global,
@@ -380,8 +381,8 @@ fn failing_at<F: FailingDevices>(
     (image, failures)
 }
 
-/// Has it fail at those of these calls that the script has tried, one after the other. An image that
-/// is left twice in a row is opened with failures once.
+/// Has it fail at those of these calls that the script has tried, one after the other. An image
+/// that is left twice in a row is opened with failures once.
 fn tried_runs<F: FailingDevices>(
     rt: &impl TestHost,
     alloc: Global,

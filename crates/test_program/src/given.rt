@@ -120,8 +120,8 @@ impl<R: AllocGlobal + Wait + Clock + Drop> Given<R> {
     }
 
     /// Keeps a text that goes to standard error, and its end: with `ADDRESS` in the place of the
-    /// address, `PORT` in that of a peer's port, `TIME` in that of a time, and without a process that
-    /// it names.
+    /// address, `PORT` in that of a peer's port, `TIME` in that of a time, and without a process
+    /// that it names.
     fn say(&self, text: &str, end: &str) -> io::Result<()> {
         if self.is_stuck {
             for _ in self.host.forever() {

@@ -71,8 +71,8 @@ fn copies_open_to_the_rows(rt: HostRuntime) {
     done(&rt, assert_opens(&host, rt.alloc(), device));
 }
 
-/// The sectors of a copy that are not zero after their beginnings: the title, the checkpoint with its
-/// three rows, and the gate.
+/// The sectors of a copy that are not zero after their beginnings: the title, the checkpoint with
+/// its three rows, and the gate.
 const BEGINNINGS: [(u64, &[u8]); 3] = [
     (
         0,

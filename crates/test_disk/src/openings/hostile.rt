@@ -276,7 +276,8 @@ const OLD_VERSION: Change = Change {
     bytes: &[1],
 };
 
-/// Sees that a device opens to a store of nothing in this state, and makes a checkpoint: the device.
+/// Sees that a device opens to a store of nothing in this state, and makes a checkpoint: the
+/// device.
 fn checkpointed(
     rt: &impl TestHost,
     alloc: Global,

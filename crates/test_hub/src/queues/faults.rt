@@ -322,8 +322,8 @@ const MOST_OF_A_GROUP: u64 = 32;
 /// the queue also if it takes none meanwhile.
 const FITTING: [u64; 2] = [2300, 1152];
 
-/// Sees what commands are answered where the call of this number fails, which is the flusher's first
-/// one, and nothing holds the flusher.
+/// Sees what commands are answered where the call of this number fails, which is the flusher's
+/// first one, and nothing holds the flusher.
 fn assert_first_group<R: Wait + Clock + Threads + Abort + Copy + Drop + Send + Sync>(
     rt: R,
     alloc: Global,

@@ -24,8 +24,8 @@ const ISD_2: u64 = 2 << 48;
 const LAST: u64 = EXPIRY - 1;
 
 /// Puts five down segments, an up segment and a core segment. The ids of those that are down begin
-/// with 0x19, 0x8a, 0xbe and 0xfe, from 1-ff00:0:110 to 1-ff00:0:111, and with 0xe8, from 2-64512 to
-/// 1-ff00:0:110.
+/// with 0x19, 0x8a, 0xbe and 0xfe, from 1-ff00:0:110 to 1-ff00:0:111, and with 0xe8, from 2-64512
+/// to 1-ff00:0:110.
 fn put_seven(alloc: Global, database: &mut PathDb) -> Result<(), Fail> {
     for egress in [4, 1, 3, 2] {
         put(alloc, database, SegType::Down, leaving_by(alloc, egress)?)?;

@@ -82,8 +82,8 @@ fn read_again(alloc: Global, bytes: &[u8], removals: bool) -> Result<Command, Db
     }
 }
 
-/// Whether a command is within its limits and is written as these bytes. Where memory is refused, it
-/// is written again.
+/// Whether a command is within its limits and is written as these bytes. Where memory is refused,
+/// it is written again.
 fn is_written_as(alloc: Global, command: &Command, bytes: &[u8]) -> Result<bool, DbError> {
     if !is_within_limits(command) {
         return Ok(false);

@@ -16,8 +16,8 @@ const UNIT: u64 = 675;
 
 const TYPES: [SegType; 3] = [SegType::Up, SegType::Down, SegType::Core];
 
-/// The worked segment with an exp_time of its first AS, which leaves that AS by this interface. Both
-/// are below 128.
+/// The worked segment with an exp_time of its first AS, which leaves that AS by this interface.
+/// Both are below 128.
 fn leaving(alloc: Global, egress: u8, exp_time: u8) -> Result<Segment, Fail> {
     let mut message = test_support::leaving_by(egress);
     message[EXP_TIME] = exp_time;
@@ -92,8 +92,8 @@ const SHOWN: [(u64, usize); 6] = [
     (EXPIRY + 1, 0),
 ];
 
-/// Looks the rows up by their ends, and by their last AS alone. All 40 are visited, and at most three
-/// more are counted, as the rows that have not expired are visited four at a time.
+/// Looks the rows up by their ends, and by their last AS alone. All 40 are visited, and at most
+/// three more are counted, as the rows that have not expired are visited four at a time.
 fn assert_shown(rt: &impl TestHost, alloc: Global) -> Result<(), Fail> {
     let database = filled(alloc)?;
     let end = IsdAs::from_u64(LAST);

@@ -25,8 +25,8 @@ fn formatted_at<'a, R: Abort + Wait + Clock + Copy + Drop>(
     HeldDevice::new(formatted(&rt, alloc, LEAST), Holds { rt, door })
 }
 
-/// Sees that the door of a device is open, and that the device opens to this number of rows, at this
-/// place.
+/// Sees that the door of a device is open, and that the device opens to this number of rows, at
+/// this place.
 fn assert_left<'a, R: Abort + Wait + Clock + Copy + Drop>(
     rt: R,
     alloc: Global,

@@ -158,7 +158,8 @@ impl Clients for Filling {
     }
 }
 
-// More seats for lookups are wanted than there may be. The server ends as its listener is shut down.
+// More seats for lookups are wanted than there may be. The server ends as its listener is shut
+// down.
 #[test]
 fn each_listener_has_seats_of_its_own(rt: HostRuntime) {
     let alloc = rt.alloc();

@@ -135,8 +135,8 @@ fn assert_answered(rt: &impl Abort, alloc: Global, case: &Case, idle: Option<Dur
     );
 }
 
-// Each answer takes longer than the idle time. Reads and writes end within frames, whose rest comes,
-// and is taken, at once.
+// Each answer takes longer than the idle time. Reads and writes end within frames, whose rest
+// comes, and is taken, at once.
 #[test]
 fn work_of_the_server(rt: HostRuntime) {
     for piece in [22, 1_000, usize::MAX] {

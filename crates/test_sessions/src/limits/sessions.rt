@@ -15,9 +15,9 @@ use std::process::Abort;
 use std::sync::Wait;
 use std::time::Clock;
 
-/// Adds the replies that a peer is sent in a session of these frames, which come at once. The result
-/// says whether the session ends well. The clock of the limits gives first the moment after this
-/// one; that of the service begins at moment 1.
+/// Adds the replies that a peer is sent in a session of these frames, which come at once. The
+/// result says whether the session ends well. The clock of the limits gives first the moment after
+/// this one; that of the service begins at moment 1.
 pub(crate) fn replied<D: Device, N: HubName, R: Wait + Clock + Abort, P: Waiter + Drop>(
     hub: &Hub<D, N, R>,
     senders: &Senders<N>,

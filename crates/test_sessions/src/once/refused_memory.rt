@@ -88,8 +88,8 @@ fn replies_but(alloc: Global, refused: usize, taken: bool) -> Result<Vec<u8>, Fa
     Ok(output)
 }
 
-/// Whether these are the replies where the message of this number is refused memory, and its command
-/// is taken or not.
+/// Whether these are the replies where the message of this number is refused memory, and its
+/// command is taken or not.
 fn are_replies_but(
     alloc: Global,
     refused: usize,

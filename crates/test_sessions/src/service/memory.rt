@@ -215,8 +215,8 @@ fn replies_but(rt: &impl Abort, alloc: Global, refused: usize) -> Vec<u8> {
     joined(rt, alloc, &replies)
 }
 
-/// Whether these are the replies to the lookups of which the one of this number is refused, if there
-/// is one.
+/// Whether these are the replies to the lookups of which the one of this number is refused, if
+/// there is one.
 fn is_replied_but(rt: &impl Abort, alloc: Global, refused: usize, written: &[u8]) -> bool {
     replies_but(rt, alloc, refused).as_slice() == written
 }

@@ -134,8 +134,8 @@ pub(crate) fn served<S: Service, I: Read, W: Write>(
     serve(alloc, input, writer, service, Kinds::WithLists, TURNS)
 }
 
-/// Serves the frames of an input, and adds what is written to `replies`. The result says whether the
-/// session ends well.
+/// Serves the frames of an input, and adds what is written to `replies`. The result says whether
+/// the session ends well.
 pub(crate) fn session<D: Device, N: HubName, R: Wait + Clock, I: Read>(
     hub: &Hub<D, N, R>,
     senders: &Senders<N>,

@@ -136,8 +136,8 @@ fn assert_place(rt: &Host<impl Abort>, alloc: Global, device: MemDevice, made: u
     assert_same(rt, &contents, &wanted, &(made, tear.keep, tear.fill));
 }
 
-/// Sees what a stop with this tear leaves, which lets this number of calls pass: how many steps were
-/// made; none where opening failed already.
+/// Sees what a stop with this tear leaves, which lets this number of calls pass: how many steps
+/// were made; none where opening failed already.
 fn stopped_at(rt: &Host<impl Abort>, alloc: Global, calls: u64, tear: Tear) -> Option<u64> {
     let fuse = FuseDevice::new(old_store(rt, alloc), calls, tear);
     let (made, device) = stopped_groups(rt, alloc, fuse);

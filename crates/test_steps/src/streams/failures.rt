@@ -176,9 +176,9 @@ fn failures(rt: &Host<impl Abort>, alloc: Global, device: MemDevice, is_prepared
 }
 
 /// Of `begin`: the front, a group's gate, its first sector and its payload, the gate and the sector
-/// of the seal, the 641 sectors of the old area in eleven pieces, and then two pieces of it again for
-/// the first 256 sectors: rows that are kept together, four and then one. Of two chunks: two writes,
-/// and between them two pieces of the old area, with two rows each.
+/// of the seal, the 641 sectors of the old area in eleven pieces, and then two pieces of it again
+/// for the first 256 sectors: rows that are kept together, four and then one. Of two chunks: two
+/// writes, and between them two pieces of the old area, with two rows each.
 const FAILED: Calls = Calls {
     prepares: 0,
     begins: 19,
