@@ -113,6 +113,8 @@ THINGS = [
     program("stunnel", "stunnel4"),
     program("openssl", "openssl"),
     program("btrfs", "btrfs-progs", "mkfs.btrfs"),
+    program("xfs", "xfsprogs", "mkfs.xfs"),
+    program("lvm", "lvm2", "lvcreate"),
     modules("python3-venv", "ensurepip, setuptools, wheel", "python3-venv python3-setuptools python3-wheel"),
     program("gcc", "gcc"),
     program("g++", "g++"),

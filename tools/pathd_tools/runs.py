@@ -22,7 +22,7 @@ from pathlib import Path
 from typing import Self
 
 from pathd_model import model
-from pathd_tools import TOP, messages, toolbox
+from pathd_tools import TOP, messages, need, toolbox
 
 NATIVE = TOP / "tools" / "native"
 PROGRAM = TOP / "crates/pathd/out/pathd"
@@ -62,8 +62,7 @@ def program_of(path: str | None) -> str:
 
 def compiled(source: str, folder: Path) -> str:
     """A library to be preloaded, built from a C file of tools/native/."""
-    if shutil.which("cc") is None:
-        raise SystemExit("no C compiler: apt-get install gcc libc6-dev")
+    need.require("gcc")
     library = folder / (Path(source).stem + ".so")
     subprocess.run(["cc", "-shared", "-fPIC", "-O1", str(NATIVE / source), "-o", str(library), "-ldl", "-lpthread"], check=True)
     return str(library)

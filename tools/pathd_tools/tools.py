@@ -46,8 +46,8 @@ CHECKS = [
     Tool("network", "network.sh", "the tunnel and the proxies of docs/NETWORK.md, in two network namespaces; as root"),
     Tool("plots-shown", "checks.plots_shown", "the page of plots in headless Chromium, beside a server that is loaded, killed and started again; --pictures"),
     Tool("alert-rules", "checks.alert_rules", "the alert rules and their tests, and the dashboard's expressions, by promtool"),
-    Tool("package", "package.sh", "makes the packages with their checksums, and installs and removes Debian's in a new system; as root"),
-    Tool("units", "units.sh", "the steps of docs/operating and the units of deploy/ in a container; as root"),
+    Tool("package", "checks.package", "makes the packages with their checksums, and installs and removes Debian's in a new system; as root"),
+    Tool("units", "checks.units", "the steps of docs/operating and the units of deploy/ in a container; as root"),
     Tool("units-inside", "checks.units_inside", "the steps alone, on a system that is thrown away; as root"),
 ]
 

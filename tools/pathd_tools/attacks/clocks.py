@@ -20,6 +20,7 @@ from pathlib import Path
 
 from pathd_model import model
 from pathd_tools import messages, runs
+from pathd_tools.systems import until
 
 LAYOUT = model.Layout(4096, 2048)
 WORDS = ["--purge", "1", "--status", "127.0.0.1:0"]
@@ -54,12 +55,7 @@ def numbers(server: runs.Server) -> dict[str, float]:
 
 def is_soon(server: runs.Server, name: str, least: float, most: float, seconds: float) -> bool:
     """Whether a number lies between two within so many seconds."""
-    until = time.monotonic() + seconds
-    while not least <= numbers(server)[name] <= most:
-        if time.monotonic() > until:
-            return False
-        time.sleep(0.05)
-    return True
+    return until(lambda: least <= numbers(server)[name] <= most, seconds)
 
 
 def register(server: runs.Server, count: int) -> None:

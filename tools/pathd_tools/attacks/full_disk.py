@@ -14,13 +14,12 @@ ends with the status 1 where something else comes.
 from __future__ import annotations
 
 import os
-import subprocess
-import time
 from collections import Counter
 
 from pathd_model import model
-from pathd_tools import runs
+from pathd_tools import need, runs
 from pathd_tools.attacks.refused_calls import STOPPED, Worlds, Wrong, called, hold_session
+from pathd_tools.systems import must, until
 
 SMALL = model.Layout(2, 516)
 PAGE = 4096
@@ -53,25 +52,18 @@ def hold_round(program: str, folder: str, pages: int) -> str:
 
 def says_stopped(server: runs.Server, is_expected: bool) -> bool:
     """Whether the server says that its store has stopped. A thread of its own prints that, so it may come after the replies."""
-    until = time.monotonic() + (SECONDS if is_expected else 0)
-    while STOPPED not in server.notices.read_text():
-        if time.monotonic() > until:
-            return False
-        time.sleep(0.01)
-    return True
+    return until(lambda: STOPPED in server.notices.read_text(), SECONDS if is_expected else 0)
 
 
 def main(words: list[str]) -> int:
     """Serves round after round."""
     options, program = runs.begin(__doc__, words, rounds=24)
-    if os.geteuid() != 0:
-        raise SystemExit("not root: a file system can't be mounted")
+    need.require("root")
     counts: Counter = Counter()
     faults = []
     with runs.scratch() as top:
         folder = str(top / "small")
-        os.mkdir(folder)
-        subprocess.run(["mount", "-t", "tmpfs", "-o", "size=1m", "tmpfs", folder], check=True)
+        must("mount", "--mkdir", "-t", "tmpfs", "-o", "size=1m", "tmpfs", folder)
         try:
             for number in range(options.rounds):
                 try:
@@ -80,8 +72,5 @@ def main(words: list[str]) -> int:
                     faults.append(str(fault))
                     break
         finally:
-            subprocess.run(["umount", folder], check=True)
-    for fault in faults:
-        print(f"  {fault}")
-    print(f"{sum(counts.values())} rounds: {counts['stopped']} stopped, {counts['had room']} had room, {len(faults)} went wrong")
-    return 1 if faults else 0
+            must("umount", folder)
+    return runs.end(options, f"{sum(counts.values())} rounds: {counts['stopped']} stopped, {counts['had room']} had room, {len(faults)} went wrong", faults)

@@ -12,13 +12,13 @@ import re
 import socket
 import subprocess
 import time
-from collections.abc import Callable
 from concurrent.futures import ThreadPoolExecutor
 from pathlib import Path
 
 from pathd_model import model
 from pathd_tools import TOP, runs
 from pathd_tools.pages.blocks import blocks
+from pathd_tools.systems import OWN_MACHINE, Failed, child_of, must, run, wait_for
 
 PAGE = TOP / "docs" / "operating" / "replicated.md"
 COUNT = 3
@@ -49,28 +49,9 @@ glusterd --no-daemon --log-level WARNING
 """
 
 
-class Failure(Exception):
-    """Something that the trial itself needs has failed."""
-
-
-def wait_for(is_there: Callable[[], bool], seconds: float, what: str) -> float:
-    """Waits until something is so; how long that took."""
-    begun = time.monotonic()
-    while not is_there():
-        if time.monotonic() > begun + seconds:
-            raise Failure(f"{what}: not within {seconds:.0f} s")
-        time.sleep(0.1)
-    return time.monotonic() - begun
-
-
 def block_of(first: str) -> str:
     """The block of the page that begins with these words."""
     return next(it.text for it in blocks(PAGE) if it.text.startswith(first))
-
-
-def call(*words: str) -> None:
-    """Runs a command of the tool's own namespaces."""
-    subprocess.run(words, check=True, stdout=subprocess.DEVNULL)
 
 
 class Machine:
@@ -92,25 +73,23 @@ class Machine:
 
     def start(self) -> None:
         """Starts the machine, with its links."""
-        words = ["unshare", "--net", "--mount", "--pid", "--fork", "--kill-child", "--propagation", "private", "sh", str(self.folder / "init.sh")]
         with open(self.folder / "said", "ab") as said:
-            self._holder = subprocess.Popen(words, stdin=subprocess.PIPE, stdout=said, stderr=said)
-        children = Path(f"/proc/{self._holder.pid}/task/{self._holder.pid}/children")
-        wait_for(lambda: bool(children.read_text().split()), 10, "a machine")
-        self.pid = children.read_text().split()[0]
+            self._holder = subprocess.Popen([*OWN_MACHINE, "sh", str(self.folder / "init.sh")], stdin=subprocess.PIPE, stdout=said, stderr=said)
+        wait_for(lambda: child_of(self._holder, "sh") != "", 10, "a machine")
+        self.pid = child_of(self._holder, "sh")
         wait_for(lambda: Path(f"/proc/{self.pid}/ns/net").readlink() != Path("/proc/self/ns/net").readlink(), 10, "a network")
         self._link(f"s{self.number}", "eth0", f"10.77.0.{self.number}/24")
         self._link(f"c{self.number}", "eth1", f"{self.address}/24")
-        call("ip", "link", "set", f"s{self.number}", "master", "storage")
-        call("ip", "addr", "add", f"10.78.{self.number}.1/24", "dev", f"c{self.number}")
+        must("ip", "link", "set", f"s{self.number}", "master", "storage")
+        must("ip", "addr", "add", f"10.78.{self.number}.1/24", "dev", f"c{self.number}")
         self.run("ip", "link", "set", "lo", "up")
         self._holder.stdin.write(b"\n")
         self._holder.stdin.close()
         wait_for(lambda: self.gluster("pool", "list", may_fail=True) != "", 60, "glusterd")
 
     def _link(self, outside: str, inside: str, address: str) -> None:
-        call("ip", "link", "add", outside, "type", "veth", "peer", "name", inside, "netns", self.pid)
-        call("ip", "link", "set", outside, "up")
+        must("ip", "link", "add", outside, "type", "veth", "peer", "name", inside, "netns", self.pid)
+        must("ip", "link", "set", outside, "up")
         self.run("ip", "addr", "add", address, "dev", inside)
         self.run("ip", "link", "set", inside, "up")
 
@@ -120,9 +99,9 @@ class Machine:
 
     def run(self, *words: str, may_fail: bool = False) -> str:
         """Runs a command within the machine; what it prints, or nothing where it fails and may."""
-        done = subprocess.run(self.within(*words, is_own=True), capture_output=True, timeout=COMMAND, text=True, errors="replace", check=False)
+        done = run(*self.within(*words, is_own=True), timeout=COMMAND)
         if done.returncode and not may_fail:
-            raise Failure(f"m{self.number}: {' '.join(words)}: {done.stdout}{done.stderr}")
+            raise Failed(f"m{self.number}: {' '.join(words)}: {done.stdout}{done.stderr}")
         return "" if done.returncode else done.stdout
 
     def gluster(self, *words: str, may_fail: bool = False) -> str:
@@ -150,11 +129,11 @@ class Machine:
 
     def cut(self) -> None:
         """Takes the machine off the network of the volume: what is sent is lost."""
-        call("ip", "link", "set", f"s{self.number}", "nomaster")
+        must("ip", "link", "set", f"s{self.number}", "nomaster")
 
     def join(self) -> None:
         """Puts it there again."""
-        call("ip", "link", "set", f"s{self.number}", "master", "storage")
+        must("ip", "link", "set", f"s{self.number}", "master", "storage")
 
     def kill_brick(self) -> None:
         """Kills the process that has the machine's part of the volume."""
@@ -209,8 +188,8 @@ class Volume:
 
     def __init__(self, program: str, folder: Path) -> None:
         self._program = program
-        call("ip", "link", "add", "storage", "type", "bridge")
-        call("ip", "link", "set", "storage", "up")
+        must("ip", "link", "add", "storage", "type", "bridge")
+        must("ip", "link", "set", "storage", "up")
         self.machines = [Machine(number, folder) for number in range(1, COUNT + 1)]
         with ThreadPoolExecutor() as starting:
             list(starting.map(Machine.start, self.machines))
@@ -231,13 +210,13 @@ class Volume:
             if server.port:
                 return server, time.monotonic() - begun
             if not re.search(RETRIED, server.said(), re.M) or time.monotonic() > begun + TAKING_OVER:
-                raise Failure(f"m{machine.number} has not taken over after {time.monotonic() - begun:.0f} s: {server.said()}")
+                raise Failed(f"m{machine.number} has not taken over after {time.monotonic() - begun:.0f} s: {server.said()}")
             time.sleep(0.2)
 
     def is_refused(self, machine: Machine) -> bool:
         """Whether a machine can't open the store, as another one has it."""
-        done = subprocess.run(machine.within(self._program, "status", str(STORE)), capture_output=True, timeout=COMMAND, check=False)
-        return done.returncode == 1 and TAKEN in done.stderr.decode()
+        done = run(*machine.within(self._program, "status", str(STORE)), timeout=COMMAND)
+        return done.returncode == 1 and TAKEN in done.stderr
 
     def restart_bricks(self) -> None:
         """Starts the bricks that have ended."""
@@ -248,7 +227,7 @@ class Volume:
         took = wait_for(self._is_whole, REPAIR, "a repair")
         sums = {hashlib.sha256(it.brick.read_bytes()).hexdigest() for it in self.machines}
         if len(sums) != 1:
-            raise Failure("the three parts of the volume have different bytes")
+            raise Failed("the three parts of the volume have different bytes")
         return took
 
     def _is_whole(self) -> bool:

@@ -33,7 +33,6 @@ import multiprocessing
 import os
 import random
 import signal
-import subprocess
 import time
 from collections import Counter
 from contextlib import ExitStack
@@ -41,15 +40,14 @@ from dataclasses import dataclass, field, replace
 from pathlib import Path
 
 from pathd_model import model
-from pathd_tools import TOP, messages, need, runs, toolbox
+from pathd_tools import messages, need, runs, systems, toolbox
 from pathd_tools.attacks import histories
 from pathd_tools.attacks.histories import Asked
-from pathd_tools.attacks.machines import Failure, Machine, Server, Volume, wait_for
+from pathd_tools.attacks.machines import Machine, Server, Volume
+from pathd_tools.systems import Failed, wait_for
 
 KINDS = ["brick", "server", "split", "machine", "quiet", "apart"]
 SPLITS = ["split", "quiet"]
-INSIDE = "PATHD_REPLICATED"
-NAMESPACES = ["setpriv", "--pdeathsig", "KILL", "unshare", "--net", "--mount", "--pid", "--fork", "--kill-child", "--mount-proc", "--propagation", "private"]
 # How long replies may be away while one replica is, how long after a split a server is asked on, and how long nobody asks before one, in seconds.
 STANDSTILL, AFTERWARDS, SILENCE = 60.0, 10.0, 3.0
 # The store stopped before the command was committed; it is stopped, and takes none.
@@ -200,7 +198,7 @@ def tried(options: argparse.Namespace) -> list[str]:
             begun = time.monotonic()
             try:
                 said = trial.round(number)
-            except Failure as failure:
+            except Failed as failure:
                 checker.fault(str(failure))
                 said = str(failure)
             print(f"  round {number + 1}: {said} ({time.monotonic() - begun:.0f} s)", flush=True)
@@ -223,9 +221,7 @@ def main(words: list[str]) -> int:
     parser.add_argument("--ahead", type=int, default=8, help="how many requests a session sends at one time at the most")
     options = parser.parse_args(words)
     need.require("root", "glusterd", "ip")
-    if not os.environ.get(INSIDE):
-        tool = [TOP / "tools" / "pathd-tools", "replicated", *words]
-        return subprocess.run([*NAMESPACES, *tool], env={**os.environ, INSIDE: "1"}, check=False).returncode
+    systems.go_alone([*systems.OWN_MACHINE, "--mount-proc"], "replicated", words)
     print(f"{runs.commit_name(runs.program_of(options.program))}, seed {options.seed}", flush=True)
     begun = time.monotonic()
     faults = tried(options)

@@ -40,33 +40,18 @@ from dataclasses import dataclass
 from pathlib import Path
 
 from pathd_model import model
-from pathd_tools import messages, runs
+from pathd_tools import messages, need, runs
+from pathd_tools.systems import must
 
 LAYOUT = model.Layout(64, 516)
 KEYS = 60
 # The bytes of a file system, and of a loop device that is the store.
 DISK_BYTES, LOOP_BYTES = 512 << 20, 1 << 20
-NEEDED = {
-    "loop": "losetup",
-    "btrfs": "mkfs.btrfs",
-    "reflink": "mkfs.btrfs",
-    "plain": "mkfs.btrfs",
-    "xfs": "mkfs.xfs",
-    "lvm": "lvcreate",
-    "lvm-ext4": "lvcreate",
-}
+NEEDED = {"loop": "losetup", "btrfs": "btrfs", "reflink": "btrfs", "plain": "btrfs", "xfs": "xfs", "lvm": "lvm", "lvm-ext4": "lvm"}
 # The refusal of a command after which the rows would have no room: it takes no place.
 FULL = b"\xff\x52"
 # A command of a session comes after a reply, and after at most this number of seconds.
 PAUSE = 0.002
-
-
-def must(*words: object) -> str:
-    """What a command prints that has to succeed."""
-    done = subprocess.run([str(word) for word in words], capture_output=True, text=True, check=False)
-    if done.returncode:
-        raise SystemExit(f"{' '.join(map(str, words))}: {done.stderr}")
-    return done.stdout
 
 
 @dataclass(frozen=True)
@@ -137,7 +122,6 @@ class Place:
         self.device = must("losetup", "-f", "--show", self.disk).strip()
         self.group = f"pathd-snapshot-{os.getpid()}"
         self.live = folder / "live"
-        self.live.mkdir()
         self.store = self.live / "store"
 
     def make(self) -> None:
@@ -159,14 +143,13 @@ class Place:
         else:
             must("mkfs.btrfs", "-q", self.device)
             top = self.folder / "top"
-            top.mkdir()
             self._mount(self.device, top)
             must("btrfs", "subvolume", "create", top / "live")
             self.live = top / "live"
             self.store = self.live / "store"
 
     def _mount(self, device: object, folder: Path) -> None:
-        must("mount", device, folder)
+        must("mount", "--mkdir", device, folder)
         self.mounted.append(folder)
 
     def _cut(self, taken: Path) -> None:
@@ -199,7 +182,6 @@ class Place:
         if self.kind != "lvm-ext4":
             return taken
         folder = self.folder / f"mounted{number}"
-        folder.mkdir()
         self._mount(taken, folder)
         return folder / "store"
 
@@ -287,10 +269,7 @@ class Judge:
 def main(words: list[str]) -> int:
     """Takes the snapshots, and opens them."""
     options, program = runs.begin(__doc__, words, kind=["btrfs", *sorted(set(NEEDED) - {"btrfs"})], snapshots=40, sessions=6, seed=1)
-    if os.geteuid() != 0:
-        raise SystemExit("not root: a file system can't be mounted")
-    if shutil.which(NEEDED[options.kind]) is None:
-        raise SystemExit(f"no {NEEDED[options.kind]}: apt-get install btrfs-progs xfsprogs lvm2 mount")
+    need.require("root", NEEDED[options.kind])
     faults = []
     with place_of(options.kind) as place:
         runs.format_store(program, place.store, LAYOUT)

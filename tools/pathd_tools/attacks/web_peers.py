@@ -48,6 +48,7 @@ from pathd_model import model
 from pathd_tools import TOP, messages, need, runs
 from pathd_tools.attacks import peers, web_frames as web, web_requests as requests
 from pathd_tools.attacks.web_crowd import LONGEST, Crowd, Peer
+from pathd_tools.systems import until
 
 BOUND = (768 + 64) * 1024
 # The connections of the peers' address, and the seconds of a call, which leave it time to be refused.
@@ -280,12 +281,8 @@ class Attack:
 
     def settle(self, descriptors: int) -> None:
         """Sees that nothing stays taken."""
-        until = time.monotonic() + LONGEST
-        while taken := self.gateway.taken(descriptors):
-            if time.monotonic() > until:
-                self.faults.append(f"the gateway has {taken} after {LONGEST:.0f} seconds")
-                break
-            time.sleep(0.2)
+        if not until(lambda: not self.gateway.taken(descriptors), LONGEST):
+            self.faults.append(f"the gateway has {self.gateway.taken(descriptors)} after {LONGEST:.0f} seconds")
         seated = peers.Attack(self.server, self.witness, 0, 0)
         for connection in seated.seated(SEATS) + seated.seated(LOOKUP_SEATS, self.server.lookups_port()):
             connection.close()

@@ -19,6 +19,7 @@ import fcntl
 import os
 import re
 import resource
+import shutil
 import signal
 import socket
 import subprocess
@@ -28,6 +29,7 @@ from pathlib import Path
 from pathd_model import model
 from pathd_tools import messages, runs
 from pathd_tools.attacks.hanging import KINDS, Device
+from pathd_tools.systems import until
 
 SMALL = model.Layout(2, 516)
 # A lookup with an empty message, and its refusal; and the refusal of a peer without a place.
@@ -157,6 +159,8 @@ def refused_thread(program: str, store: Path) -> None:
         os.setgid(NOBODY)
         os.setuid(NOBODY)
 
+    # The other user may have no access to the program's own folder.
+    program = shutil.copy(program, store.with_suffix(".program"))
     os.chown(store, NOBODY, NOBODY)
     os.chmod(store.parent, 0o755)
     lines = store.with_suffix(".lines")
@@ -259,11 +263,8 @@ def far_ahead(program: str, store: Path) -> None:
         for _ in range(FAR_PEERS):
             with connected(port) as peer:
                 peer.sendall(data)
-        deadline = time.monotonic() + PATIENCE
-        while (seats := number_at(at, "pathd_sessions")) != 0:
-            if time.monotonic() > deadline:
-                raise Wrong(f"{seats} seats are taken by peers that have closed")
-            time.sleep(0.1)
+        if not until(lambda: number_at(at, "pathd_sessions") == 0, PATIENCE):
+            raise Wrong("seats are taken by peers that have closed")
     finally:
         process.kill()
         process.wait()

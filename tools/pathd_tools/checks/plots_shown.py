@@ -1,6 +1,6 @@
 """Has headless Chromium show the page of plots of a running server, and looks at what it shows.
 
-    tools/pathd-tools plots-shown [PROGRAM] [--seconds S] [--pictures FOLDER]
+    tools/pathd-tools plots-shown [PROGRAM] [--seconds S] [--pictures FOLDER] [--system FOLDER]
 
 A load is put on the server meanwhile. The page has to show that commands are accepted, and a value
 for each plot, without an error and without a request to anything else. It has to fit a screen of 360
@@ -8,16 +8,18 @@ pixels. The server is killed then: the page has to say that it does not answer. 
 and the page has to go on by itself.
 
 --pictures writes plots.png and plots-dark.png into a folder, after S seconds of the load [10]. Those
-of docs/ are made with 280 seconds. It needs Debian's chromium, gcc and Python 3, and stays on the
-loopback.
+of docs/ are made with 280 seconds. --system names the root of a system of Debian with Chromium, which
+is copied; without it Chromium is the machine's own. It needs Debian's chromium, or root and that
+system, gcc and Python 3, and stays on the loopback.
 """
 from __future__ import annotations
 
+import argparse
 import base64
 import json
 import os
 import subprocess
-import sys
+import tempfile
 import threading
 import time
 from collections.abc import Callable, Iterator
@@ -29,6 +31,7 @@ from typing import Any
 from pathd_model import model
 from pathd_tools import need, runs, toolbox
 from pathd_tools.load.load import compiled
+from pathd_tools.systems import Failed, Root, wait_for
 
 # A store in which a load makes checkpoints.
 LAYOUT = model.Layout(2048, 20480)
@@ -46,19 +49,15 @@ WELL, AWAY = "commands are accepted", "the server has not answered since"
 DESK, PHONE = (1200, 900), (360, 740)
 
 
-class Wrong(Exception):
-    """Something else was shown."""
-
-
 class Browser:
     """A page in headless Chromium, which messages of its protocol ask over two pipes."""
 
-    def __init__(self, profile: Path) -> None:
+    def __init__(self, within: Callable[..., list[str]], profile: Path) -> None:
         asked, self._asking = os.pipe()
         self._told, telling = os.pipe()
         # Chromium reads at the descriptor 3, and writes at 4.
         moved = ["bash", "-c", f'exec "$@" 3<&{asked} 4>&{telling}', "bash"]
-        words = ["chromium", "--headless=new", "--no-sandbox", "--disable-gpu", "--remote-debugging-pipe", f"--user-data-dir={profile}"]
+        words = within("chromium", "--headless=new", "--no-sandbox", "--disable-gpu", "--remote-debugging-pipe", f"--user-data-dir={profile}")
         self.process = subprocess.Popen([*moved, *words], pass_fds=(asked, telling), stdin=subprocess.DEVNULL, stderr=subprocess.DEVNULL)
         os.close(asked)
         os.close(telling)
@@ -78,7 +77,7 @@ class Browser:
             told = json.loads(self._next())
             if told.get("id") == self._count:
                 if "error" in told:
-                    raise Wrong(f"{method}: {told['error']['message']}")
+                    raise Failed(f"{method}: {told['error']['message']}")
                 return told["result"]
             self.events.append(told)
 
@@ -87,7 +86,7 @@ class Browser:
         while b"\0" not in self._rest:
             piece = os.read(self._told, 1 << 16)
             if not piece:
-                raise Wrong("the browser ended")
+                raise Failed("the browser ended")
             self._rest += piece
         message, _, self._rest = self._rest.partition(b"\0")
         return message
@@ -120,19 +119,10 @@ class Browser:
 
     def end(self) -> None:
         """Ends the browser."""
-        with suppress(Wrong, OSError):
+        with suppress(Failed, OSError):
             self.ask("Browser.close")
         self.process.kill()
         self.process.wait()
-
-
-def awaited(holds: Callable[[], bool], what: str) -> None:
-    """Waits until something holds."""
-    end = time.monotonic() + PATIENCE
-    while not holds():
-        if time.monotonic() > end:
-            raise Wrong(f"the page does not show {what}")
-        time.sleep(0.2)
 
 
 @contextmanager
@@ -162,7 +152,7 @@ def loaded(program: Path, port: int) -> Iterator[None]:
 
 def await_state(browser: Browser, start: str) -> None:
     """Waits until the page says so of the server."""
-    awaited(lambda: str(browser.value(STATE)).startswith(start), start)
+    wait_for(lambda: str(browser.value(STATE)).startswith(start), PATIENCE, start)
 
 
 def look(browser: Browser, at: str) -> None:
@@ -170,40 +160,49 @@ def look(browser: Browser, at: str) -> None:
     browser.resize(DESK)
     browser.ask("Page.navigate", url=at)
     await_state(browser, WELL)
-    awaited(lambda: "\u2013" not in str(browser.value(VALUES)), "a value for each plot")
+    wait_for(lambda: "\u2013" not in str(browser.value(VALUES)), PATIENCE, "a value for each plot")
     browser.resize(PHONE)
     width = browser.value("document.documentElement.scrollWidth")
     if width > PHONE[0]:
-        raise Wrong(f"the page is {width} pixels wide on a screen of {PHONE[0]}")
+        raise Failed(f"the page is {width} pixels wide on a screen of {PHONE[0]}")
     browser.resize(DESK)
 
 
-def try_page(program: str, folder: Path, seconds: float, pictures: Path | None) -> None:
+@contextmanager
+def started(folder: Path, system: str | None) -> Iterator[Browser]:
+    """A browser of the machine's own Chromium, or of that of a copy of another system."""
+    with tempfile.TemporaryDirectory(prefix="pathd-plots.") as root:
+        within = Root.made(Path(root) / "root", system).within if system else lambda *words: list(words)
+        browser = Browser(within, Path("/tmp/profile") if system else folder / "profile")
+        try:
+            yield browser
+        finally:
+            browser.end()
+
+
+def try_page(program: str, folder: Path, options: argparse.Namespace) -> None:
     """Shows the page of a loaded server, and of one that is killed and started again."""
     store = folder / "store"
     runs.format_store(program, store, LAYOUT)
     status = runs.free_port()
     at = f"http://127.0.0.1:{status}/"
     words = ["--status", f"127.0.0.1:{status}"]
-    browser = Browser(folder / "profile")
-    try:
+    with started(folder, options.system) as browser:
         with runs.Server(program, store, words) as server, loaded(compiled(folder), server.port):
             look(browser, at)
-            end = time.monotonic() + seconds
+            end = time.monotonic() + options.seconds
             while time.monotonic() < end:
                 await_state(browser, WELL)
                 time.sleep(0.5)
-            for name, scheme in [("plots", "light"), ("plots-dark", "dark")] if pictures else []:
-                browser.write_picture(pictures / f"{name}.png", scheme)
+            for name, scheme in [("plots", "light"), ("plots-dark", "dark")] if options.pictures else []:
+                browser.write_picture(options.pictures / f"{name}.png", scheme)
             faults = browser.faults()
         await_state(browser, AWAY)
         with runs.Server(program, store, words):
             await_state(browser, WELL)
         others = {it for it in browser.asked_for() if it not in (at, f"{at}metrics", f"{at}readyz")}
-    finally:
-        browser.end()
     if faults or others:
-        raise Wrong(f"the page has said {faults}, and has asked for {sorted(others)}")
+        raise Failed(f"the page has said {faults}, and has asked for {sorted(others)}")
 
 
 def main(words: list[str]) -> int:
@@ -212,12 +211,10 @@ def main(words: list[str]) -> int:
     parser.add_argument("program", nargs="?", metavar="PROGRAM", help="the built program [crates/pathd/out/pathd]")
     parser.add_argument("--seconds", type=float, default=10, help="how long the load is put on before the pictures are made [%(default)s]")
     parser.add_argument("--pictures", type=Path, metavar="FOLDER", help="write the pictures to this folder")
+    parser.add_argument("--system", metavar="FOLDER", help="a system of Debian with Chromium")
     options = parser.parse_args(words)
-    need.require("chromium", "gcc")
-    try:
-        with runs.scratch() as folder:
-            try_page(runs.program_of(options.program), folder, options.seconds, options.pictures)
-    except Wrong as wrong:
-        print(wrong, file=sys.stderr)
-        return 1
+    need.require("root" if options.system else "chromium", "gcc")
+    program = runs.program_of(options.program)
+    with runs.scratch() as folder:
+        try_page(program, folder, options)
     return 0

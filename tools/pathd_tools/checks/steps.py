@@ -31,6 +31,7 @@ from pathlib import Path
 from pathd_model import model
 from pathd_tools import TOP, need, runs, toolbox
 from pathd_tools.pages.blocks import Block, blocks
+from pathd_tools.systems import until
 
 NAME = "steps"
 # The pages, and whether a server of DEV runs beside the blocks.
@@ -83,11 +84,8 @@ class Shell:
         """Waits until these lines were printed in this order, with others between them."""
         lines = [".*".join(re.escape(part) for part in line.split("..")) for line in wanted.splitlines()]
         pattern = re.compile("^" + r"$(?:.*\n)*?^".join(lines) + "$", re.M)
-        end = time.monotonic() + PRINTED
-        while not pattern.search(self.text(begin)):
-            if time.monotonic() > end:
-                raise Failed(f"this was printed:\n{self.text(begin)}and not:\n{wanted}")
-            time.sleep(0.02)
+        if not until(lambda: bool(pattern.search(self.text(begin))), PRINTED):
+            raise Failed(f"this was printed:\n{self.text(begin)}and not:\n{wanted}")
 
     def close(self) -> None:
         """Ends it, and the servers that its blocks have started."""

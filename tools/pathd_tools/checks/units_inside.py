@@ -25,7 +25,7 @@ import subprocess
 import tempfile
 import time
 import urllib.request
-from collections.abc import Callable
+from contextlib import suppress
 from pathlib import Path
 
 from pathd_model import model
@@ -33,6 +33,7 @@ from pathd_tools import TOP, messages, runs, toolbox
 from pathd_tools.checks import steps
 from pathd_tools.pages.blocks import Block, blocks
 from pathd_tools.pages.pages import pages
+from pathd_tools.systems import SHELL, Tally, must, run, until
 
 DOCS = TOP / "docs"
 NAME = "units"
@@ -60,38 +61,7 @@ LASTS = 675 * 64 // 2
 FULL, FULL_OF_LOOKUPS = 48, 16
 
 
-class Steps:
-    """What was tried, and how often it came out otherwise."""
-
-    def __init__(self) -> None:
-        self.count = self.wrong = self.left_out = 0
-
-    def expect(self, what: str, is_so: bool, seen: object = "") -> None:
-        """Notes a step."""
-        self.count += 1
-        self.wrong += not is_so
-        print(f"{'ok' if is_so else 'WRONG'}: {what}" + (f": {seen}" if seen != "" and not is_so else ""), flush=True)
-
-    def leave_out(self, what: str, why: str) -> None:
-        """Notes a step that can't be tried here."""
-        self.left_out += 1
-        print(f"left out: {what}: {why}", flush=True)
-
-
-STEPS = Steps()
-
-
-def run(*words: object, **options: object) -> subprocess.CompletedProcess:
-    """Runs a command to its end, with what it prints as text."""
-    return subprocess.run([str(word) for word in words], capture_output=True, text=True, check=False, **options)
-
-
-def must(*words: object) -> str:
-    """What a command prints that has to succeed."""
-    done = run(*words)
-    if done.returncode:
-        raise SystemExit(f"{' '.join(map(str, words))}: status {done.returncode}: {done.stdout}{done.stderr}")
-    return done.stdout
+STEPS = Tally()
 
 
 # The places of the blocks that were carried out.
@@ -113,23 +83,13 @@ def run_block(page: str, heading: str, number: int = 0) -> subprocess.CompletedP
     """Runs a block of a page as it is written, at the top of the repository."""
     chosen = block(page, heading, number)
     CARRIED_OUT.add(chosen.place)
-    return run("bash", "-euo", "pipefail", "-c", chosen.text, cwd=TOP)
+    return run(*SHELL, chosen.text, cwd=TOP)
 
 
 def compare_blocks() -> None:
     """Whether each block that is marked by the name of this tool was carried out."""
     marked = {it.place for page in pages() for it in blocks(page) if it.how == NAME}
     STEPS.expect("each block of a page that names `units` was carried out, and no other", marked == CARRIED_OUT, marked ^ CARRIED_OUT)
-
-
-def until(is_so: Callable[[], bool], seconds: float = 60) -> bool:
-    """Waits until something is so, and answers whether it came to be."""
-    end = time.monotonic() + seconds
-    while time.monotonic() < end:
-        if is_so():
-            return True
-        time.sleep(0.1)
-    return is_so()
 
 
 def property_of(name: str, unit: str = "pathd.service") -> str:
@@ -156,10 +116,29 @@ def is_down() -> bool:
     return property_of("ActiveState") in ("inactive", "failed")
 
 
+def begin(unit: str = "pathd.service") -> bool:
+    """Starts a unit anew, without a count of earlier starts, and answers whether it started."""
+    run("systemctl", "reset-failed", unit)
+    return run("systemctl", "start", unit).returncode == 0
+
+
 def start() -> bool:
-    """Starts the unit anew, without a count of earlier starts."""
-    run("systemctl", "reset-failed", "pathd")
-    must("systemctl", "start", "pathd")
+    """Starts the unit anew, and waits until it listens."""
+    return begin() and until(is_up)
+
+
+def stays_down() -> tuple[str, ...]:
+    """The state, the status and the starts of the unit, once it has failed to start and time has passed in which it would start again."""
+    begin()
+    until(is_down)
+    time.sleep(7)
+    return tuple(property_of(name) for name in ("ActiveState", "ExecMainStatus", "NRestarts"))
+
+
+def restart(**settings: object) -> bool:
+    """Restarts the unit with these settings, and waits until it listens."""
+    set_settings(**settings)
+    must("systemctl", "restart", "pathd")
     return until(is_up)
 
 
@@ -184,10 +163,10 @@ def set_settings(**settings: object) -> None:
     SETTINGS.write_text("".join(line + "\n" for line in lines))
 
 
-def journal(unit: str, since: float) -> str:
-    """What a unit wrote since a moment of this run."""
+def journal(unit: str, since: float, *more: str) -> str:
+    """What a unit wrote since a moment of this run, of which further words of journalctl choose."""
     must("journalctl", "--sync")
-    return run("journalctl", "-o", "cat", "--no-pager", "-u", unit, "--since", f"@{since:.3f}").stdout
+    return run("journalctl", "-o", "cat", "--no-pager", *(["-u", unit] if unit else []), "--since", f"@{since:.3f}", *more).stdout
 
 
 class Session:
@@ -280,16 +259,15 @@ def install_programs() -> None:
     done = run_block("operating/install", "Steps")
     STEPS.expect("the block of the package installs it", done.returncode == 0 and os.access(PATHD, os.X_OK), done.stdout + done.stderr)
     CARRIED_OUT.add(blocks(TOP / "deploy/debian/README.md")[0].place)
-    done = run("bash", "-euo", "pipefail", "-c", blocks(Path("/usr") / README)[0].text, cwd="/", stdin=subprocess.DEVNULL)
-    STEPS.expect("the block of the README that it installs shows the program at work", done.returncode == 0, done.stdout + done.stderr)
+    done = run(*SHELL, blocks(Path("/usr") / README)[0].text, cwd="/", stdin=subprocess.DEVNULL)
+    STEPS.expect_success("the block of the README that it installs shows the program at work", done)
 
 
 def install() -> None:
     """'The store', as it is written."""
     install_programs()
     begun = time.time()
-    done = run_block("operating/install", "The store")
-    STEPS.expect("the block of 'The store' runs", done.returncode == 0, done.stdout + done.stderr)
+    STEPS.expect_success("the block of 'The store' runs", run_block("operating/install", "The store"))
     STEPS.expect("the unit is active, and the server listens", until(is_up), run("systemctl", "status", "pathd").stdout)
     text = journal("pathd", begun)
     STEPS.expect("the journal has `ready` and the line of the address", "ready" in text and "at 127.0.0.1:30252: version 2, place 0, 0 rows" in text, text)
@@ -399,28 +377,18 @@ def end_by_status() -> None:
     """The status 1, after which the unit is started again; the statuses 2 and 3, after which it stays down; and too many starts."""
     begun = time.time()
     with socket.create_server(("127.0.0.1", PORT)):
-        run("systemctl", "reset-failed", "pathd")
-        STEPS.expect("status 1, as the address is in use: the start fails", run("systemctl", "start", "pathd").returncode != 0 and property_of("ExecMainStatus") == "1")
+        STEPS.expect("status 1, as the address is in use: the start fails", not begin() and property_of("ExecMainStatus") == "1")
         STEPS.expect("it is started again meanwhile", until(lambda: int(property_of("NRestarts")) >= 2))
     STEPS.expect("it is up by itself once the address is free", until(is_up))
     STEPS.expect("the journal has `error: net`", "error: net" in journal("pathd", begun), journal("pathd", begun))
     must("systemctl", "stop", "pathd")
     words = drop_in("words", f"[Service]\nExecStart=\nExecStart={PATHD} run\n")
-    run("systemctl", "reset-failed", "pathd")
-    run("systemctl", "start", "pathd")
-    until(is_down)
-    time.sleep(7)
-    STEPS.expect("status 2, of words that can't be read: the unit stays down", (property_of("ActiveState"), property_of("ExecMainStatus"), property_of("NRestarts")) == ("failed", "2", "0"))
+    STEPS.expect("status 2, of words that can't be read: the unit stays down", stays_down() == ("failed", "2", "0"))
     take_away(words)
     set_settings(STORE="/var/lib/pathd/none")
     begun = time.time()
-    run("systemctl", "reset-failed", "pathd")
-    run("systemctl", "start", "pathd")
-    until(is_down)
-    time.sleep(7)
-    STEPS.expect("status 3, as there is no store: the unit stays down", (property_of("ActiveState"), property_of("ExecMainStatus"), property_of("NRestarts")) == ("failed", "3", "0"))
-    must("journalctl", "--sync")
-    said = run("journalctl", "-o", "cat", "--no-pager", "-u", "pathd", "-p", "err", "--since", f"@{begun:.3f}").stdout
+    STEPS.expect("status 3, as there is no store: the unit stays down", stays_down() == ("failed", "3", "0"))
+    said = journal("pathd", begun, "-p", "err")
     STEPS.expect("the journal has the reason as an error", "cannot open /var/lib/pathd/none" in said and "error: device 1" in said, said)
     set_settings()
     start_too_often()
@@ -443,8 +411,7 @@ def start_too_often() -> None:
     must("systemctl", "kill", "-s", "KILL", "--kill-whom=main", "pathd")
     STEPS.expect("a start beyond the limit isn't made", until(lambda: property_of("ActiveState") == "failed") and property_of("NRestarts") == "5", (property_of("Result"), property_of("NRestarts")))
     STEPS.expect("OnFailure= runs /etc/pathd/on-failure with the unit's name", until(report.exists, 20) and until(lambda: report.read_text() == "pathd.service\n", 5))
-    must("journalctl", "--sync")
-    said = run("journalctl", "-o", "cat", "--no-pager", "-t", "pathd", "-p", "alert", "--since", f"@{begun:.3f}").stdout
+    said = journal("", begun, "-t", "pathd", "-p", "alert")
     STEPS.expect("the journal has its line of priority `alert`", "pathd.service has failed" in said, said)
     REPORT.unlink()
     take_away(limit)
@@ -468,21 +435,15 @@ def purged(counts: str) -> bool:
 def purge() -> None:
     """'Purging', as it is written, and the server's own purges."""
     STEPS.expect("the settings have the server purge each five seconds", "--purge 5" in (TOP / "deploy/pathd.default").read_text())
-    set_settings()
-    must("systemctl", "restart", "pathd")
-    STEPS.expect("the block of 'Purging' runs, and its purge prints the counts", until(is_up) and purged("0 purged"))
+    STEPS.expect("the block of 'Purging' runs, and its purge prints the counts", restart() and purged("0 purged"))
     register_expiring(3, 1)
     time.sleep(5)
     STEPS.expect("without `--purge` a purge by hand drops the row that has expired", purged("1 purged"))
-    set_settings(OPTIONS="--purge 1")
-    must("systemctl", "restart", "pathd")
-    until(is_up)
+    restart(OPTIONS="--purge 1")
     register_expiring(3, 2)
     time.sleep(10)
     STEPS.expect("with `--purge 1` the server has dropped it before", purged("0 purged"))
-    set_settings()
-    must("systemctl", "restart", "pathd")
-    until(is_up)
+    restart()
 
 
 def back_up() -> None:
@@ -540,12 +501,6 @@ def look_up_by_gateway() -> int:
     return sum(len(listed["segments"]) for listed in found.values())
 
 
-def start_gateway() -> bool:
-    """Starts the unit of the gateway anew, without a count of earlier starts."""
-    run("systemctl", "reset-failed", GATEWAY_UNIT)
-    return run("systemctl", "start", GATEWAY_UNIT).returncode == 0 and property_of("ActiveState", GATEWAY_UNIT) == "active"
-
-
 def serve_by_gateway() -> None:
     """'Running it' of docs/GATEWAY.md: the unit of the gateway, before the server."""
     packages = list(TOP.glob("out/pathd-gateway_*.deb"))
@@ -555,7 +510,7 @@ def serve_by_gateway() -> None:
     done = run("dpkg", "--install", *packages)
     STEPS.expect("the gateway's package is installed, and has made its user", done.returncode == 0 and run("id", "pathd-gateway").returncode == 0, done.stderr)
     begun = time.time()
-    STEPS.expect("the unit of the gateway starts", start_gateway(), run("systemctl", "status", GATEWAY_UNIT).stdout)
+    STEPS.expect("the unit of the gateway starts", begin(GATEWAY_UNIT) and property_of("ActiveState", GATEWAY_UNIT) == "active", run("systemctl", "status", GATEWAY_UNIT).stdout)
     STEPS.expect("the journal has the line of its address", until(lambda: f"serves at 127.0.0.1:{GATEWAY_PORT}" in journal("pathd-gateway", begun)), journal("pathd-gateway", begun))
     STEPS.expect("a lookup by Connect finds segments", look_up_by_gateway() > 0)
     within = look_at_walls_of(GATEWAY_UNIT, "pathd-gateway", GATEWAY_PORT, 4096)
@@ -580,7 +535,7 @@ def end_gateway() -> None:
     must("systemctl", "stop", GATEWAY_UNIT)
     STEPS.expect("systemctl stop: its unit is inactive, with success", (property_of("ActiveState", GATEWAY_UNIT), property_of("Result", GATEWAY_UNIT)) == ("inactive", "success"))
     GATEWAY_SETTINGS.write_text("OPTIONS=--none\n")
-    STEPS.expect("status 2, of words that can't be read: its start fails", not start_gateway())
+    STEPS.expect("status 2, of words that can't be read: its start fails", not begin(GATEWAY_UNIT))
     time.sleep(5)
     ended = tuple(property_of(name, GATEWAY_UNIT) for name in ("ActiveState", "ExecMainStatus", "NRestarts"))
     STEPS.expect("it stays down then", ended == ("failed", "2", "0"), ended)
@@ -632,8 +587,7 @@ def serve_volume(device: str) -> None:
     must("runuser", "-u", "pathd", "--", PATHD, "format", device, "--checkpoint", "64", "--journal", "4096")
     set_settings(STORE=device)
     begun = time.time()
-    run("systemctl", "reset-failed", "pathd")
-    run("systemctl", "start", "pathd")
+    begin()
     STEPS.expect("the unit as it is doesn't see a volume: `error: device 1`", until(lambda: "error: device 1" in journal("pathd", begun)), journal("pathd", begun))
     must("systemctl", "stop", "pathd")
     drop_in("volume", f"[Service]\n{service}")
@@ -676,51 +630,28 @@ def fail_device(device: str, by_hand: bool) -> None:
     set_settings()
 
 
-def reaches(source: str, host: str, *more: str) -> bool:
-    """Whether a lookup from a network namespace is answered, or with `--numbers` a request of the numbers; '' is the server's own."""
-    words = [TOP / "tools/pathd-tools", "units-inside", "--probe", host, *more]
-    return run(*(["ip", "netns", "exec", source] if source else []), *words, timeout=30).returncode == 0
+def reaches(source: str, host: str, *more: object, numbers: bool = False) -> int:
+    """How many connections from a network namespace a server answers, or the page of its numbers; '' is the server's own."""
+    probing = [TOP / "tools/pathd-tools", "units-inside", "--probe", host, *more]
+    asking = ["curl", "--silent", "--max-time", "5", f"http://{host}:{NUMBERS_PORT}/metrics"]
+    said = run(*(["ip", "netns", "exec", source] if source else []), *(asking if numbers else probing), timeout=60).stdout
+    return int("\npathd_rows " in said) if numbers else int(said)
 
 
-def probe(host: str) -> bool:
-    """Asks a server once."""
-    try:
-        with Session(host, 5) as session:
-            return session.ask(messages.lookup_frame(LEAF, CORE))[0] == 0x82
-    except OSError:
-        return False
-
-
-def probe_numbers(host: str) -> bool:
-    """Asks for the numbers once."""
-    try:
-        return "pathd_rows" in runs.numbers(NUMBERS_PORT, host, 5)
-    except OSError:
-        return False
-
-
-def all_reach(*more: str) -> tuple[bool, bool, bool]:
-    """Whether the server is reached from itself, from 192.0.2.0/24 and from another network."""
-    return reaches("", "127.0.0.1", *more), reaches("near", "192.0.2.1", *more), reaches("far", "198.51.100.1", *more)
-
-
-def seats_of(source: str, host: str, count: int) -> int:
-    """How many connections from a network namespace are let through at one time."""
-    words = [TOP / "tools/pathd-tools", "units-inside", "--probe", host, "--connections", count]
-    return int(run("ip", "netns", "exec", source, *words, timeout=60).stdout)
-
-
-def probe_seats(host: str, count: int) -> int:
-    """Opens connections, and counts those that are answered while all are held."""
+def probe(host: str, count: int) -> int:
+    """Opens connections to a server, and counts those that are answered while all are held."""
     held = []
     for _ in range(count):
-        try:
-            session = Session(host, 1)
-            session.ask(messages.lookup_frame(LEAF, CORE))
-            held.append(session)
-        except OSError:
-            pass
+        with suppress(OSError):
+            session = Session(host, 2)
+            if session.ask(messages.lookup_frame(LEAF, CORE))[0] == 0x82:
+                held.append(session)
     return len(held)
+
+
+def all_reach(numbers: bool = False) -> tuple[int, ...]:
+    """Whether the server is reached from itself, from 192.0.2.0/24 and from another network: 1 where it is."""
+    return tuple(reaches(source, host, numbers=numbers) for source, host in (("", "127.0.0.1"), ("near", "192.0.2.1"), ("far", "198.51.100.1")))
 
 
 def limit_access() -> None:
@@ -735,7 +666,7 @@ def limit_access() -> None:
         must("ip", "-n", name, "link", "set", "lo", "up")
     set_settings(LISTEN=f"0.0.0.0:{PORT}", OPTIONS=f"--status 0.0.0.0:{NUMBERS_PORT}")
 
-    def allow(addresses: str) -> tuple[bool, bool, bool]:
+    def allow(addresses: str) -> tuple[int, ...]:
         drop_in("access", f"[Service]\n{addresses}")
         must("systemctl", "stop", "pathd")
         start()
@@ -746,27 +677,24 @@ def limit_access() -> None:
     if "does not support BPF/cgroup firewalling" in must("journalctl", "-b", "-o", "cat", "--no-pager", "--since", f"@{begun - 600:.0f}"):
         STEPS.leave_out("IPAddressAllow=", "systemd finds no support of the kernel")
     else:
-        STEPS.expect("with the unit's IPAddressAllow= the loopback alone reaches a server at 0.0.0.0", seen == (True, False, False), seen)
-        seen = all_reach("--numbers")
-        STEPS.expect("the same holds for the address of its numbers", seen == (True, False, False), seen)
+        STEPS.expect("with the unit's IPAddressAllow= the loopback alone reaches a server at 0.0.0.0", seen == (1, 0, 0), seen)
+        seen = all_reach(numbers=True)
+        STEPS.expect("the same holds for the address of its numbers", seen == (1, 0, 0), seen)
         seen = allow("IPAddressAllow=192.0.2.0/24\n")
-        STEPS.expect("with IPAddressAllow=192.0.2.0/24 these addresses do, too", seen == (True, True, False), seen)
+        STEPS.expect("with IPAddressAllow=192.0.2.0/24 these addresses do, too", seen == (1, 1, 0), seen)
     seen = allow("IPAddressAllow=any\n")
-    STEPS.expect("with IPAddressAllow=any all do", seen == (True, True, True), seen)
-    done = run_block("operating/run", "Access")
-    STEPS.expect("the block of 'Access' runs", done.returncode == 0, done.stdout + done.stderr)
+    STEPS.expect("with IPAddressAllow=any all do", seen == (1, 1, 1), seen)
+    STEPS.expect_success("the block of 'Access' runs", run_block("operating/run", "Access"))
     seen = all_reach()
-    STEPS.expect("by the firewall's rules 192.0.2.0/24 and the loopback reach it, and no other address", seen == (True, True, False), seen)
-    seats = seats_of("near", "192.0.2.1", 20)
+    STEPS.expect("by the firewall's rules 192.0.2.0/24 and the loopback reach it, and no other address", seen == (1, 1, 0), seen)
+    seats = reaches("near", "192.0.2.1", "--connections", 20)
     STEPS.expect("by these rules an address has at most 8 connections", seats == 8, seats)
-    STEPS.expect("others are served beside them", reaches("", "127.0.0.1"))
-    seen = all_reach("--numbers")
-    STEPS.expect("these rules are for the port of sessions alone", seen == (True, True, True), seen)
+    STEPS.expect("others are served beside them", reaches("", "127.0.0.1") == 1)
+    seen = all_reach(numbers=True)
+    STEPS.expect("these rules are for the port of sessions alone", seen == (1, 1, 1), seen)
     must("nft", "delete", "table", "inet", "pathd")
     take_away(DROP_IN / "access.conf")
-    set_settings()
-    must("systemctl", "restart", "pathd")
-    STEPS.expect("after the drop-in and the table were taken away the unit serves as before", until(is_up))
+    STEPS.expect("after the drop-in and the table were taken away the unit serves as before", restart())
     for name in ("near", "far"):
         must("ip", "netns", "delete", name)
 
@@ -784,15 +712,11 @@ def main(words: list[str]) -> int:
     parser.add_argument("--loop", help="a loop device that is free")
     parser.add_argument("--after-restart", action="store_true")
     parser.add_argument("--probe", help=argparse.SUPPRESS)
-    parser.add_argument("--connections", type=int, help=argparse.SUPPRESS)
-    parser.add_argument("--numbers", action="store_true", help=argparse.SUPPRESS)
+    parser.add_argument("--connections", type=int, default=1, help=argparse.SUPPRESS)
     options = parser.parse_args(words)
-    if options.probe and options.connections:
-        print(probe_seats(options.probe, options.connections))
-        return 0
     if options.probe:
-        is_reached = (probe_numbers if options.numbers else probe)(options.probe)
-        return 0 if is_reached else 1
+        print(probe(options.probe, options.connections))
+        return 0
     if options.after_restart:
         after_restart()
     else:
@@ -814,5 +738,4 @@ def main(words: list[str]) -> int:
         compare_blocks()
         ROWS.register_many(20)
         STATE.write_bytes(pickle.dumps(ROWS))
-    print(f"{STEPS.count} steps, {STEPS.wrong} came out otherwise, {STEPS.left_out} left out")
-    return 1 if STEPS.wrong else 0
+    return STEPS.end()

@@ -32,15 +32,13 @@ where a reply was wrong or refused or a session ended early, and 2 for words tha
 """
 from __future__ import annotations
 
-import shutil
 import struct
 import subprocess
-import sys
 import tempfile
 import time
 from pathlib import Path
 
-from pathd_tools import TOP, toolbox
+from pathd_tools import TOP, need, toolbox
 
 SOURCE = TOP / "tools" / "native" / "load.c"
 SECTOR = 512
@@ -50,11 +48,9 @@ PASSED_ON = ["sessions", "seconds", "mix", "rate", "window", "rows", "made", "se
 
 def compiled(folder: Path) -> Path:
     """The program that makes the load."""
-    compiler = shutil.which("gcc")
-    if compiler is None:
-        sys.exit("missing: gcc (apt-get install gcc)")
+    need.require("gcc")
     program = folder / "load"
-    subprocess.run([compiler, "-O2", "-o", program, SOURCE, "-lpthread"], check=True)
+    subprocess.run(["gcc", "-O2", "-o", program, SOURCE, "-lpthread"], check=True)
     return program
 
 
