@@ -89,8 +89,8 @@ class Server(runs.Process):
 @cache
 def all_seats(program: Path) -> list[str]:
     """The words by which all seats of a server may have commands under way; an earlier program has none."""
-    told = subprocess.run([program, "run", "--help"], check=True, capture_output=True, text=True).stdout
-    return ["--spare", "0"] if "--spare" in told else []
+    printed = subprocess.run([program, "run", "--help"], check=True, capture_output=True, text=True).stdout
+    return ["--spare", "0"] if "--spare" in printed else []
 
 
 def pathd(programs: Programs, store: Path, microseconds: int | None = None, made: int = 0) -> Server:

@@ -9,7 +9,7 @@ import (
 
 // Dialer makes connections to a server. Its zero value makes them over TCP.
 type Dialer struct {
-	// The configuration of TLS, for a server behind a proxy that ends TLS; nil for none. The server
+	// The configuration of TLS, for a proxy that ends TLS before a server; nil for none. The server
 	// has to have a certificate for the address's host where ServerName is empty.
 	TLS *tls.Config
 	// Makes a connection [net.Dialer.DialContext]: for a proxy, a tunnel, or another network.

@@ -11,7 +11,7 @@
 // SWALLOWED names a kind of sync, by what the same thread wrote last: `group` (a group's payload; of
 // a group that follows another one the sync is also that of the other one's gate), `gate` (a gate of
 // a journal alone), `chunks` (a checkpoint area), `half` (the gate of a half), `close` (the two gates
-// of a half). Every second sync of that kind isn't made, and the program isn't told.
+// of a half). Every second sync of that kind isn't made, and the program gets a success.
 // CHECKPOINT and JOURNAL are the sizes of the store's parts in sectors, by which a write is judged.
 // Where WRITES_ALONE is set, only 'W' is written. Where PURGES_ALONE is set, only 'W' is written, and
 // only of a write with the record of a purge. tools/pathd_tools/recording.py uses it.

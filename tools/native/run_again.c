@@ -18,7 +18,7 @@ typedef int main_type(int, char **, char **);
 
 static main_type *program;
 static jmp_buf before;
-static int told;
+static int reports;
 
 __attribute__((noreturn)) static void end(int status) {
   for (;;) syscall(SYS_exit_group, status);
@@ -27,7 +27,7 @@ __attribute__((noreturn)) static void end(int status) {
 // What the program calls at its end: it goes on before the next run.
 void _exit(int status) {
   int answer[] = {status, (int)lseek(1, 0, SEEK_END), (int)lseek(2, 0, SEEK_END)};
-  if (program && write(told, answer, sizeof answer) == sizeof answer) longjmp(before, 1);
+  if (program && write(reports, answer, sizeof answer) == sizeof answer) longjmp(before, 1);
   end(status);
 }
 
@@ -42,7 +42,7 @@ int __libc_start_main(main_type *called, int count, char **words, void (*init)(v
   int (*next)(main_type *, int, char **, void (*)(void), void (*)(void), void (*)(void), void *) = dlsym(RTLD_NEXT, "__libc_start_main");
   const char *word = getenv("RUN_AGAIN");
   if (word) {
-    told = atoi(word);
+    reports = atoi(word);
     program = called;
   }
   return next(word ? run_again : called, count, words, init, fini, rtld_fini, stack);

@@ -138,7 +138,7 @@ def apply(db: dict, command: tuple) -> tuple[int, int, int, int]:
 
 
 def covers(side: int, isd_as: int) -> bool:
-    """Whether a side of a query, in which a zero part stands for any, covers an ISD-AS."""
+    """Whether a side of a query, in which a zero part is any, covers an ISD-AS."""
     isd, asn = side >> 48, side & (1 << 48) - 1
     return isd in (0, isd_as >> 48) and asn in (0, isd_as & (1 << 48) - 1)
 
@@ -346,7 +346,7 @@ def scan(image: bytes, first: int, sectors: int, place: int, version: int, is_se
 
 @dataclass(frozen=True)
 class Opened:
-    """What an image stands for: the checkpoint's rows, the place up to which they are folded, and the commands after it."""
+    """What an image means: the checkpoint's rows, the place up to which they are folded, and the commands after it."""
 
     version: int
     place: int

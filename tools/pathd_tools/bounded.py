@@ -13,7 +13,7 @@ from dataclasses import dataclass
 from pathlib import Path
 from typing import Any
 
-# The seconds that a command has to remove its files, once it was told to end.
+# The seconds that a command has to remove its files, once it was asked to end.
 GRACE = 5.0
 
 _lock = threading.Lock()

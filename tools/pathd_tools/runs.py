@@ -269,13 +269,13 @@ class Again:
         self._start()
 
     def _start(self) -> None:
-        self.told, telling = os.pipe()
+        self.reports, reporting = os.pipe()
         # Files to which each write appends.
         self.files = [os.open(path, os.O_RDWR | os.O_CREAT | os.O_APPEND, 0o600) for path in self.paths]
-        env = {**os.environ, "LD_PRELOAD": self.library, "RUN_AGAIN": str(telling)}
-        given = {"stdin": subprocess.PIPE, "stdout": self.files[0], "stderr": self.files[1], "pass_fds": [telling], "bufsize": 0}
+        env = {**os.environ, "LD_PRELOAD": self.library, "RUN_AGAIN": str(reporting)}
+        given = {"stdin": subprocess.PIPE, "stdout": self.files[0], "stderr": self.files[1], "pass_fds": [reporting], "bufsize": 0}
         self.process = subprocess.Popen(self.words, env=env, **given)
-        os.close(telling)
+        os.close(reporting)
 
     def run(self, count: int = 1) -> list[tuple[int, bytes, bytes]]:
         """Status, output and errors of the runs over the first so many files. A run that ends the process is followed by a new one."""
@@ -286,32 +286,32 @@ class Again:
             first, at = len(found), [0, 0]
             self.process.stdin.write(bytes(range(ord("0") + first, ord("0") + count)))
             for _ in range(first, count):
-                told = self._next()
-                sizes = told[1:] or [os.fstat(file).st_size for file in self.files]
+                report = self._next()
+                sizes = report[1:] or [os.fstat(file).st_size for file in self.files]
                 out, err = (os.pread(file, size - begun, begun) for file, size, begun in zip(self.files, sizes, at))
-                found.append((told[0] if told else self.process.wait(), out, err))
+                found.append((report[0] if report else self.process.wait(), out, err))
                 at = sizes
-                if not told:
+                if not report:
                     self.close()
                     self._start()
                     break
         return found
 
     def _next(self) -> tuple[int, ...]:
-        """What is told of the next run: its status, and the sizes of both files; nothing where the process has ended."""
-        told = b""
-        while len(told) < 12:
-            piece = os.read(self.told, 12 - len(told))
+        """What is reported of the next run: its status, and the sizes of both files; nothing where the process has ended."""
+        report = b""
+        while len(report) < 12:
+            piece = os.read(self.reports, 12 - len(report))
             if not piece:
                 return ()
-            told += piece
-        return struct.unpack("=3i", told)
+            report += piece
+        return struct.unpack("=3i", report)
 
     def close(self) -> None:
         """Ends the process."""
         self.process.stdin.close()
         self.process.wait()
-        for file in (self.told, *self.files):
+        for file in (self.reports, *self.files):
             os.close(file)
 
 

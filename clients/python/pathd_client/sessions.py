@@ -97,7 +97,7 @@ class Queue:
 class Session(Calls):
     """A session with a server over TCP, as a context: the connection is closed at its end.
 
-    `tls` has it over TLS, with a server behind a proxy that ends TLS. Its certificate has to be one
+    `tls` has it over TLS, with a proxy that ends TLS before a server. Its certificate has to be one
     of `server_name`, which is the host if left out.
 
     `connect_timeout` is how long a connection may take to be made, and `reply_timeout` how long the

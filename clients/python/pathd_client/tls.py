@@ -1,4 +1,4 @@
-"""A connection over TLS, with a server behind a proxy that ends TLS."""
+"""A connection over TLS, with a proxy that ends TLS before a server."""
 from __future__ import annotations
 
 import socket

@@ -110,7 +110,7 @@ def refuse_each(session: Session, library: str, folder: Path) -> int:
             break
         if came == "wrong":
             print(f"{name}, allocation {number} refused: status {done.returncode}, {done.stderr.decode(errors='replace').strip()}")
-    ended = f"{counts['stopped']} ended with 'error: memory', {counts['refused']} told it in a reply, {counts['wrong']} ended wrongly"
+    ended = f"{counts['stopped']} ended with 'error: memory', {counts['refused']} answered it, {counts['wrong']} ended wrongly"
     print(f"{name}: {counts.total()} runs, {ended}", flush=True)
     return counts["wrong"]
 

@@ -45,8 +45,8 @@ STATE = "document.querySelector('#state').textContent"
 VALUES = "[...document.querySelectorAll('section b')].map((it) => it.textContent).join()"
 # How the first begins where commands are accepted, and where the server is away.
 WELL, AWAY = "commands are accepted", "the server has not answered since"
-# Sizes of a window, in pixels: of a desk, and of a small phone.
-DESK, PHONE = (1200, 900), (360, 740)
+# Sizes of a window, in pixels: of a large screen, and of a small phone.
+SCREEN, PHONE = (1200, 900), (360, 740)
 
 
 class Browser:
@@ -54,13 +54,13 @@ class Browser:
 
     def __init__(self, within: Callable[..., list[str]], profile: Path) -> None:
         asked, self._asking = os.pipe()
-        self._told, telling = os.pipe()
+        self._answers, answering = os.pipe()
         # Chromium reads at the descriptor 3, and writes at 4.
-        moved = ["bash", "-c", f'exec "$@" 3<&{asked} 4>&{telling}', "bash"]
+        moved = ["bash", "-c", f'exec "$@" 3<&{asked} 4>&{answering}', "bash"]
         words = within("chromium", "--headless=new", "--no-sandbox", "--disable-gpu", "--remote-debugging-pipe", f"--user-data-dir={profile}")
-        self.process = subprocess.Popen([*moved, *words], pass_fds=(asked, telling), stdin=subprocess.DEVNULL, stderr=subprocess.DEVNULL)
+        self.process = subprocess.Popen([*moved, *words], pass_fds=(asked, answering), stdin=subprocess.DEVNULL, stderr=subprocess.DEVNULL)
         os.close(asked)
-        os.close(telling)
+        os.close(answering)
         self._count, self._rest, self._page = 0, b"", ""
         self.events: list[dict] = []
         target = self.ask("Target.createTarget", url="about:blank")["targetId"]
@@ -69,22 +69,22 @@ class Browser:
             self.ask(f"{domain}.enable")
 
     def ask(self, method: str, **params: object) -> dict:
-        """The result of a method. What the page tells meanwhile is kept."""
+        """The result of a method. What the page reports meanwhile is kept."""
         self._count += 1
         message = {"id": self._count, "method": method, "params": params} | ({"sessionId": self._page} if self._page else {})
         os.write(self._asking, json.dumps(message).encode() + b"\0")
         while True:
-            told = json.loads(self._next())
-            if told.get("id") == self._count:
-                if "error" in told:
-                    raise Failed(f"{method}: {told['error']['message']}")
-                return told["result"]
-            self.events.append(told)
+            answer = json.loads(self._next())
+            if answer.get("id") == self._count:
+                if "error" in answer:
+                    raise Failed(f"{method}: {answer['error']['message']}")
+                return answer["result"]
+            self.events.append(answer)
 
     def _next(self) -> bytes:
         """The next message of the browser."""
         while b"\0" not in self._rest:
-            piece = os.read(self._told, 1 << 16)
+            piece = os.read(self._answers, 1 << 16)
             if not piece:
                 raise Failed("the browser ended")
             self._rest += piece
@@ -102,8 +102,8 @@ class Browser:
     def write_picture(self, path: Path, scheme: str) -> None:
         """Writes a picture of the whole page in a color scheme."""
         self.ask("Emulation.setEmulatedMedia", features=[{"name": "prefers-color-scheme", "value": scheme}])
-        self.resize(DESK)
-        self.resize((DESK[0], self.value("document.body.offsetHeight")))
+        self.resize(SCREEN)
+        self.resize((SCREEN[0], self.value("document.body.offsetHeight")))
         path.write_bytes(base64.b64decode(self.ask("Page.captureScreenshot", format="png")["data"]))
 
     def asked_for(self) -> set[str]:
@@ -157,7 +157,7 @@ def await_state(browser: Browser, start: str) -> None:
 
 def look(browser: Browser, at: str) -> None:
     """Looks at the page while the server is loaded."""
-    browser.resize(DESK)
+    browser.resize(SCREEN)
     browser.ask("Page.navigate", url=at)
     await_state(browser, WELL)
     wait_for(lambda: "\u2013" not in str(browser.value(VALUES)), PATIENCE, "a value for each plot")
@@ -165,7 +165,7 @@ def look(browser: Browser, at: str) -> None:
     width = browser.value("document.documentElement.scrollWidth")
     if width > PHONE[0]:
         raise Failed(f"the page is {width} pixels wide on a screen of {PHONE[0]}")
-    browser.resize(DESK)
+    browser.resize(SCREEN)
 
 
 @contextmanager

@@ -3,7 +3,7 @@
     tools/pathd-tools vectors [-p PROGRAM] FOLDER..
 
 PROGRAM is crates/pathd/out/pathd if left out, which `rt run` builds. A case is the files NAME.args,
-the program's words, one a line; NAME.in, hexadecimal text, which is standard input as it stands
+the program's words, one a line; NAME.in, hexadecimal text, which is standard input as it is
 where --hex is among the words, and else encodes it; NAME.out, standard output; NAME.err, the line
 of standard error that begins with `error:`, which is not compared where the status is 2; and
 NAME.status, the exit status. A case may have NAME.note, which says what it is about. A case over a

@@ -1,4 +1,4 @@
-"""Makes the texts on the command line of the help that the program prints, which stands in
+"""Makes the texts on the command line of the help that the program prints, which is in
 crates/test_program/stdout and is compared there with that of crates/cli_words:
 
 - the arguments and the options of each command in deploy/pathd.1, after what that page says of it,
@@ -87,7 +87,7 @@ def commands_by(helped: Callable[[str], str]) -> Commands:
 
 
 def expected(name: str) -> str:
-    """The help of a command as it stands in the file."""
+    """The help of a command as it is in the file."""
     found = re.search(rf"^\$ pathd {name + ' ' if name else ''}(?:--help|-h)\n(.*?)^status 0$", HELP.read_text(), re.M | re.S)
     if not found:
         raise SystemExit(f"crates/test_program/stdout has no help of {name}")
@@ -103,7 +103,7 @@ def written(part: Part) -> str:
 
 
 def roff(text: str) -> str:
-    """A text as it stands in the man page, wrapped."""
+    """A text as it is in the man page, wrapped."""
     lines = textwrap.wrap(text.replace("\\", "\\e"), WIDTH, break_long_words=False, break_on_hyphens=False)
     return "\n".join(f"\\&{line}" if line[0] in ".'" else line for line in lines)
 
