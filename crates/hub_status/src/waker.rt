@@ -13,7 +13,7 @@ const BITS: usize = 64;
 const WORDS: usize = CONDVARS / BITS;
 
 /// The longest sleep of the thread that notifies, in milliseconds.
-const LONGEST_SLEEP: u64 = 10;
+const LONGEST_SLEEP: u64 = 1000;
 
 /// The condition variables of commands that were handed in, by their numbers. A thread of its own
 /// notifies several condition variables, so that the thread that answers a whole group does not

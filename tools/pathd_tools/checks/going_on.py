@@ -9,7 +9,7 @@ away as it does where all places are taken, and reports it. A peer that drips a 
 session. A request of the numbers that comes late is answered. Where the process may not write a
 file as long as the store (RLIMIT_FSIZE), `run`, `format` and `copy` say so, and end with the status
 1. While the device hangs (tools/native/hanging_calls.c), peers that have sent far more than a session
-takes ahead, and have closed, give their seats back. It needs Python 3, gcc and the loopback, and
+takes ahead, and have closed, give their seats back. A server that nobody asks wakes seldom. It needs Python 3, gcc and the loopback, and
 root for the part without threads, which is left out else. It ends with the status 1 where something
 else comes.
 """
@@ -35,6 +35,8 @@ SMALL = model.Layout(2, 516)
 # A lookup with an empty message, and its refusal; and the refusal of a peer without a place.
 PROBE = bytes.fromhex("0000000102")
 PROBED = bytes.fromhex("00000002ff41")
+# A purge of what expires at moment 0.
+PURGE = bytes.fromhex("00000009030000000000000000")
 NO_PLACE = bytes.fromhex("00000002ff61")
 # The beginning of an answer with the numbers.
 ANSWERED = b"HTTP/1.1 200 "
@@ -46,6 +48,9 @@ SET_PIPE_SIZE, PIPE_SIZE = 1031, 4096
 LATE = 1.5
 # How many peers send how many registrations, of 101 bytes each, and close.
 FAR_PEERS, FAR_AHEAD = 8, 5_000
+# The most times that the threads of a server wake in a second in which nobody asks it, and for how
+# many seconds these are counted.
+MOST_WAKES, IDLE_SECONDS = 30, 4
 # The user nobody, and how many processes and threads it may have.
 NOBODY, FEW_THREADS = 65534, 16
 
@@ -270,6 +275,32 @@ def far_ahead(program: str, store: Path) -> None:
         process.wait()
 
 
+def idle(program: str, store: Path) -> None:
+    """The threads of a server that nobody asks wake seldom, after a command too."""
+    process, port = started(program, store, ["--quiet"])
+    try:
+        for _ in range(2):
+            time.sleep(1)
+            before = waits(process.pid)
+            time.sleep(IDLE_SECONDS)
+            wakes = (waits(process.pid) - before) / IDLE_SECONDS
+            if wakes > MOST_WAKES:
+                raise Wrong(f"an idle server wakes {wakes:.0f} times a second")
+            with connected(port) as peer:
+                peer.sendall(PURGE)
+                if len(answer(peer)) < len(PROBED):
+                    raise Wrong("a purge has no reply")
+    finally:
+        process.kill()
+        process.wait()
+
+
+def waits(process: int) -> int:
+    """How often the threads of a process have waited for something."""
+    texts = [it.read_text() for it in Path(f"/proc/{process}/task").glob("*/status")]
+    return sum(int(found[1]) for it in texts if (found := re.search(r"^voluntary_ctxt_switches:\s*(\d+)", it, re.M)))
+
+
 def number_at(port: int, name: str) -> int:
     """A number of the page at a port."""
     with connected(port) as peer:
@@ -286,7 +317,7 @@ def number_at(port: int, name: str) -> int:
 def main(words: list[str]) -> int:
     """Runs each part."""
     _, program = runs.begin(__doc__, words, is_last=True)
-    parts = [stop_and_continue, full_pipe, drip, late_request, short_files, far_ahead]
+    parts = [stop_and_continue, full_pipe, drip, late_request, short_files, far_ahead, idle]
     if os.geteuid() == 0:
         parts.append(refused_thread)
     faults = 0
