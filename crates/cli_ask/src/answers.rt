@@ -6,7 +6,7 @@ use crate::error::AskError;
 use crate::link::Link;
 use crate::reply::read_reply;
 use byteorder::{BigEndian, ByteOrder};
-use session_core::{LENGTH_SIZE, MOST_REPLY, Reply};
+use session_core::{Ack, LENGTH_SIZE, MOST_REPLY, Reply};
 use std::alloc::Global;
 
 /// The most bytes that are read at one time.
@@ -14,7 +14,7 @@ pub(crate) const PIECE: usize = 16_384;
 
 /// The next reply. A length that no reply has is `Faulty`, before anything is read of it. A
 /// connection that ends before the first byte is `Ended`, and one that ends later is `Cut`.
-pub(crate) fn next_reply<L: Link>(alloc: Global, link: &mut L) -> Result<Reply, AskError> {
+pub(crate) fn next_reply<L: Link>(alloc: Global, link: &mut L) -> Result<Reply<Ack>, AskError> {
     link.begin()?;
     let mut head = [0; LENGTH_SIZE];
     let begun = some_of(link, &mut head, AskError::Ended)?;

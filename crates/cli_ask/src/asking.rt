@@ -11,7 +11,7 @@ use crate::request::{frame_of, lookup_body};
 use isd_as::IsdAs;
 use row_lines::RowForm;
 use seg_core::SegType;
-use session_core::{Message, Reply};
+use session_core::{Ack, Message, Reply};
 use std::alloc::Global;
 use std::io::Write;
 
@@ -59,7 +59,7 @@ pub(crate) fn exchange<L: Link>(
     alloc: Global,
     link: &mut L,
     request: &Message<&[u8]>,
-) -> Result<Reply, AskError> {
+) -> Result<Reply<Ack>, AskError> {
     let frame = frame_of(alloc, request)?;
     link.begin()?;
     link.send(frame.as_slice())?;

@@ -19,8 +19,8 @@ const ACK: usize = 24;
 
 /// The reply with this content, which is a kind and the bytes that belong to it. Bytes that are not
 /// the one encoding of a reply are `Faulty`.
-pub(crate) fn read_reply(alloc: Global, content: &[u8]) -> Result<Reply, AskError>
-    ensures { IfOk result (λ reply. content.now ≡ reply_content (reply_view reply)) }
+pub(crate) fn read_reply(alloc: Global, content: &[u8]) -> Result<Reply<Ack>, AskError>
+    ensures { IfOk result (λ reply. content.now ≡ reply_content (reply_view (λ ack. ack) reply)) }
 {
     let Some((kind, body)) = content.split_first() else {
         return Err(AskError::Faulty);

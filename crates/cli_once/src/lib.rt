@@ -12,6 +12,7 @@ mod hex_input;
 mod hex_session;
 mod key;
 pub mod laws;
+mod once_ack;
 mod once_service;
 mod session;
 
@@ -20,5 +21,6 @@ pub use error::SessionFault;
 pub use hex_input::bytes_of;
 pub use hex_session::once_in_hex;
 pub use key::key_of;
+pub use once_ack::OnceAck;
 pub use once_service::OnceService;
 pub use session::once;

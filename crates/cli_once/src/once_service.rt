@@ -13,14 +13,15 @@ ghost use Rattle.cli_once.specs.Kept.{served_by};
 ghost use Rattle.cli_once.specs.Memory.{Answers, opening};
 ghost use Rattle.cli_once.specs.Taking.{take_refusal, MayAcknowledge};
 
+use crate::once_ack::OnceAck;
 use group_core::SubmitError;
-use once_store::{OnceStore, TakeError, Taken};
+use once_store::{OnceStore, TakeError};
 use path_db::{Command, Registration};
 use reply_codes::Refusal;
 use seg_check::{Verifier, check_all};
 use seg_core::{SegType, Segment, read_registration, read_registrations_are_whole, read_request};
 use seg_lookup::{Roster, classify};
-use session_core::{Ack, Code, ListRequest, Listing, Message, Service};
+use session_core::{Code, ListRequest, Listing, Message, Service};
 use std::alloc::{AllocError, Global};
 
 /// The core ASes, the verifier of signatures, the moment, and a store in memory. The service cannot
@@ -65,19 +66,19 @@ impl<'a, V: Verifier> OnceService<'a, V> {
 
     /// Applies a command at the next place, and commits it. Where memory is refused, nothing
     /// changes, or the command is taken and its outcome is not reported.
-    fn take(&mut self, command: Command) -> Result<Ack, Refusal>
+    fn take(&mut self, command: Command) -> Result<OnceAck, Refusal>
         requires within { IsWithinLimits command }
         ensures { MayAcknowledge (served_by V.verifies self.old) command result (served_by V.verifies self.new) }
     {
         match self.store.take(command) {
-            Ok(Taken { place, outcome }) => Ok(Ack { place, outcome }),
+            Ok(taken) => Ok(OnceAck::of(taken)),
             Err(error) => Err(refusal_of(error)),
         }
     }
 
     /// Registers the segments of a registration, once they are accepted.
     #[tactic(auto, unfolding(crate::specs::Memory::message_step))]
-    fn accept(&mut self, alloc: Global, message: &[u8]) -> Result<Ack, Refusal>
+    fn accept(&mut self, alloc: Global, message: &[u8]) -> Result<OnceAck, Refusal>
         ensures { Answers (served_by V.verifies self.old) (Register message.now) (reply_to_command Registered result) (served_by V.verifies self.new) }
     {
         read_registrations_are_whole();
@@ -88,7 +89,7 @@ impl<'a, V: Verifier> OnceService<'a, V> {
 
     /// Drops the rows that have expired by a moment.
     #[tactic(auto, unfolding(crate::specs::Memory::message_step))]
-    fn drop_expired(&mut self, moment: u64) -> Result<Ack, Refusal>
+    fn drop_expired(&mut self, moment: u64) -> Result<OnceAck, Refusal>
         ensures { Answers (served_by V.verifies self.old) (Purge moment) (reply_to_command Purged result) (served_by V.verifies self.new) }
     {
         self.take(Command::Purge(moment))
@@ -96,7 +97,7 @@ impl<'a, V: Verifier> OnceService<'a, V> {
 
     /// Drops the segment of a type's number and an id.
     #[tactic(auto, unfolding(crate::specs::Memory::message_step))]
-    fn drop_one(&mut self, kind: u8, id: &[u8; 32]) -> Result<Ack, Refusal>
+    fn drop_one(&mut self, kind: u8, id: &[u8; 32]) -> Result<OnceAck, Refusal>
         ensures { Answers (served_by V.verifies self.old) (Remove kind id.now) (reply_to_command Removed result) (served_by V.verifies self.new) }
     {
         let kind = SegType::from_number(u64::from(kind))?;
@@ -143,6 +144,8 @@ impl<V: Verifier> Service for OnceService<'_, V> {
     /// Nothing, as no message is taken ahead of its reply.
     type UnderWay = ();
 
+    type Ack = OnceAck;
+
     ghost State = { Served };
 
     ghost state = { served_by V.verifies };
@@ -157,7 +160,7 @@ impl<V: Verifier> Service for OnceService<'_, V> {
 
     ghost hands_in = { λ _ _ _. Unit {0} };
 
-    fn register(&mut self, alloc: Global, message: &[u8]) -> Result<Ack, Code> {
+    fn register(&mut self, alloc: Global, message: &[u8]) -> Result<OnceAck, Code> {
         Ok(self.accept(alloc, message)?)
     }
 
@@ -169,11 +172,11 @@ impl<V: Verifier> Service for OnceService<'_, V> {
         Err(Code::from(self.refuse_list(request)))
     }
 
-    fn purge(&mut self, moment: u64) -> Result<Ack, Code> {
+    fn purge(&mut self, moment: u64) -> Result<OnceAck, Code> {
         Ok(self.drop_expired(moment)?)
     }
 
-    fn remove(&mut self, kind: u8, id: &[u8; 32]) -> Result<Ack, Code> {
+    fn remove(&mut self, kind: u8, id: &[u8; 32]) -> Result<OnceAck, Code> {
         Ok(self.drop_one(kind, id)?)
     }
 
@@ -182,7 +185,7 @@ impl<V: Verifier> Service for OnceService<'_, V> {
     }
 
     /// Refuses, as nothing is ever under way.
-    fn settle(&mut self, _under_way: ()) -> Result<Ack, Code> {
+    fn settle(&mut self, _under_way: ()) -> Result<OnceAck, Code> {
         Err(Code::from(Refusal::Stopped))
     }
 }

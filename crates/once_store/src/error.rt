@@ -1,15 +1,31 @@
 //! The results of taking a command.
 
+ghost use Rattle.std.specs.Prelude.{◌≡◌};
+
 use path_db::Outcome;
 use thiserror::Error;
 
-/// A command that was taken.
-#[derive(Clone, Copy)]
+/// A command that was taken. A store alone makes one.
+#[derive(Drop)]
 pub struct Taken {
+    pub(crate) place: u64,
+    pub(crate) outcome: Outcome,
+}
+
+impl Taken {
     /// The place of the command: the number of commands that were taken before it.
-    pub place: u64,
+    pub fn place(&self) -> u64
+        ensures { result ≡ self.now.place }
+    {
+        self.place
+    }
+
     /// What the command did.
-    pub outcome: Outcome,
+    pub fn outcome(&self) -> Outcome
+        ensures { result ≡ self.now.outcome }
+    {
+        self.outcome
+    }
 }
 
 /// Why a command was not taken, or why its outcome is not known.

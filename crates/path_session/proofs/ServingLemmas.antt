@@ -259,7 +259,7 @@ module _ (opening : StoreValue (List RowView)) (refused : Command → Option Sub
   pub settled_coded : {N : Type 0} → (under_way : HubUnderWay N) (message : MessageView) (kind : CommandKind) (result : Result Ack Refusal) (coded : Result Ack Code) (new : Serving)
       → IsFor refused old.verifies under_way message → command_kind message ≡ Some kind
       → AnswersTaken opening refused (after_check old under_way.moment) under_way.handed result new
-      → reply_to_kind kind coded ≡ reply_to_command (reply_with kind) result → HubAnswers opening refused old message (reply_to_kind kind coded) new
+      → reply_to_kind (λ (ack : Ack). ack) kind coded ≡ reply_to_command (reply_with kind) result → HubAnswers opening refused old message (reply_to_kind (λ (ack : Ack). ack) kind coded) new
   settled_coded under_way message k result coded new known of_kind answered is =
       subst (λ (reply : ReplyView). HubAnswers opening refused old message reply new) (sym is) (settled under_way message result new known answered k of_kind)
 

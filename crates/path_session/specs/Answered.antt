@@ -41,9 +41,9 @@ module _ (opening : StoreValue (List RowView)) where
   pub record AcknowledgesCommit (old : Serving) (c : Command) (ack : Ack) (new : Serving) : Type 0 where
     -- The hub's receipt, without its note.
     pub receipt : ReceiptView ℕ
-    -- The service keeps the receipt, and its claim with those of the acknowledgements before, and
-    -- what it has seen may grow. Its peer may have been asked whether it has left.
-    pub kept : new ≡ record old { seen = new.seen; last = Some receipt; acknowledged = old.acknowledged ++ receipt.logged ∷ []; left = new.left }
+    -- The service keeps the receipt's claim with those of the acknowledgements before, and what it
+    -- has seen may grow. Its peer may have been asked whether it has left.
+    pub kept : new ≡ record old { seen = new.seen; acknowledged = old.acknowledged ++ receipt.logged ∷ []; left = new.left }
     -- The receipt claims that the log of the hub's state has the command at its index.
     pub shows : receipt.logged.command ≡ c
     -- The receipt's place is that of the index: it counts from the hub's opening value.
@@ -52,7 +52,7 @@ module _ (opening : StoreValue (List RowView)) where
     pub place : ack.place ≡ receipt.place
     -- The acknowledgement has the receipt's outcome.
     pub outcome : ack.outcome ≡ receipt.outcome
-    -- The kept receipt has no note.
+    -- The receipt has no note.
     pub learnt : receipt.note ≡ None
     -- The service has seen more than the command's place.
     pub above : receipt.place < new.seen

@@ -18,7 +18,6 @@ serving verifies has_left s =
       groups = s.reader.groups;
       seen = s.reader.seen;
       moment = s.moment;
-      last = s.last;
       acknowledged = s.acknowledged;
       left = has_left s.peer;
     }

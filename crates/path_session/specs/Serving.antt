@@ -1,10 +1,9 @@
 -- What contracts see of a service over a hub.
-use Rattle.std.specs.Prelude.{ℕ, Bool, List, [], Option, None}
+use Rattle.std.specs.Prelude.{ℕ, Bool, List, []}
 use Rattle.seg_check.specs.Signatures.{Verdicts}
 use Rattle.path_db.specs.declared.command.Command.{Command}
 use Rattle.seg_lookup.specs.Roster.{RosterView}
 use Rattle.command_log.specs.declared.rule.Claim.{Claim}
-use Rattle.logged_state.specs.ReceiptView.{ReceiptView}
 use Rattle.hub_readers.specs.Sight.{Sight}
 
 -- A service over a hub as contracts see it.
@@ -20,8 +19,6 @@ pub record Serving : Type 0 where
   -- The moment at which the last message was answered for which the clock was asked, in half
   -- seconds since 1970. A registration is answered at the moment at which it was checked.
   pub moment : ℕ
-  -- The receipt of the last of its commands that was committed.
-  pub last : Option (ReceiptView ℕ)
   -- The claims of all its commands that were committed, in the order of their acknowledgements.
   pub acknowledged : List Claim
   -- Whether its peer has left, as it was asked last.
@@ -38,4 +35,4 @@ with_left serving left = record serving { left = left }
 -- A service that has answered no message, by a reader, whose peer has left or not.
 abbrev pub beginning : RosterView → Verdicts → Sight → Bool → Serving
 beginning roster verifies reader left =
-    record { roster = roster; verifies = verifies; groups = reader.groups; seen = reader.seen; moment = 0; last = None; acknowledged = []; left = left }
+    record { roster = roster; verifies = verifies; groups = reader.groups; seen = reader.seen; moment = 0; acknowledged = []; left = left }

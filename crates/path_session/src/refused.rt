@@ -7,10 +7,11 @@ ghost use Rattle.session_core.specs.declared.command_kind.CommandKind.{CommandKi
 ghost use Rattle.path_session.specs.Refused.{hub_refusal, reader_refusal};
 ghost use Rattle.path_session.specs.UnderWay.{reply_with};
 
-use hub_claims::HubError;
+use crate::hub_ack::HubAck;
+use hub_claims::{HubError, HubName};
 use hub_readers::ReaderError;
 use reply_codes::Refusal;
-use session_core::{Ack, Code};
+use session_core::Code;
 
 /// The refusal of a message whose call of the hub was refused.
 pub(crate) fn refusal_of(error: HubError) -> Refusal
@@ -36,8 +37,8 @@ pub(crate) fn reader_refusal_of(error: ReaderError) -> Refusal
 }
 
 /// The answer to a command, with the code of a refusal.
-pub(crate) fn coded(answered: Result<Ack, Refusal>) -> Result<Ack, Code>
-    ensures { (kind : CommandKind) → reply_to_kind kind result ≡ reply_to_command (reply_with kind) answered }
+pub(crate) fn coded<N: HubName>(answered: Result<HubAck<N>, Refusal>) -> Result<HubAck<N>, Code>
+    ensures { (kind : CommandKind) → reply_to_kind (λ ack. ack) kind result ≡ reply_to_command (reply_with kind) answered }
 {
     Ok(answered?)
 }

@@ -20,10 +20,11 @@ ghost use Rattle.path_session.specs.Kept.{serving};
 ghost use Rattle.path_session.specs.declared.under_way.HubUnderWay.{HubUnderWay as UnderWayValue};
 ghost use Rattle.path_session.specs.Sending.{HandsIn, HandsInAtMost};
 
+use crate::hub_ack::HubAck;
 use crate::refused::{coded, reader_refusal_of, refusal_of};
 use crate::under_way::HubUnderWay;
 use hub_claims::{HubClaim, HubName, Waiter};
-use hub_readers::{HubReader, HubReceipt, Look};
+use hub_readers::{HubReader, Look};
 use isd_as::IsdAs;
 use path_db::{Command, Registration};
 use path_hub::{Hub, LoggedList, Sender};
@@ -33,7 +34,7 @@ use seg_check::{Verifier, check_all};
 use seg_core::{SegType, Segment, read_registration, read_request};
 use seg_lookup::{Query, Roster, classify};
 use session_clock::Now;
-use session_core::{Ack, Code, ListRequest, Listing, Message, Service};
+use session_core::{Code, ListRequest, Listing, Message, Service};
 use std::alloc::Global;
 use std::sync::Wait;
 use std::time::Clock;
@@ -57,8 +58,6 @@ pub struct HubService<'a, D: Device, N: HubName, R: Wait + Clock, V: Verifier, C
     /// The moment of the last message that was answered of those for which the clock was asked, in
     /// half seconds since 1970; 0 at first.
     moment: u64,
-    /// The receipt of the last command that was committed. Its note is taken.
-    last: Option<HubReceipt<N>>,
     /// The claims of all commands that were committed, in the order of their acknowledgements.
     acknowledged: LoggedList<N>,
     /// Who hands in the session's commands.
@@ -96,7 +95,6 @@ impl<'a, D: Device, N: HubName, R: Wait + Clock, V: Verifier, C: Now, P: Waiter>
             roster,
             peer,
             moment: 0,
-            last: None,
             acknowledged: hub.collector().empty_list(),
             sender,
         }
@@ -138,7 +136,6 @@ impl<'a, D: Device, N: HubName, R: Wait + Clock, V: Verifier, C: Now, P: Waiter>
             roster: _,
             peer: _peer,
             moment: _,
-            last: _last,
             acknowledged,
             sender,
         } = self;
@@ -237,7 +234,7 @@ impl<'a, D: Device, N: HubName, R: Wait + Clock, V: Verifier, C: Now, P: Waiter>
     // ---- answering messages
 
     /// Answers a message that was taken.
-    fn answer(&mut self, under_way: HubUnderWay<N>) -> Result<Ack, Refusal>
+    fn answer(&mut self, under_way: HubUnderWay<N>) -> Result<HubAck<N>, Refusal>
         ensures answered { AnswersTaken N.opening N.refused (after_check (serving V.verifies P.has_left self.old) under_way.moment)
             under_way.handed result (serving V.verifies P.has_left self.new) }
         ensures sent { self.new.sender ≡ self.old.sender }
@@ -257,10 +254,10 @@ impl<'a, D: Device, N: HubName, R: Wait + Clock, V: Verifier, C: Now, P: Waiter>
         }
     }
 
-    /// Waits until a command is committed, or until the peer has left. Learns the receipt and keeps
-    /// it, with its claim.
+    /// Waits until a command is committed, or until the peer has left. Learns the receipt, of which
+    /// the acknowledgement is made, and keeps its claim.
     #[tactic(auto, using(crate::proofs::ServingLemmas::wait_ended))]
-    fn commit(&mut self, claim: HubClaim<N>) -> Result<Ack, Refusal>
+    fn commit(&mut self, claim: HubClaim<N>) -> Result<HubAck<N>, Refusal>
         ensures answered { IsCommandAnswered N.opening N.refused (serving V.verifies P.has_left self.old)
             claim result (serving V.verifies P.has_left self.new) }
         ensures sent { self.new.sender ≡ self.old.sender }
@@ -269,12 +266,7 @@ impl<'a, D: Device, N: HubName, R: Wait + Clock, V: Verifier, C: Now, P: Waiter>
         let mut receipt = settled.map_err(refusal_of)?;
         self.reader.learn(&mut receipt);
         receipt.add_to(self.hub.collector(), &mut self.acknowledged);
-        let ack = Ack {
-            place: receipt.place(),
-            outcome: receipt.outcome(),
-        };
-        self.last = Some(receipt);
-        Ok(ack)
+        Ok(HubAck::of(receipt))
     }
 
     /// The segments that a request asks for, of one type.
@@ -338,6 +330,8 @@ impl<D: Device, N: HubName, R: Wait + Clock, V: Verifier, C: Now, P: Waiter> Ser
 
     type UnderWay = HubUnderWay<N>;
 
+    type Ack = HubAck<N>;
+
     ghost State = { Serving };
 
     ghost state = { serving V.verifies P.has_left };
@@ -352,9 +346,9 @@ impl<D: Device, N: HubName, R: Wait + Clock, V: Verifier, C: Now, P: Waiter> Ser
 
     ghost hands_in = { λ old message new. HandsInAtMost message old new };
 
-    fn register(&mut self, alloc: Global, message: &[u8]) -> Result<Ack, Code>
+    fn register(&mut self, alloc: Global, message: &[u8]) -> Result<HubAck<N>, Code>
         ensures answers { HubAnswers N.opening N.refused (serving V.verifies P.has_left self.old)
-            (Register message.now) (reply_to_register result) (serving V.verifies P.has_left self.new) }
+            (Register message.now) (reply_to_register (λ ack. ack) result) (serving V.verifies P.has_left self.new) }
         ensures sent { HandsInAtMost (Register message.now) self.old.sender self.new.sender }
     {
         let under_way = self.take_registration(alloc, message);
@@ -383,18 +377,18 @@ impl<D: Device, N: HubName, R: Wait + Clock, V: Verifier, C: Now, P: Waiter> Ser
         Ok(self.find_page(request)?)
     }
 
-    fn purge(&mut self, moment: u64) -> Result<Ack, Code>
+    fn purge(&mut self, moment: u64) -> Result<HubAck<N>, Code>
         ensures answers { HubAnswers N.opening N.refused (serving V.verifies P.has_left self.old)
-            (Purge moment) (reply_to_purge result) (serving V.verifies P.has_left self.new) }
+            (Purge moment) (reply_to_purge (λ ack. ack) result) (serving V.verifies P.has_left self.new) }
         ensures sent { HandsInAtMost (Purge moment) self.old.sender self.new.sender }
     {
         let under_way = self.take_purge(moment);
         self.settle(under_way)
     }
 
-    fn remove(&mut self, kind: u8, id: &[u8; 32]) -> Result<Ack, Code>
+    fn remove(&mut self, kind: u8, id: &[u8; 32]) -> Result<HubAck<N>, Code>
         ensures answers { HubAnswers N.opening N.refused (serving V.verifies P.has_left self.old)
-            (Remove kind id.now) (reply_to_remove result) (serving V.verifies P.has_left self.new) }
+            (Remove kind id.now) (reply_to_remove (λ ack. ack) result) (serving V.verifies P.has_left self.new) }
         ensures sent { HandsInAtMost (Remove kind id.now) self.old.sender self.new.sender }
     {
         let under_way = self.take_removal(kind, id);
@@ -419,11 +413,11 @@ impl<D: Device, N: HubName, R: Wait + Clock, V: Verifier, C: Now, P: Waiter> Ser
         }
     }
 
-    fn settle(&mut self, under_way: HubUnderWay<N>) -> Result<Ack, Code>
+    fn settle(&mut self, under_way: HubUnderWay<N>) -> Result<HubAck<N>, Code>
         ensures answers { (message : MessageView) (kind : CommandKind) → IsFor N.refused (serving V.verifies P.has_left self.old).verifies under_way message
             → command_kind message ≡ Some kind
             → HubAnswers N.opening N.refused (serving V.verifies P.has_left self.old)
-            message (reply_to_kind kind result) (serving V.verifies P.has_left self.new) }
+            message (reply_to_kind (λ ack. ack) kind result) (serving V.verifies P.has_left self.new) }
         ensures others { (other : UnderWayValue N) (message : MessageView) → IsFor N.refused (serving V.verifies P.has_left self.old).verifies other message
             → IsFor N.refused (serving V.verifies P.has_left self.new).verifies other message }
         ensures sent { self.new.sender ≡ self.old.sender }

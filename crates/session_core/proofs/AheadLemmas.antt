@@ -13,7 +13,6 @@ use Rattle.session_core.specs.declared.error.FrameError.{FrameError}
 use Rattle.session_core.specs.declared.error.FrameError.TheVariants as error
 use Rattle.session_core.specs.declared.message.Message.{Message}
 use Rattle.session_core.specs.declared.message_kinds.Kinds.{Kinds}
-use Rattle.session_core.specs.declared.reply.Reply.{Reply}
 use Rattle.session_core.specs.declared.service.Ack.{Ack}
 use Rattle.session_core.specs.declared.service.Code.{Code}
 use Rattle.session_core.specs.Ahead.{frames_len, IsHandedIn, AreHandedIn}
@@ -39,7 +38,7 @@ all_ahead {kinds} (Err error.Read) messages rest none = subst (λ (ms : List Mes
 all_ahead (Err error.Write) messages rest are = are
 all_ahead {kinds} (Err error.Turns) messages rest none = subst (λ (ms : List MessageView). AreAhead kinds ms rest) (sym none) (none_ahead rest)
 
-pub leaves_none : {U : Type 0} (result : Result (Option Reply) FrameError) (hs : List U) → hs ≡ [] → LeavesFewAhead result hs
+pub leaves_none : {R U : Type 0} (result : Result (Option R) FrameError) (hs : List U) → hs ≡ [] → LeavesFewAhead result hs
 leaves_none (Ok None) hs none = none
 leaves_none (Ok (Some reply)) hs none = omega (arith, ap length none)
 leaves_none (Err e) hs none = none
@@ -124,11 +123,11 @@ module _ (kinds : Kinds) {S U : Type 0} (is_for : S → U → MessageView → Ty
   }
 
   -- the first of them was settled
-  pub first_settled : (answers : S → MessageView → ReplyView → S → Type 0) (s t : S) (h : Handed U) (bytes : List ℕ) (result : Result Ack Code) (reply : ReplyView)
-      → IsHandedIn kinds is_for s h bytes → reply ≡ reply_to_kind h.kind result → HasReplySize reply
-      → ((m : MessageView) (k : CommandKind) → is_for s h.under_way m → command_kind m ≡ Some k → answers s m (reply_to_kind k result) t)
+  pub first_settled : {A : Type 0} (says : A → Ack) (answers : S → MessageView → ReplyView → S → Type 0) (s t : S) (h : Handed U) (bytes : List ℕ) (result : Result A Code) (reply : ReplyView)
+      → IsHandedIn kinds is_for s h bytes → reply ≡ reply_to_kind says h.kind result → HasReplySize reply
+      → ((m : MessageView) (k : CommandKind) → is_for s h.under_way m → command_kind m ≡ Some k → answers s m (reply_to_kind says k result) t)
       → IsFirstAnswered kinds answers s bytes reply t (drop h.len bytes)
-  first_settled answers s t h bytes result reply x is size settled = record {
+  first_settled says answers s t h bytes result reply x is size settled = record {
     message = x.message;
     framed = x.framed.frame;
     fits = x.framed.sized;

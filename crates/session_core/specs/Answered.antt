@@ -8,6 +8,7 @@ use Rattle.session_core.specs.declared.error.FrameError.{FrameError}
 use Rattle.session_core.specs.declared.error.FrameError.TheVariants as error
 use Rattle.session_core.specs.declared.message_kinds.Kinds.{Kinds}
 use Rattle.session_core.specs.declared.reply.Reply.{Reply}
+use Rattle.session_core.specs.declared.service.Ack.{Ack}
 use Rattle.session_core.specs.Frames.{MessageView, message_frame, FitsFrame, IsPartial, AreWholeFrames}
 use Rattle.session_core.specs.Front.{IsFaultAt}
 use Rattle.session_core.specs.Reply.{ReplyView, HasReplySize}
@@ -36,13 +37,13 @@ pub record IsUnanswered {S : Type 0} (old : S) (bytes : List ℕ) (new : S) (res
 
 -- The first message was answered. Otherwise the bytes begin with less than a frame, or with a
 -- faulty one, and nothing changed.
-abbrev pub IsNextReply : {S : Type 0} → Kinds → (S → MessageView → ReplyView → S → Type 0) → S → List ℕ → S → List ℕ → Result (Option Reply) FrameError → Type 0
-IsNextReply kinds answers old bytes new rest (Ok (Some reply)) = IsFirstAnswered kinds answers old bytes (reply_view reply) new rest
-IsNextReply kinds answers old bytes new rest (Ok None) = IsPartial kinds bytes × IsUnanswered old bytes new rest
-IsNextReply kinds answers old bytes new rest (Err e) = IsFaultAt kinds bytes e × IsUnanswered old bytes new rest
+abbrev pub IsNextReply : {S A : Type 0} → (A → Ack) → Kinds → (S → MessageView → ReplyView → S → Type 0) → S → List ℕ → S → List ℕ → Result (Option (Reply A)) FrameError → Type 0
+IsNextReply says kinds answers old bytes new rest (Ok (Some reply)) = IsFirstAnswered kinds answers old bytes (reply_view says reply) new rest
+IsNextReply says kinds answers old bytes new rest (Ok None) = IsPartial kinds bytes × IsUnanswered old bytes new rest
+IsNextReply says kinds answers old bytes new rest (Err e) = IsFaultAt kinds bytes e × IsUnanswered old bytes new rest
 
 -- After a reply, fewer than `MOST_AHEAD` commands are under way. Otherwise none is.
-abbrev pub LeavesFewAhead : {A : Type 0} → Result (Option Reply) FrameError → List A → Type 0
+abbrev pub LeavesFewAhead : {R U : Type 0} → Result (Option R) FrameError → List U → Type 0
 LeavesFewAhead (Ok (Some reply)) ahead = length ahead < MOST_AHEAD
 LeavesFewAhead (Ok None) ahead = ahead ≡ []
 LeavesFewAhead (Err e) ahead = ahead ≡ []

@@ -17,8 +17,8 @@ command_kind (message.Purge moment) = Some Purge
 command_kind (message.Remove kind id) = Some Remove
 command_kind (message.List request) = None
 
--- The reply to a command of this kind.
-abbrev pub reply_to_kind : CommandKind → Result Ack Code → ReplyView
-reply_to_kind Register result = reply_to_register result
-reply_to_kind Purge result = reply_to_purge result
-reply_to_kind Remove result = reply_to_remove result
+-- The reply to a command of this kind, by what an acknowledgement says.
+abbrev pub reply_to_kind : {A : Type 0} → (A → Ack) → CommandKind → Result A Code → ReplyView
+reply_to_kind says Register result = reply_to_register says result
+reply_to_kind says Purge result = reply_to_purge says result
+reply_to_kind says Remove result = reply_to_remove says result

@@ -12,25 +12,25 @@ use Rattle.session_core.specs.Reply.{ReplyView, Registered, Found, Purged, Remov
 use Rattle.session_core.specs.declared.reply.Form.{Form}
 use Rattle.session_core.specs.declared.reply.Form.TheVariants.{Frames}
 
--- The reply to a registration.
-abbrev pub reply_to_register : Result Ack Code → ReplyView
-reply_to_register (Ok ack) = Registered ack
-reply_to_register (Err code) = Refused code.0
+-- The reply to a registration, by what an acknowledgement says.
+abbrev pub reply_to_register : {A : Type 0} → (A → Ack) → Result A Code → ReplyView
+reply_to_register says (Ok ack) = Registered (says ack)
+reply_to_register says (Err code) = Refused code.0
 
 -- The reply to a lookup.
 abbrev pub reply_to_lookup : {A : Type 0} → Result (SegType × Vec SegmentView A) Code → ReplyView
 reply_to_lookup (Ok found) = Found found.0 found.1.items
 reply_to_lookup (Err code) = Refused code.0
 
--- The reply to a purge.
-abbrev pub reply_to_purge : Result Ack Code → ReplyView
-reply_to_purge (Ok ack) = Purged ack
-reply_to_purge (Err code) = Refused code.0
+-- The reply to a purge, by what an acknowledgement says.
+abbrev pub reply_to_purge : {A : Type 0} → (A → Ack) → Result A Code → ReplyView
+reply_to_purge says (Ok ack) = Purged (says ack)
+reply_to_purge says (Err code) = Refused code.0
 
--- The reply to a removal.
-abbrev pub reply_to_remove : Result Ack Code → ReplyView
-reply_to_remove (Ok ack) = Removed ack
-reply_to_remove (Err code) = Refused code.0
+-- The reply to a removal, by what an acknowledgement says.
+abbrev pub reply_to_remove : {A : Type 0} → (A → Ack) → Result A Code → ReplyView
+reply_to_remove says (Ok ack) = Removed (says ack)
+reply_to_remove says (Err code) = Refused code.0
 
 -- The reply to a list.
 abbrev pub reply_to_list : Result Listing Code → ReplyView

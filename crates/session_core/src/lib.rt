@@ -40,7 +40,7 @@ pub use message_kinds::Kinds;
 pub use path_db::Outcome;
 pub use reading::read_all;
 pub use reply::{Form, Reply, refusal_frame};
-pub use service::{Ack, Code, Listing, MOST_SEGMENTS, Service};
+pub use service::{Ack, Acknowledges, Code, Listing, MOST_SEGMENTS, Service};
 pub use serving::serve;
 pub use sink::Sink;
 pub use source::{MOST_PIECE, MOST_READS, Source};

@@ -9,7 +9,7 @@ ghost use Rattle.session_core.specs.ReplyViews.{reply_view};
 use crate::command_kind::CommandKind;
 use crate::format::{ACK_FRAME, ACK_LENGTH, MOST_REPLY, REFUSAL_FRAME, REFUSAL_LENGTH};
 use crate::kinds::{FOUND, LISTED, PURGED, REFUSED, REGISTERED, REMOVED};
-use crate::service::{Ack, Code, Listing};
+use crate::service::{Ack, Acknowledges, Code, Listing};
 use byteorder::{BigEndian, ByteOrder};
 use seg_core::{SegType, Segment, write_response_of_type};
 use std::alloc::{AllocError, Global};
@@ -23,17 +23,18 @@ pub enum Form {
     Lines,
 }
 
-/// The reply to one message.
+/// The reply to one message, by what acknowledges a command. A service's reply has the service's
+/// acknowledgement, and a client's has what it says.
 #[derive(Drop)]
-pub enum Reply {
+pub enum Reply<A> {
     /// A registration was accepted.
-    Registered(Ack),
+    Registered(A),
     /// The segments that a lookup found, of one type.
     Found(SegType, Vec<Segment>),
     /// A purge was accepted.
-    Purged(Ack),
+    Purged(A),
     /// A removal was accepted.
-    Removed(Ack),
+    Removed(A),
     /// The page that a list found.
     Listed(Listing),
     /// A message was refused.
@@ -41,9 +42,9 @@ pub enum Reply {
 }
 
 /// The reply to a command of this kind.
-pub(crate) fn reply_to(kind: CommandKind, answered: Result<Ack, Code>) -> Reply
-    ensures reply { reply_view result ≡ reply_to_kind kind answered }
-    ensures sized { HasReplySize (reply_view result) }
+pub(crate) fn reply_to<A: Acknowledges>(kind: CommandKind, answered: Result<A, Code>) -> Reply<A>
+    ensures reply { reply_view A.says result ≡ reply_to_kind A.says kind answered }
+    ensures sized { HasReplySize (reply_view A.says result) }
 {
     match answered {
         Ok(ack) => match kind {
@@ -56,19 +57,20 @@ pub(crate) fn reply_to(kind: CommandKind, answered: Result<Ack, Code>) -> Reply
 }
 
 /// The frame of an acknowledgement, under the kind of its command.
-pub(crate) fn ack_frame(kind: u8, ack: Ack) -> [u8; ACK_FRAME]
-    ensures { result ≡ frame_encoding (kind ∷ ack_encoding ack) }
+pub(crate) fn ack_frame<A: Acknowledges>(kind: u8, ack: &A) -> [u8; ACK_FRAME]
+    ensures { result ≡ frame_encoding (kind ∷ ack_encoding (A.says ack.now)) }
 {
+    let Ack { place, outcome } = ack.says();
     let mut frame = [0; ACK_FRAME];
     BigEndian::write_u32(&mut frame, ACK_LENGTH as u32);
     frame[4] = kind;
-    BigEndian::write_u64(&mut frame[5..], ack.place);
+    BigEndian::write_u64(&mut frame[5..], place);
     BigEndian::write_u32_into(
         &[
-            ack.outcome.inserted,
-            ack.outcome.updated,
-            ack.outcome.kept,
-            ack.outcome.purged,
+            outcome.inserted,
+            outcome.updated,
+            outcome.kept,
+            outcome.purged,
         ],
         &mut frame[13..],
     );
@@ -113,15 +115,18 @@ pub(crate) fn listed_head(more: bool, response: usize) -> [u8; 6]
 
 /// The frame of a reply.
 #[tactic(auto, unfolding(crate::specs::Reply::reply_frame))]
-pub(crate) fn whole_frame(alloc: Global, reply: &Reply) -> Result<Vec<u8>, AllocError>
-    requires { HasReplySize (reply_view reply.now) }
-    ensures { IfOk result (λ frame. frame.items ≡ reply_frame (reply_view reply.now)) }
+pub(crate) fn whole_frame<A: Acknowledges>(
+    alloc: Global,
+    reply: &Reply<A>,
+) -> Result<Vec<u8>, AllocError>
+    requires { HasReplySize (reply_view A.says reply.now) }
+    ensures { IfOk result (λ frame. frame.items ≡ reply_frame (reply_view A.says reply.now)) }
 {
     match reply {
-        Reply::Registered(ack) => Vec::from_slice(alloc, &ack_frame(REGISTERED, *ack)),
+        Reply::Registered(ack) => Vec::from_slice(alloc, &ack_frame(REGISTERED, ack)),
         Reply::Found(kind, segments) => found_frame(alloc, *kind, segments),
-        Reply::Purged(ack) => Vec::from_slice(alloc, &ack_frame(PURGED, *ack)),
-        Reply::Removed(ack) => Vec::from_slice(alloc, &ack_frame(REMOVED, *ack)),
+        Reply::Purged(ack) => Vec::from_slice(alloc, &ack_frame(PURGED, ack)),
+        Reply::Removed(ack) => Vec::from_slice(alloc, &ack_frame(REMOVED, ack)),
         Reply::Listed(listing) => listed_frame(alloc, listing),
         Reply::Refused(code) => Vec::from_slice(alloc, &refusal_frame(*code)),
     }

@@ -21,12 +21,26 @@ use std::alloc::Global;
 /// The most segments of an answer to a lookup, and of a page.
 pub const MOST_SEGMENTS: usize = 64;
 
-/// The acknowledgement of a command: its place in the order of commands, counted from 0, and what
-/// the command did.
+/// What an acknowledgement says of its command: its place in the order of commands, counted from 0,
+/// and what the command did. A client reads it from a reply. It is no acknowledgement, so that no
+/// reply to a peer is made of it alone.
 #[derive(Clone, Copy)]
 pub struct Ack {
     pub place: u64,
     pub outcome: Outcome,
+}
+
+/// An acknowledgement of a command, of which a reply to a peer is made.
+pub trait Acknowledges {
+    ghost use Rattle.std.specs.Prelude.{◌≡◌};
+    ghost use Rattle.session_core.specs.declared.service.Ack.{Ack};
+
+    /// What the acknowledgement says.
+    ghost says: { Self → Ack };
+
+    /// What the acknowledgement says.
+    fn says(&self) -> Ack
+        ensures { result ≡ says self.now };
 }
 
 /// A page of the segments that a list asks for, which are of one type.
@@ -50,6 +64,9 @@ pub struct Code(pub u8);
 pub trait Service {
     /// A command that was handed in and is not answered yet.
     type UnderWay: Drop;
+
+    /// The acknowledgement of a command.
+    type Ack: Acknowledges + Drop;
 
     /// What contracts see of the messages that were answered.
     ghost State: { Type 0 };
@@ -75,8 +92,8 @@ pub trait Service {
     ghost hands_in: { Sent → MessageView → Sent → Type 0 };
 
     /// Answers the body of a registration.
-    fn register(&mut self, alloc: Global, message: &[u8]) -> Result<Ack, Code>
-        ensures answers { answers (state self.old) (Register message.now) (reply_to_register result) (state self.new) }
+    fn register(&mut self, alloc: Global, message: &[u8]) -> Result<Self::Ack, Code>
+        ensures answers { answers (state self.old) (Register message.now) (reply_to_register Self.Ack.says result) (state self.new) }
         ensures sent { hands_in (sent self.old) (Register message.now) (sent self.new) };
 
     /// Answers the body of a lookup: segments of one type. Nothing is handed in.
@@ -88,13 +105,13 @@ pub trait Service {
 
     /// Answers a purge of the rows that expire at this moment or before, in half seconds since
     /// 1970.
-    fn purge(&mut self, moment: u64) -> Result<Ack, Code>
-        ensures answers { answers (state self.old) (Purge moment) (reply_to_purge result) (state self.new) }
+    fn purge(&mut self, moment: u64) -> Result<Self::Ack, Code>
+        ensures answers { answers (state self.old) (Purge moment) (reply_to_purge Self.Ack.says result) (state self.new) }
         ensures sent { hands_in (sent self.old) (Purge moment) (sent self.new) };
 
     /// Answers the removal of a segment by the byte of its type, which can be any byte, and its id.
-    fn remove(&mut self, kind: u8, id: &[u8; 32]) -> Result<Ack, Code>
-        ensures answers { answers (state self.old) (Remove kind id.now) (reply_to_remove result) (state self.new) }
+    fn remove(&mut self, kind: u8, id: &[u8; 32]) -> Result<Self::Ack, Code>
+        ensures answers { answers (state self.old) (Remove kind id.now) (reply_to_remove Self.Ack.says result) (state self.new) }
         ensures sent { hands_in (sent self.old) (Remove kind id.now) (sent self.new) };
 
     /// Answers a list: a page of segments of one type. The number of the type can be any byte. Nothing
@@ -116,9 +133,9 @@ pub trait Service {
 
     /// Answers a command that was handed in. It is known of the others what was known before. Nothing
     /// more is handed in.
-    fn settle(&mut self, under_way: Self::UnderWay) -> Result<Ack, Code>
+    fn settle(&mut self, under_way: Self::UnderWay) -> Result<Self::Ack, Code>
         ensures answers { (message : MessageView) (kind : KindOfCommand) → is_for (state self.old) under_way message → command_kind message ≡ Some kind
-            → answers (state self.old) message (reply_to_kind kind result) (state self.new) }
+            → answers (state self.old) message (reply_to_kind Self.Ack.says kind result) (state self.new) }
         ensures others { (other : Self.UnderWay) (message : MessageView) → is_for (state self.old) other message → is_for (state self.new) other message }
         ensures sent { sent self.new ≡ sent self.old };
 }
@@ -126,6 +143,8 @@ pub trait Service {
 /// A borrowed service answers as the service itself does.
 impl<S: Service> Service for &mut S {
     type UnderWay = S::UnderWay;
+
+    type Ack = S::Ack;
 
     ghost State = { S.State × GName };
 
@@ -141,7 +160,7 @@ impl<S: Service> Service for &mut S {
 
     ghost hands_in = { S.hands_in };
 
-    fn register(&mut self, alloc: Global, message: &[u8]) -> Result<Ack, Code> {
+    fn register(&mut self, alloc: Global, message: &[u8]) -> Result<S::Ack, Code> {
         (**self).register(alloc, message)
     }
 
@@ -149,11 +168,11 @@ impl<S: Service> Service for &mut S {
         (**self).lookup(alloc, message)
     }
 
-    fn purge(&mut self, moment: u64) -> Result<Ack, Code> {
+    fn purge(&mut self, moment: u64) -> Result<S::Ack, Code> {
         (**self).purge(moment)
     }
 
-    fn remove(&mut self, kind: u8, id: &[u8; 32]) -> Result<Ack, Code> {
+    fn remove(&mut self, kind: u8, id: &[u8; 32]) -> Result<S::Ack, Code> {
         (**self).remove(kind, id)
     }
 
@@ -165,7 +184,7 @@ impl<S: Service> Service for &mut S {
         (**self).hand_in(alloc, message)
     }
 
-    fn settle(&mut self, under_way: S::UnderWay) -> Result<Ack, Code> {
+    fn settle(&mut self, under_way: S::UnderWay) -> Result<S::Ack, Code> {
         (**self).settle(under_way)
     }
 }

@@ -137,7 +137,7 @@ fn answer_all<W: Sink, S: Service>(
 {
     let mut sum = count;
     while let Some(reply) = session.next_reply(alloc)? {
-        write_reply(alloc, writer, &reply, form)?;
+        write_reply(alloc, writer, reply, form)?;
         sum = sum.saturating_add(1);
     }
     Ok(sum)

@@ -73,10 +73,10 @@ impl<S: Service> Session<S> {
     ///
     /// `None` means that the input is less than a frame, an error that the frame is faulty; in both
     /// cases nothing changes.
-    pub(crate) fn next_reply(&mut self, alloc: Global) -> Result<Option<Reply>, FrameError>
+    pub(crate) fn next_reply(&mut self, alloc: Global) -> Result<Option<Reply<S::Ack>>, FrameError>
         requires ahead { AreHandedIn self.old.kinds S.is_for (S.state self.old.service) self.old.ahead.queue.items self.old.inbox }
         requires few { length self.old.ahead.queue.items ≤ MOST_AHEAD }
-        ensures next { IsNextReply self.old.kinds S.answers (S.state self.old.service) self.old.inbox (S.state self.new.service) self.new.inbox result }
+        ensures next { IsNextReply S.Ack.says self.old.kinds S.answers (S.state self.old.service) self.old.inbox (S.state self.new.service) self.new.inbox result }
         ensures kinds { self.new.kinds ≡ self.old.kinds }
         ensures ahead { AreHandedIn self.old.kinds S.is_for (S.state self.new.service) self.new.ahead.queue.items self.new.inbox }
         ensures few { LeavesFewAhead result self.new.ahead.queue.items }
@@ -141,10 +141,10 @@ impl<S: Service> Session<S> {
     }
 
     /// Answers the first command that was handed in. The others are still ahead.
-    fn settle(&mut self, first: Handed<S::UnderWay>) -> Reply
+    fn settle(&mut self, first: Handed<S::UnderWay>) -> Reply<S::Ack>
         requires first { IsHandedIn self.old.kinds S.is_for (S.state self.old.service) first self.old.inbox }
         requires others { AreHandedIn self.old.kinds S.is_for (S.state self.old.service) self.old.ahead.queue.items (drop first.len self.old.inbox) }
-        ensures answered { IsFirstAnswered self.old.kinds S.answers (S.state self.old.service) self.old.inbox (reply_view result) (S.state self.new.service) self.new.inbox }
+        ensures answered { IsFirstAnswered self.old.kinds S.answers (S.state self.old.service) self.old.inbox (reply_view S.Ack.says result) (S.state self.new.service) self.new.inbox }
         ensures kinds { self.new.kinds ≡ self.old.kinds }
         ensures others { AreHandedIn self.old.kinds S.is_for (S.state self.new.service) self.new.ahead.queue.items self.new.inbox }
         ensures left { self.new.inbox ≡ drop first.len self.old.inbox }
@@ -207,9 +207,9 @@ fn hand_in<S: Service>(
 }
 
 /// Answers one message.
-fn answer<S: Service>(alloc: Global, service: &mut S, message: Message<&[u8]>) -> Reply
-    ensures answers { S.answers (S.state service.old) (message_at message.entry) (reply_view result) (S.state service.new) }
-    ensures sized { HasReplySize (reply_view result) }
+fn answer<S: Service>(alloc: Global, service: &mut S, message: Message<&[u8]>) -> Reply<S::Ack>
+    ensures answers { S.answers (S.state service.old) (message_at message.entry) (reply_view S.Ack.says result) (S.state service.new) }
+    ensures sized { HasReplySize (reply_view S.Ack.says result) }
     ensures handed_in { HandsInAtMostFor S.hands_in (S.sent service.old) (message_at message.entry) (S.sent service.new) }
 {
     match message {

@@ -2,14 +2,14 @@
 
 ghost use Rattle.std.specs.Prelude.{◌≡◌, ◌++◌, OnOk, IfOk, IfErr, string_bytes};
 ghost use Rattle.std.specs.Io.KnownBytes.{Appends};
-ghost use Rattle.session_core.specs.Reply.{HasReplySize, Found, reply_frame, told_as};
+ghost use Rattle.session_core.specs.Reply.{HasReplySize, Found, Listed, reply_frame, told_as};
 ghost use Rattle.session_core.specs.ReplyViews.{reply_view};
 ghost use Rattle.session_core.specs.Answered.{FailsToWrite, ReplyWriteFails};
 
 use crate::error::FrameError;
 use crate::kinds::{PURGED, REGISTERED, REMOVED};
 use crate::reply::{Form, Reply, ack_frame, found_head, listed_head, refusal_frame, whole_frame};
-use crate::service::Listing;
+use crate::service::{Acknowledges, Listing};
 use crate::sink::Sink;
 use seg_core::{SegType, Segment, write_response_of_type};
 use std::alloc::{AllocError, Global};
@@ -19,28 +19,33 @@ use whole_writes::WriteFailed;
 /// of what a connection gathers.
 const LONG: usize = 4_096;
 
-/// Writes a reply. Where memory is refused, nothing of the reply is written.
-pub(crate) fn write_reply<W: Sink>(
+/// Writes a reply, which is not written again: an acknowledgement is used up. Where memory is
+/// refused, nothing of the reply is written.
+pub(crate) fn write_reply<W: Sink, A: Acknowledges + Drop>(
     alloc: Global,
     writer: &mut W,
-    reply: &Reply,
+    reply: Reply<A>,
     form: Form,
 ) -> Result<(), FrameError>
-    requires { HasReplySize (reply_view reply.now) }
-    ensures ok { OnOk result (Appends (W.contents writer.old) (W.contents writer.new) (told_as form (reply_view reply.now))) }
-    ensures err { IfErr result (FailsToWrite (W.contents writer.old) (W.contents writer.new) (told_as form (reply_view reply.now))) }
+    requires { HasReplySize (reply_view A.says reply) }
+    ensures ok { OnOk result (Appends (W.contents writer.old) (W.contents writer.new) (told_as form (reply_view A.says reply))) }
+    ensures err { IfErr result (FailsToWrite (W.contents writer.old) (W.contents writer.new) (told_as form (reply_view A.says reply))) }
 {
     match form {
-        Form::Frames => write_frame(alloc, writer, reply),
-        Form::Lines => write_line(alloc, writer, reply),
+        Form::Frames => write_frame(alloc, writer, &reply),
+        Form::Lines => write_line(alloc, writer, &reply),
     }
 }
 
 /// Writes the hexadecimal digits of a reply's frame, and the end of the line.
-fn write_line<W: Sink>(alloc: Global, writer: &mut W, reply: &Reply) -> Result<(), FrameError>
-    requires { HasReplySize (reply_view reply.now) }
-    ensures ok { OnOk result (Appends (W.contents writer.old) (W.contents writer.new) (told_as Form.Lines (reply_view reply.now))) }
-    ensures err { IfErr result (FailsToWrite (W.contents writer.old) (W.contents writer.new) (told_as Form.Lines (reply_view reply.now))) }
+fn write_line<W: Sink, A: Acknowledges>(
+    alloc: Global,
+    writer: &mut W,
+    reply: &Reply<A>,
+) -> Result<(), FrameError>
+    requires { HasReplySize (reply_view A.says reply.now) }
+    ensures ok { OnOk result (Appends (W.contents writer.old) (W.contents writer.new) (told_as Form.Lines (reply_view A.says reply.now))) }
+    ensures err { IfErr result (FailsToWrite (W.contents writer.old) (W.contents writer.new) (told_as Form.Lines (reply_view A.says reply.now))) }
 {
     let Ok(line) = line_of(alloc, reply) else {
         return Err(FrameError::NoMemory);
@@ -49,9 +54,9 @@ fn write_line<W: Sink>(alloc: Global, writer: &mut W, reply: &Reply) -> Result<(
 }
 
 /// The hexadecimal digits of a reply's frame, and the end of the line.
-fn line_of(alloc: Global, reply: &Reply) -> Result<String, AllocError>
-    requires { HasReplySize (reply_view reply.now) }
-    ensures { IfOk result (λ line. string_bytes line ≡ told_as Form.Lines (reply_view reply.now)) }
+fn line_of<A: Acknowledges>(alloc: Global, reply: &Reply<A>) -> Result<String, AllocError>
+    requires { HasReplySize (reply_view A.says reply.now) }
+    ensures { IfOk result (λ line. string_bytes line ≡ told_as Form.Lines (reply_view A.says reply.now)) }
 {
     let frame = whole_frame(alloc, reply)?;
     let mut line = hex::encode(alloc, frame.as_slice())?;
@@ -62,16 +67,20 @@ fn line_of(alloc: Global, reply: &Reply) -> Result<String, AllocError>
 /// Writes the frame of a reply. Memory is taken for a response alone, before its first byte is
 /// written.
 #[tactic(auto, unfolding(crate::specs::Reply::reply_frame))]
-fn write_frame<W: Sink>(alloc: Global, writer: &mut W, reply: &Reply) -> Result<(), FrameError>
-    requires { HasReplySize (reply_view reply.now) }
-    ensures ok { OnOk result (Appends (W.contents writer.old) (W.contents writer.new) (reply_frame (reply_view reply.now))) }
-    ensures err { IfErr result (FailsToWrite (W.contents writer.old) (W.contents writer.new) (reply_frame (reply_view reply.now))) }
+fn write_frame<W: Sink, A: Acknowledges>(
+    alloc: Global,
+    writer: &mut W,
+    reply: &Reply<A>,
+) -> Result<(), FrameError>
+    requires { HasReplySize (reply_view A.says reply.now) }
+    ensures ok { OnOk result (Appends (W.contents writer.old) (W.contents writer.new) (reply_frame (reply_view A.says reply.now))) }
+    ensures err { IfErr result (FailsToWrite (W.contents writer.old) (W.contents writer.new) (reply_frame (reply_view A.says reply.now))) }
 {
     match reply {
-        Reply::Registered(ack) => write_all(writer, &ack_frame(REGISTERED, *ack)),
+        Reply::Registered(ack) => write_all(writer, &ack_frame(REGISTERED, ack)),
         Reply::Found(kind, segments) => write_found(alloc, writer, *kind, segments),
-        Reply::Purged(ack) => write_all(writer, &ack_frame(PURGED, *ack)),
-        Reply::Removed(ack) => write_all(writer, &ack_frame(REMOVED, *ack)),
+        Reply::Purged(ack) => write_all(writer, &ack_frame(PURGED, ack)),
+        Reply::Removed(ack) => write_all(writer, &ack_frame(REMOVED, ack)),
         Reply::Listed(listing) => write_listed(alloc, writer, listing),
         Reply::Refused(code) => write_all(writer, &refusal_frame(*code)),
     }
@@ -99,9 +108,9 @@ fn write_found<W: Sink>(
 /// Writes the frame of a page.
 #[tactic(auto, unfolding(crate::specs::Reply::reply_frame))]
 fn write_listed<W: Sink>(alloc: Global, writer: &mut W, listing: &Listing) -> Result<(), FrameError>
-    requires { HasReplySize (reply_view (Reply.Listed listing.now)) }
-    ensures ok { OnOk result (Appends (W.contents writer.old) (W.contents writer.new) (reply_frame (reply_view (Reply.Listed listing.now)))) }
-    ensures err { IfErr result (FailsToWrite (W.contents writer.old) (W.contents writer.new) (reply_frame (reply_view (Reply.Listed listing.now)))) }
+    requires { HasReplySize (Listed listing.now.more listing.now.kind listing.now.segments.items) }
+    ensures ok { OnOk result (Appends (W.contents writer.old) (W.contents writer.new) (reply_frame (Listed listing.now.more listing.now.kind listing.now.segments.items))) }
+    ensures err { IfErr result (FailsToWrite (W.contents writer.old) (W.contents writer.new) (reply_frame (Listed listing.now.more listing.now.kind listing.now.segments.items))) }
 {
     let Ok(response) = write_response_of_type(alloc, listing.kind, &listing.segments) else {
         return Err(FrameError::NoMemory);

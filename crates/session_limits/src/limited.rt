@@ -15,7 +15,7 @@ use crate::limit::Limit;
 use crate::rooms::{Room, Rooms};
 use seg_core::{SegError, SegType, Segment, read_registration};
 use session_clock::Now;
-use session_core::{Ack, Code, ListRequest, Listing, Message, Service};
+use session_core::{Code, ListRequest, Listing, Message, Service};
 use std::alloc::Global;
 use std::time::Clock;
 
@@ -369,6 +369,8 @@ impl<S: Service, C: Now, R: Clock> Service for Limited<'_, S, C, R> {
 
     type UnderWay = LimitedCommand<S::UnderWay>;
 
+    type Ack = S::Ack;
+
     ghost State = { LimitedView S.State };
 
     ghost state = { limited S.state };
@@ -383,7 +385,7 @@ impl<S: Service, C: Now, R: Clock> Service for Limited<'_, S, C, R> {
 
     ghost hands_in = { LimitedHandsIn S.hands_in };
 
-    fn register(&mut self, alloc: Global, message: &[u8]) -> Result<Ack, Code> {
+    fn register(&mut self, alloc: Global, message: &[u8]) -> Result<S::Ack, Code> {
         let admission = self.admit_registration(alloc, message);
         self.note_moment(admission.moment);
         if let Some(limit) = admission.limit {
@@ -402,7 +404,7 @@ impl<S: Service, C: Now, R: Clock> Service for Limited<'_, S, C, R> {
         self.inner.list(alloc, request)
     }
 
-    fn purge(&mut self, moment: u64) -> Result<Ack, Code> {
+    fn purge(&mut self, moment: u64) -> Result<S::Ack, Code> {
         let admission = self.admit_purge(moment);
         self.note_moment(admission.moment);
         if let Some(limit) = admission.limit {
@@ -413,7 +415,7 @@ impl<S: Service, C: Now, R: Clock> Service for Limited<'_, S, C, R> {
         answered
     }
 
-    fn remove(&mut self, kind: u8, id: &[u8; 32]) -> Result<Ack, Code> {
+    fn remove(&mut self, kind: u8, id: &[u8; 32]) -> Result<S::Ack, Code> {
         let admission = self.admit_removal(kind, id);
         self.note_moment(admission.moment);
         if let Some(limit) = admission.limit {
@@ -462,7 +464,7 @@ impl<S: Service, C: Now, R: Clock> Service for Limited<'_, S, C, R> {
         })
     }
 
-    fn settle(&mut self, command: LimitedCommand<S::UnderWay>) -> Result<Ack, Code> {
+    fn settle(&mut self, command: LimitedCommand<S::UnderWay>) -> Result<S::Ack, Code> {
         let LimitedCommand { moment, taken } = command;
         self.note_moment(moment);
         match taken {

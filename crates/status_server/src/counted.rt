@@ -3,7 +3,7 @@
 use crate::replies::Replies;
 use crate::reply_kind::{kind_to_command, kind_to_list, kind_to_lookup};
 use seg_core::{SegType, Segment};
-use session_core::{Ack, Code, CommandKind, ListRequest, Listing, Message, Service};
+use session_core::{Acknowledges, Code, CommandKind, ListRequest, Listing, Message, Service};
 use std::alloc::Global;
 use std::time::{Clock, Instant};
 
@@ -42,10 +42,15 @@ impl<'a, S: Service, K: Clock> Counted<'a, S, K> {
     }
 
     /// Counts the reply to a command, and what the command did. The moment is that of a purge.
-    fn count_command(&self, kind: CommandKind, moment: Option<u64>, answered: &Result<Ack, Code>) {
+    fn count_command(
+        &self,
+        kind: CommandKind,
+        moment: Option<u64>,
+        answered: &Result<S::Ack, Code>,
+    ) {
         self.replies.count(kind_to_command(kind, answered));
         if let Ok(ack) = answered {
-            self.replies.count_outcome(ack.outcome);
+            self.replies.count_outcome(ack.says().outcome);
             if let Some(until) = moment {
                 self.replies.note_purge(until);
             }
@@ -77,6 +82,8 @@ pub struct CountedCommand<U> {
 impl<S: Service, K: Clock> Service for Counted<'_, S, K> {
     type UnderWay = CountedCommand<S::UnderWay>;
 
+    type Ack = S::Ack;
+
     ghost State = { S.State };
 
     ghost state = { λ counted. S.state counted.service };
@@ -91,7 +98,7 @@ impl<S: Service, K: Clock> Service for Counted<'_, S, K> {
 
     ghost hands_in = { S.hands_in };
 
-    fn register(&mut self, alloc: Global, message: &[u8]) -> Result<Ack, Code> {
+    fn register(&mut self, alloc: Global, message: &[u8]) -> Result<S::Ack, Code> {
         let answered = self.service.register(alloc, message);
         self.count_command(CommandKind::Register, None, &answered);
         answered
@@ -113,13 +120,13 @@ impl<S: Service, K: Clock> Service for Counted<'_, S, K> {
         answered
     }
 
-    fn purge(&mut self, moment: u64) -> Result<Ack, Code> {
+    fn purge(&mut self, moment: u64) -> Result<S::Ack, Code> {
         let answered = self.service.purge(moment);
         self.count_command(CommandKind::Purge, Some(moment), &answered);
         answered
     }
 
-    fn remove(&mut self, kind: u8, id: &[u8; 32]) -> Result<Ack, Code> {
+    fn remove(&mut self, kind: u8, id: &[u8; 32]) -> Result<S::Ack, Code> {
         let answered = self.service.remove(kind, id);
         self.count_command(CommandKind::Remove, None, &answered);
         answered
@@ -143,7 +150,7 @@ impl<S: Service, K: Clock> Service for Counted<'_, S, K> {
         })
     }
 
-    fn settle(&mut self, counted: CountedCommand<S::UnderWay>) -> Result<Ack, Code> {
+    fn settle(&mut self, counted: CountedCommand<S::UnderWay>) -> Result<S::Ack, Code> {
         let CountedCommand {
             kind,
             moment,

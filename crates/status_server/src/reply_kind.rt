@@ -6,7 +6,7 @@ ghost use Rattle.session_core.specs.Service.{reply_to_list, reply_to_lookup};
 ghost use Rattle.status_server.specs.Kinds.{kind_of_reply};
 
 use seg_core::{SegType, Segment};
-use session_core::{Ack, Code, CommandKind, Listing};
+use session_core::{Acknowledges, Code, CommandKind, Listing};
 
 /// The kind of a reply, by which it is counted.
 #[derive(Clone, Copy, Debug, PartialEq, Eq)]
@@ -26,8 +26,11 @@ pub enum ReplyKind {
 }
 
 /// The kind of the reply to a command.
-pub(crate) fn kind_to_command(kind: CommandKind, answered: &Result<Ack, Code>) -> ReplyKind
-    ensures { result ≡ kind_of_reply (reply_to_kind kind answered.now) }
+pub(crate) fn kind_to_command<A: Acknowledges>(
+    kind: CommandKind,
+    answered: &Result<A, Code>,
+) -> ReplyKind
+    ensures { result ≡ kind_of_reply (reply_to_kind A.says kind answered.now) }
 {
     match answered {
         Ok(_) => match kind {

@@ -6,4 +6,5 @@ mod commands;
 mod framers;
 mod laws;
 mod lists;
+mod numbers;
 mod worked;

@@ -2,7 +2,7 @@
 
 use crate::connections::clock::MovedClock;
 use seg_core::{SegType, Segment};
-use session_core::{Ack, Code, ListRequest, Listing, Message, Service};
+use session_core::{Code, ListRequest, Listing, Message, Service};
 use std::alloc::Global;
 
 /// Answers as another service does, and moves a clock by this number of milliseconds before each
@@ -15,6 +15,8 @@ pub struct Busy<'a, S> {
 
 impl<S: Service> Service for Busy<'_, S> {
     type UnderWay = S::UnderWay;
+
+    type Ack = S::Ack;
 
     ghost State = { S.State };
 
@@ -30,7 +32,7 @@ impl<S: Service> Service for Busy<'_, S> {
 
     ghost hands_in = { S.hands_in };
 
-    fn register(&mut self, alloc: Global, message: &[u8]) -> Result<Ack, Code> {
+    fn register(&mut self, alloc: Global, message: &[u8]) -> Result<S::Ack, Code> {
         self.clock.pass(self.takes);
         self.service.register(alloc, message)
     }
@@ -40,12 +42,12 @@ impl<S: Service> Service for Busy<'_, S> {
         self.service.lookup(alloc, message)
     }
 
-    fn purge(&mut self, moment: u64) -> Result<Ack, Code> {
+    fn purge(&mut self, moment: u64) -> Result<S::Ack, Code> {
         self.clock.pass(self.takes);
         self.service.purge(moment)
     }
 
-    fn remove(&mut self, kind: u8, id: &[u8; 32]) -> Result<Ack, Code> {
+    fn remove(&mut self, kind: u8, id: &[u8; 32]) -> Result<S::Ack, Code> {
         self.clock.pass(self.takes);
         self.service.remove(kind, id)
     }
@@ -59,7 +61,7 @@ impl<S: Service> Service for Busy<'_, S> {
         self.service.hand_in(alloc, message)
     }
 
-    fn settle(&mut self, under_way: S::UnderWay) -> Result<Ack, Code> {
+    fn settle(&mut self, under_way: S::UnderWay) -> Result<S::Ack, Code> {
         self.clock.pass(self.takes);
         self.service.settle(under_way)
     }

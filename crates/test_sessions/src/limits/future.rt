@@ -11,7 +11,7 @@ use crate::service::stores::{assert_opens_to, cores, new_store};
 use crate::service::tasks::{Talk, talked};
 use hub_claims::{HubName, Patient};
 use path_hub::{Hub, Senders};
-use path_session::{Ack, Code, HubService, Service};
+use path_session::{Acknowledges, Code, HubService, Service};
 use sector_dev::Device;
 use seg_check::TrustAll;
 use seg_lookup::Roster;
@@ -235,9 +235,9 @@ struct OneByOne {
 }
 
 /// The place of a command that was answered, or the code of its refusal.
-fn place_or_code(answered: Result<Ack, Code>) -> Result<u64, u8> {
+fn place_or_code(answered: Result<impl Acknowledges + Drop, Code>) -> Result<u64, u8> {
     match answered {
-        Ok(ack) => Ok(ack.place),
+        Ok(ack) => Ok(ack.says().place),
         Err(code) => Err(code.0),
     }
 }

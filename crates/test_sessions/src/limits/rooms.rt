@@ -6,7 +6,7 @@ use crate::service::stores::{assert_opens_to, cores, new_store};
 use crate::service::tasks::{Talk, talked};
 use hub_claims::{HubName, Patient};
 use path_hub::{Hub, Senders};
-use path_session::{Ack, Code, HubService, Message, Service};
+use path_session::{Acknowledges, Code, HubService, Message, Service};
 use sector_dev::Device;
 use seg_check::TrustAll;
 use seg_lookup::Roster;
@@ -23,9 +23,9 @@ const HEAD: usize = 5;
 const BUSY: u8 = 0x51;
 
 /// The place of a command that was answered, or the code of its refusal.
-fn place_or_code(answered: Result<Ack, Code>) -> Result<u64, u8> {
+fn place_or_code(answered: Result<impl Acknowledges + Drop, Code>) -> Result<u64, u8> {
     match answered {
-        Ok(ack) => Ok(ack.place),
+        Ok(ack) => Ok(ack.says().place),
         Err(code) => Err(code.0),
     }
 }

@@ -9,7 +9,7 @@ use crate::service::stores::{assert_opens_to, cores, new_store};
 use crate::service::tasks::{Talk, served, talked};
 use hub_claims::{HubName, Patient};
 use path_hub::{Hub, Senders};
-use path_session::{Ack, Code, FrameError, HubService, Outcome, Service};
+use path_session::{Ack, Acknowledges, Code, FrameError, HubService, Outcome, Service};
 use sector_dev::Device;
 use seg_check::TrustAll;
 use seg_lookup::Roster;
@@ -74,12 +74,12 @@ fn body_of(frame: &[u8]) -> &[u8] {
 }
 
 /// What a command is answered.
-fn answer(
+fn answer<S: Service>(
     alloc: Global,
-    service: &mut impl Service,
+    service: &mut S,
     bodies: Bodies<'_>,
     act: Act,
-) -> Result<Ack, Code> {
+) -> Result<S::Ack, Code> {
     match act {
         Act::Register => service.register(alloc, bodies.segment),
         Act::Purge => service.purge(0),
@@ -128,7 +128,7 @@ fn answer_again(
         answer => answer,
     };
     match answer {
-        Ok(ack) => ack,
+        Ok(ack) => ack.says(),
         Err(code) => panic!(rt; "{}", code.0),
     }
 }

@@ -2,6 +2,7 @@
 
 use crate::bytes::joined;
 use crate::checks::assert_same;
+use crate::sessions::numbers::Numbers;
 use seg_core::{SegType, Segment};
 use session_core::{
     Ack, Code, CommandKind, FrameError, Kinds, ListRequest, Listing, MOST_AHEAD, Message, Outcome,
@@ -38,10 +39,10 @@ impl Desk {
     }
 
     /// An acknowledgement at the next place, with this number of purged rows.
-    fn ack(&mut self, purged: u32) -> Ack {
+    fn ack(&mut self, purged: u32) -> Numbers {
         let place = self.place;
         self.place = place.saturating_add(1);
-        Ack {
+        Numbers(Ack {
             place,
             outcome: Outcome {
                 inserted: 0,
@@ -49,13 +50,15 @@ impl Desk {
                 kept: 0,
                 purged,
             },
-        }
+        })
     }
 }
 
 impl Service for Desk {
     /// The count that is reported, or a refusal.
     type UnderWay = Result<u32, Code>;
+
+    type Ack = Numbers;
 
     ghost State = { Unit {0} };
 
@@ -71,7 +74,7 @@ impl Service for Desk {
 
     ghost hands_in = { λ _ _ _. Unit {0} };
 
-    fn register(&mut self, _alloc: Global, _message: &[u8]) -> Result<Ack, Code> {
+    fn register(&mut self, _alloc: Global, _message: &[u8]) -> Result<Numbers, Code> {
         self.note(b'c');
         Ok(self.ack(0))
     }
@@ -82,12 +85,12 @@ impl Service for Desk {
     }
 
     /// Reports the lower half of the moment as the count of purged rows.
-    fn purge(&mut self, moment: u64) -> Result<Ack, Code> {
+    fn purge(&mut self, moment: u64) -> Result<Numbers, Code> {
         self.note(b'c');
         Ok(self.ack((moment & 0xffff_ffff) as u32))
     }
 
-    fn remove(&mut self, _kind: u8, _id: &[u8; 32]) -> Result<Ack, Code> {
+    fn remove(&mut self, _kind: u8, _id: &[u8; 32]) -> Result<Numbers, Code> {
         self.note(b'c');
         Err(Code(0x29))
     }
@@ -111,7 +114,7 @@ impl Service for Desk {
         })
     }
 
-    fn settle(&mut self, under_way: Result<u32, Code>) -> Result<Ack, Code> {
+    fn settle(&mut self, under_way: Result<u32, Code>) -> Result<Numbers, Code> {
         self.note(b's');
         let purged = under_way?;
         Ok(self.ack(purged))

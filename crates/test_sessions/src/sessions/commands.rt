@@ -2,6 +2,7 @@
 
 use crate::bytes::joined;
 use crate::checks::assert_same;
+use crate::sessions::numbers::Numbers;
 use seg_core::{SegType, Segment};
 use session_core::{
     Ack, Code, FrameError, Kinds, ListRequest, Listing, Message, Outcome, Service, serve,
@@ -18,10 +19,10 @@ struct Counter {
 
 impl Counter {
     /// An acknowledgement at the next place, with these counts.
-    fn ack(&mut self, kept: u32, purged: u32) -> Ack {
+    fn ack(&mut self, kept: u32, purged: u32) -> Numbers {
         let place = self.place;
         self.place = place.saturating_add(1);
-        Ack {
+        Numbers(Ack {
             place,
             outcome: Outcome {
                 inserted: 0,
@@ -29,13 +30,15 @@ impl Counter {
                 kept,
                 purged,
             },
-        }
+        })
     }
 }
 
 impl Service for Counter {
     /// Nothing, as no message is taken ahead of its reply.
     type UnderWay = ();
+
+    type Ack = Numbers;
 
     ghost State = { Unit {0} };
 
@@ -51,7 +54,7 @@ impl Service for Counter {
 
     ghost hands_in = { λ _ _ _. Unit {0} };
 
-    fn register(&mut self, _alloc: Global, _message: &[u8]) -> Result<Ack, Code> {
+    fn register(&mut self, _alloc: Global, _message: &[u8]) -> Result<Numbers, Code> {
         Ok(self.ack(0, 0))
     }
 
@@ -60,13 +63,13 @@ impl Service for Counter {
     }
 
     /// Reports the lower half of the moment as the count of purged rows.
-    fn purge(&mut self, moment: u64) -> Result<Ack, Code> {
+    fn purge(&mut self, moment: u64) -> Result<Numbers, Code> {
         Ok(self.ack(0, (moment & 0xffff_ffff) as u32))
     }
 
     /// Refuses a byte that is no type, and reports the last byte of the id as the count of kept
     /// rows.
-    fn remove(&mut self, kind: u8, id: &[u8; 32]) -> Result<Ack, Code> {
+    fn remove(&mut self, kind: u8, id: &[u8; 32]) -> Result<Numbers, Code> {
         if kind < 1 || kind > 3 {
             return Err(Code(0x29));
         }
@@ -82,7 +85,7 @@ impl Service for Counter {
     }
 
     /// Refuses, as nothing is ever under way.
-    fn settle(&mut self, _under_way: ()) -> Result<Ack, Code> {
+    fn settle(&mut self, _under_way: ()) -> Result<Numbers, Code> {
         Err(Code(0x2b))
     }
 }

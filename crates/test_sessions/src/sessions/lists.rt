@@ -6,9 +6,10 @@ ghost use Rattle.seg_core.specs.Encoding.{IsSegment};
 
 use crate::bytes::{joined, push};
 use crate::checks::assert_same;
+use crate::sessions::numbers::Numbers;
 use seg_core::{SegType, Segment, read_segment};
 use session_core::{
-    Ack, Code, FrameError, Framer, Kinds, ListRequest, Listing, Message, Service, serve,
+    Code, FrameError, Framer, Kinds, ListRequest, Listing, Message, Service, serve,
 };
 use std::alloc::Global;
 use std::process::Abort;
@@ -43,6 +44,8 @@ impl Service for Shelf {
     /// Nothing, as no message is taken ahead of its reply.
     type UnderWay = ();
 
+    type Ack = Numbers;
+
     ghost State = { Unit {0} };
 
     ghost state = { λ _. tt };
@@ -57,7 +60,7 @@ impl Service for Shelf {
 
     ghost hands_in = { λ _ _ _. Unit {0} };
 
-    fn register(&mut self, _alloc: Global, _message: &[u8]) -> Result<Ack, Code> {
+    fn register(&mut self, _alloc: Global, _message: &[u8]) -> Result<Numbers, Code> {
         Err(Code(0x64))
     }
 
@@ -65,11 +68,11 @@ impl Service for Shelf {
         Err(Code(0x26))
     }
 
-    fn purge(&mut self, _moment: u64) -> Result<Ack, Code> {
+    fn purge(&mut self, _moment: u64) -> Result<Numbers, Code> {
         Err(Code(0x64))
     }
 
-    fn remove(&mut self, _kind: u8, _id: &[u8; 32]) -> Result<Ack, Code> {
+    fn remove(&mut self, _kind: u8, _id: &[u8; 32]) -> Result<Numbers, Code> {
         Err(Code(0x64))
     }
 
@@ -90,7 +93,7 @@ impl Service for Shelf {
     }
 
     /// Refuses, as nothing is ever under way.
-    fn settle(&mut self, _under_way: ()) -> Result<Ack, Code> {
+    fn settle(&mut self, _under_way: ()) -> Result<Numbers, Code> {
         Err(Code(0x2b))
     }
 }

@@ -28,30 +28,6 @@ returns-in_err-reply-clause-fronts g c =
     let p = err_from_is_err_and c.from_residual.result c.from_residual.ensures.1 in
     rw (p.1, p.2) (stops_at_fault _ _ _ _ _ _ _ _ _ _ _ _ _ _ c.loop-reply.invariant.answered (rw c.loop-reply.invariant.kinds at c.in_err-reply.ensures.next))
 
-pub loop-reply-preserved-in_ok-write_reply : goal.loop-reply-preserved-in_ok-write_reply
-loop-reply-preserved-in_ok-write_reply g c =
-    let first = rw (c.in-Some.is, c.loop-reply.invariant.kinds) at c.in_ok-reply.ensures.next in
-    let few = rw c.in-Some.is at c.in_ok-reply.ensures.few in
-    record {
-      kinds = c.in_ok-reply.ensures.kinds ∙ c.loop-reply.invariant.kinds;
-      answered = answered_next _ _ _ _ _ _ _ _ _ _ _ _ _ c.loop-reply.invariant.answered first _ _ c.in_ok-write_reply.ensures.ok c.saturating_add-sum.ensures;
-      ahead = rw c.loop-reply.invariant.kinds at c.in_ok-reply.ensures.ahead;
-      few = omega (arith, few);
-      handed_in = hands_then g.S.Service.hands_in _ _ _ _ _ _ c.loop-reply.invariant.handed_in (rw c.loop-reply.invariant.kinds at c.in_ok-reply.ensures.handed_in);
-    }
-
-pub loop-reply-preserved-in_ok-write_reply-2 : goal.loop-reply-preserved-in_ok-write_reply-2
-loop-reply-preserved-in_ok-write_reply-2 g c =
-    let first = rw (c.in-Some.is, c.loop-reply.invariant.kinds) at c.in_ok-reply.ensures.next in
-    let few = rw c.in-Some.is at c.in_ok-reply.ensures.few in
-    record {
-      kinds = c.in_ok-reply.ensures.kinds ∙ c.loop-reply.invariant.kinds;
-      answered = answered_next _ _ _ _ _ _ _ _ _ _ _ _ _ c.loop-reply.invariant.answered first _ _ c.in_ok-write_reply.ensures.ok c.saturating_add-sum.ensures;
-      ahead = rw c.loop-reply.invariant.kinds at c.in_ok-reply.ensures.ahead;
-      few = omega (arith, few);
-      handed_in = hands_then g.S.Service.hands_in _ _ _ _ _ _ c.loop-reply.invariant.handed_in (rw c.loop-reply.invariant.kinds at c.in_ok-reply.ensures.handed_in);
-    }
-
 pub loop-reply-preserved : goal.loop-reply-preserved
 loop-reply-preserved g c =
     let first = rw (c.in-Some.is, c.loop-reply.invariant.kinds) at c.in_ok-reply.ensures.next in
