@@ -19,8 +19,8 @@ use whole_writes::WriteFailed;
 /// of what a connection gathers.
 const LONG: usize = 4_096;
 
-/// Writes a reply, which is not written again: an acknowledgement is used up. Where memory is
-/// refused, nothing of the reply is written.
+/// Writes a reply. It is taken by value, so that no acknowledgement is written twice. Where memory
+/// is refused, nothing of the reply is written.
 pub(crate) fn write_reply<W: Sink, A: Acknowledges + Drop>(
     alloc: Global,
     writer: &mut W,
