@@ -67,7 +67,7 @@ def wait_for(is_so: Callable[[], bool], seconds: float, what: str) -> float:
 def child_of(process: subprocess.Popen, name: str) -> str:
     """The process of this name that another one has started; nothing where there is none."""
     children = Path(f"/proc/{process.pid}/task/{process.pid}/children").read_text().split()
-    return next((it for it in children if Path(f"/proc/{it}/comm").read_text().strip() == name), "")
+    return next((it for it in children if run("cat", f"/proc/{it}/comm").stdout.strip() == name), "")
 
 
 def go_alone(namespaces: list[str], tool: str, words: list[str]) -> None:
