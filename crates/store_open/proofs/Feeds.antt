@@ -1,6 +1,6 @@
 -- Rows that are read from a device, piece by piece.
-use Rattle.std.proofs.Common.{◌≡◌, ℕ, ◌+◌, ◌-◌, ◌*◌, ◌/◌, ◌≤◌, List, ◌++◌, take, drop, Err, refl, sym, ◌∙◌, ap, arith}
-use Rattle.std.proofs.lemmas.List.{drop-drop}
+use Rattle.std.proofs.Common.{◌≡◌, ℕ, ◌+◌, ◌-◌, ◌*◌, ◌/◌, ◌≤◌, List, ◌++◌, length, take, drop, Err, refl, sym, ◌∙◌, ap, arith}
+use Rattle.std.proofs.lemmas.List.{length-append, length-take, length-drop, drop-drop}
 use Rattle.std.proofs.Math.Seq.{take-add}
 use Rattle.std.specs.Prelude.{◌≢◌}
 use Rattle.byte_lists.specs.Content.{part}
@@ -18,7 +18,7 @@ pub split_part : (at n m : ℕ) (xs : List ℕ) → part at (n + m) xs ≡ part 
 split_part at n m xs = take-add n m (drop at xs) ∙ ap (λ (list : List ℕ). part at n xs ++ take m list) (drop-drop n at xs)
 
 -- the bytes that were fed, and the part of a piece that is fed after them
-pub fed_more : (reads now reader piece items : List ℕ) (area fed count to : ℕ) → 32 ≤ fed → fed ≤ 512 * (fed / 512) + to → to ≤ 512 * count
+fed_more : (reads now reader piece items : List ℕ) (area fed count to : ℕ) → 32 ≤ fed → fed ≤ 512 * (fed / 512) + to → to ≤ 512 * count
     → reader ≡ part (512 * area + 32) (fed - 32) reads → now ≡ reads → piece ≡ items → items ≡ part (512 * (area + fed / 512)) (512 * count) now
     → reader ++ take (to - (fed - 512 * (fed / 512))) (drop (fed - 512 * (fed / 512)) piece) ≡ part (512 * area + 32) (512 * (fed / 512) + to - 32) reads
 fed_more reads now reader piece items area fed count to some forward fits reader_is same piece_is items_are =
@@ -40,6 +40,18 @@ fed_more reads now reader piece items area fed count to some forward fits reader
 
     whole : (fed - 32) + (to - (fed - 512 * (fed / 512))) ≡ 512 * (fed / 512) + to - 32
     whole = omega (arith, some, forward)
+
+-- the same of a piece that was read over the front of a buffer
+pub fed_over : (reads now reader piece : List ℕ) (area fed count to size : ℕ) → 32 ≤ fed → fed ≤ 512 * (fed / 512) + to → to ≤ 512 * count
+    → reader ≡ part (512 * area + 32) (fed - 32) reads → now ≡ reads → piece ≡ part (512 * (area + fed / 512)) size now → size ≡ 512 * count
+    → reader ++ take (to - (fed - 512 * (fed / 512))) (drop (fed - 512 * (fed / 512)) piece) ≡ part (512 * area + 32) (512 * (fed / 512) + to - 32) reads
+fed_over reads now reader piece area fed count to size some forward fits reader_is same piece_is whole =
+    fed_more reads now reader piece piece area fed count to some forward fits reader_is same refl (piece_is ∙ ap (λ (n : ℕ). part (512 * (area + fed / 512)) n now) whole)
+
+-- a buffer is as long as before once a piece was read over its front
+pub buffer_kept : (most n : ℕ) (piece items : List ℕ) → n ≡ length items → most ≤ length items → most ≤ length (take n (piece ++ drop (length piece) items))
+buffer_kept most n piece items is fits =
+    omega (arith, is, fits, length-take n (piece ++ drop (length piece) items), length-append piece (drop (length piece) items), length-drop (length piece) items)
 
 -- rows that are refused when this number of their bytes is fed are refused as a whole
 pub feed_refused : (e : PairError) (bytes : List ℕ) (at n size : ℕ) (reads : List ℕ) → n ≤ size → bytes ≡ part at n reads → (e ≢ pair.NoMemory → (e ≡ pair.BadCheckpoint) × AreNoRows bytes)

@@ -17,7 +17,7 @@ ghost use Rattle.store_open.specs.Rows.{FeedsSo};
 
 use crate::error::OpenError;
 use crate::reading::read_sector;
-use crate::scanning::read_piece;
+use crate::scanning::fill;
 use ckpt_pair::{
     Checkpoint, checkpoints_are_read_by_their_fronts, feed_rows_by, finish_rows, read_front,
 };
@@ -31,7 +31,7 @@ use store_layout::{BEFORE_ROWS, Geometry, Half};
 const MOST_READ: u64 = 32_768;
 
 /// Reads the rows of the area that begins at a sector, which have `size` bytes, in pieces of at
-/// most 16 MiB, each in this way.
+/// most 16 MiB, each in this way. All pieces are read into the same memory.
 pub(crate) fn feed_area<B: RowDecoder, D: Device>(
     by: &B,
     alloc: Global,
@@ -49,12 +49,14 @@ pub(crate) fn feed_area<B: RowDecoder, D: Device>(
     let sectors = (end + (sector - 1)) / sector;
     let mut reader = DatabaseReader::new(alloc);
     let mut fed = BEFORE_ROWS as u64;
+    let mut buffer = vec![in alloc; 0; SECTOR * sectors.min(MOST_READ) as usize]?;
     'pieces: while fed < end {
         let first = fed / sector;
         let count = (sectors - first).min(MOST_READ);
         let is_small = count <= MOST_READ;
         prove!(is_small);
-        let piece = read_piece(alloc, device, area + first, count)?;
+        let piece = &mut buffer[..SECTOR * count as usize];
+        fill(device, area + first, piece)?;
         let from = fed - sector * first;
         let to = (end - sector * first).min(sector * count);
         reader = feed_rows_by(by, reader, &piece[from as usize..to as usize])?;

@@ -1,6 +1,6 @@
 //! Reading a journal from a device.
 
-ghost use Rattle.std.specs.Prelude.{◌≡◌, ◌⊎◌, ◌+◌, ◌*◌, ◌≤◌, length, IfOk, IfErr};
+ghost use Rattle.std.specs.Prelude.{◌≡◌, ◌⊎◌, ◌+◌, ◌*◌, ◌%◌, ◌≤◌, length, IfOk, IfErr, OnOk};
 ghost use Rattle.byte_lists.specs.Content.{part};
 ghost use Rattle.byte_lists.specs.declared.format.TheConstants.{SECTOR};
 ghost use Rattle.sector_dev.specs.Disk.{IsHonest, reads_of};
@@ -61,6 +61,19 @@ pub fn read_piece<D: Device>(
     ensures refused { IfErr result (λ e. (e ≡ IsDevice) ⊎ (e ≡ NoMemory)) }
 {
     let mut bytes = vec![in alloc; 0; SECTOR * count as usize]?;
-    device.read(at, &mut bytes)?;
+    fill(device, at, &mut bytes)?;
     Ok(bytes)
+}
+
+/// Reads whole sectors, which the device has from the sector `at` on, in place of the bytes of a
+/// piece. An error is `Device`, and then the piece may have any bytes.
+pub(crate) fn fill<D: Device>(device: &mut D, at: u64, piece: &mut [u8]) -> Result<(), OpenError>
+    requires whole { length piece.old % SECTOR ≡ 0 }
+    requires inside { SECTOR * at + length piece.old ≤ SECTOR * (D.disk device.old).sectors }
+    ensures looks { LooksFor result (D.disk device.old) (D.disk device.new) }
+    ensures read { OnOk result (IsHonest (D.disk device.old) → piece.new ≡ part (SECTOR * at) (length piece.old) (reads_of (D.disk device.old))) }
+    ensures refused { IfErr result (λ e. e ≡ IsDevice) }
+{
+    device.read(at, piece)?;
+    Ok(())
 }
