@@ -70,3 +70,7 @@ serves_some start store found left file end is opened alike moments since looked
     (subst (λ (it : Option HubLeftView). IfSome it (λ left. AreAllOf left.queued left.senders)) is sent)
     (subst (λ (it : Option HubLeftView). IfSome it (λ left. IsHonest end → EveryImage end.history.now (OpensToLog (value_of_store store) left.log))) is now)
     same covers
+
+-- what covers the images of a device covers those of the same device
+pub covers_same : (file same : FileState) (end last : Disk) → file ≡ same → end ≡ last → CoversImages file end → CoversImages same last
+covers_same file same end last is at covers = subst (λ (f : FileState). CoversImages f last) is (subst (λ (d : Disk). CoversImages file d) at covers)

@@ -14,6 +14,7 @@ mod server_line;
 mod server_options;
 mod serving;
 mod signals;
+mod site;
 mod starting;
 mod system;
 mod usage;

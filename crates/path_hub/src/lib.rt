@@ -34,7 +34,8 @@ pub use hub::Hub;
 pub use hub_status::Completed;
 pub use left::HubLeft;
 pub use logged_state::{
-    ClaimCollector, Left, Logged, LoggedList, LoggedReceipt, UnnamedClaim, UnnamedList,
+    ClaimCollector, Ended, Left, Logged, LoggedList, LoggedReceipt, Release, Reserved,
+    UnnamedClaim, UnnamedList,
 };
 pub use making::{HubJob, with_hub};
 pub use store_loops::{

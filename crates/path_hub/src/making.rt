@@ -18,11 +18,10 @@ use crate::hub::Hub;
 use crate::left::HubLeft;
 use crate::new_name::NewName;
 use command_queue::{CommandQueue, NewQueue, Senders};
-use group_core::State;
 use hub_claims::{HubError, HubName};
 use hub_readers::{Looks, ReaderError, open_readers};
 use hub_status::{Changes, HubStatus};
-use logged_state::{Left, LoggedList, LoggedState};
+use logged_state::{Ended, Left, LoggedList, LoggedState, Reserved};
 use sector_dev::Device;
 use std::alloc::Global;
 use std::marker::Brand;
@@ -30,7 +29,6 @@ use std::sync::atomic::AtomicBool;
 use std::sync::{Mutex, Wait};
 use std::thread::Threads;
 use std::time::Clock;
-use store_open::Store;
 
 /// A job with a hub. A job cannot name a hub itself, so all that it gets is of this hub.
 pub trait HubJob<D: Device, R: Wait + Clock> {
@@ -48,18 +46,18 @@ pub trait HubJob<D: Device, R: Wait + Clock> {
         ensures { does self result N.table };
 }
 
-/// Makes a hub over a store, and does the job with it. At the end the state is taken apart, and the
-/// device is returned with the log of all commands that the state accepted. An honest device opens
-/// to that log, with each command at its place whose claim was handed in as acknowledged. The
+/// Makes a hub over a store, and does the job with it. At the end the state is taken apart, and its
+/// ended device is returned with the log of all commands that the state accepted. An honest device
+/// opens to that log, with each command at its place whose claim was handed in as acknowledged. The
 /// caller gives each state of a process a home number of its own. Where the hub cannot be made, the
 /// store is returned unchanged, with the job.
 pub fn with_hub<D: Device, J: HubJob<D, R>, R: Wait + Clock + Threads + Copy + Sync>(
     rt: R,
     alloc: Global,
-    store: Store<D>,
+    store: Reserved<D>,
     home: u64,
     job: J,
-) -> Result<(J::Out, D, HubLeft), (Store<D>, J, HubError)>
+) -> Result<(J::Out, Ended<D>, HubLeft), (Reserved<D>, J, HubError)>
     ensures done { IfOk result (λ done. J.does job done.0 done.2.table) }
     ensures left { IfOk result (λ done. IsHonest (D.disk done.1) → EveryImage (D.disk done.1).history.now (OpensToLog (value_of_store store) done.2.log)) }
     ensures acknowledged { IfOk result (λ done. IsHonest (D.disk done.1)
@@ -91,10 +89,10 @@ fn do_with<
     rt: R,
     alloc: Global,
     name: NewName,
-    store: Store<D>,
+    store: Reserved<D>,
     home: u64,
     job: J,
-) -> Result<(J::Out, D, HubLeft), (Store<D>, J, HubError)>
+) -> Result<(J::Out, Ended<D>, HubLeft), (Reserved<D>, J, HubError)>
     requires opening { value_of_store store ≡ N.opening }
     requires start { store.disk ≡ N.start }
     requires log { name.log.table ≡ N.table }
@@ -133,9 +131,9 @@ impl<D: Device, N: HubName, R: Wait + Clock> Hub<D, N, R> {
         rt: R,
         alloc: Global,
         name: NewName,
-        store: Store<D>,
+        store: Reserved<D>,
         home: u64,
-    ) -> Result<Hub<D, N, R>, (Store<D>, HubError)>
+    ) -> Result<Hub<D, N, R>, (Reserved<D>, HubError)>
     where
         R: Threads + Copy + Sync,
         requires opening { value_of_store store ≡ N.opening }
@@ -156,7 +154,13 @@ impl<D: Device, N: HubName, R: Wait + Clock> Hub<D, N, R> {
             log,
             shown,
         } = name;
-        let opened = open_readers::<N, R>(rt, alloc, shown, store.db(), store.place());
+        let opened = open_readers::<N, R>(
+            rt,
+            alloc,
+            shown,
+            store.as_store().db(),
+            store.as_store().place(),
+        );
         let (show, mut readers) = match opened {
             Ok(made) => made,
             Err(ReaderError::NoMemory) => return Err((store, HubError::NoMemory)),
@@ -167,7 +171,7 @@ impl<D: Device, N: HubName, R: Wait + Clock> Hub<D, N, R> {
             show.close(looks);
             return Err((store, HubError::NoMemory));
         };
-        let state = LoggedState::new(State::new(alloc, store, show, home), log);
+        let state = LoggedState::new(alloc, store, show, home, log);
         let status = HubStatus::new(state.numbers());
         let NewQueue {
             queue,
@@ -203,7 +207,7 @@ impl<D: Device, N: HubName, R: Wait + Clock> Hub<D, N, R> {
     /// whose claim was handed in as acknowledged. What each session was shown last, if it handed
     /// that in, is a front of the log that no stop since its commit has lost. The log is a part of
     /// what was handed in at the queue. The call waits for readers that are within a lookup.
-    pub(crate) fn close(self) -> (D, HubLeft)
+    pub(crate) fn close(self) -> (Ended<D>, HubLeft)
     where
         R: Drop,
         ensures left { IsHonest (D.disk result.0) → EveryImage (D.disk result.0).history.now (OpensToLog N.opening result.1.log) }
@@ -255,7 +259,7 @@ fn close_state<D: Device, N: HubName, R: Wait + Clock + Drop>(
     under_way: AllUnderWay<N>,
     acknowledged: LoggedList<N>,
     looks: Looks<N>,
-) -> (D, Left)
+) -> (Ended<D>, Left)
     ensures left { IsHonest (D.disk result.0) → EveryImage (D.disk result.0).history.now (OpensToLog N.opening result.1.log) }
     ensures acknowledged { IsHonest (D.disk result.0) → EveryImage (D.disk result.0).history.now (OpensWithAll N.opening result.1.acknowledged) }
     ensures moments { Stretch N.start (D.disk result.0) (OpensToFrontOf N.opening result.1.log.commands 0) }

@@ -17,6 +17,7 @@ use crate::left::HubLeft;
 use crate::new_name::NewName;
 use command_queue::Senders;
 use hub_claims::{HubError, HubName};
+use logged_state::{Ended, Reserved};
 use sector_dev::Device;
 use std::alloc::Global;
 use std::marker::Brand;
@@ -25,7 +26,6 @@ use std::thread;
 use std::thread::Threads;
 use std::time::Clock;
 use store_loops::{Notice, Watch, checkpointer_loop, flusher_loop};
-use store_open::Store;
 
 /// The work of threads with a hub: tasks arrive one by one, and each is attended to in a thread of
 /// its own. A workload cannot name a hub itself, so all that a task gets is of this hub.
@@ -76,8 +76,8 @@ impl<D: Device, N: HubName, R: Wait + Clock, C: Workload<D, R>> Watch for Watchi
 }
 
 /// Makes a hub over a store, starts the flusher, the checkpointer and a thread for each task, and
-/// returns the number of tasks that were attended to (a count that stays at 2^64 - 1) once the
-/// last of these threads has ended. Then the state is stopped and the actors end. The device is
+/// returns the number of tasks that were attended to (a count that stays at 2^64 - 1) once the last
+/// of these threads has ended. Then the state is stopped and the actors end. The ended device is
 /// returned in every case, and with it the log of all commands that the state accepted, if there
 /// was a hub: an honest device opens to that log. Where the hub or an actor's thread is not given,
 /// the error is `NoMemory` or `NoReader`. The caller gives each state of a process a home number of
@@ -89,10 +89,10 @@ pub fn with_workload<
 >(
     rt: R,
     alloc: Global,
-    store: Store<D>,
+    store: Reserved<D>,
     home: u64,
     workload: &C,
-) -> (D, Option<HubLeft>, Result<u64, HubError>)
+) -> (Ended<D>, Option<HubLeft>, Result<u64, HubError>)
     // Whatever the threads did and however the call ends, a device that is honest opens to the log
     // that is left. Where none is left, no hub was made, and the device is the store's.
     ensures left { IfSome result.1 (λ left. IsHonest (D.disk result.0)
@@ -128,7 +128,7 @@ pub fn with_workload<
     ensures why { IfErr result.2 (λ e. (e ≡ NoMemory) ⊎ (e ≡ NoReader)) }
 {
     let Ok(name) = NewName::new(alloc) else {
-        return (store.into_device(), None, Err(HubError::NoMemory));
+        return (store.end(), None, Err(HubError::NoMemory));
     };
     named_workload::<Brand, D, C, R>(rt, alloc, name, store, home, workload)
 }
@@ -143,10 +143,10 @@ fn named_workload<
     rt: R,
     alloc: Global,
     name: NewName,
-    store: Store<D>,
+    store: Reserved<D>,
     home: u64,
     workload: &C,
-) -> (D, Option<HubLeft>, Result<u64, HubError>)
+) -> (Ended<D>, Option<HubLeft>, Result<u64, HubError>)
     requires opening { value_of_store store ≡ N.opening }
     requires start { store.disk ≡ N.start }
     requires log { name.log.table ≡ N.table }
@@ -171,7 +171,7 @@ fn named_workload<
 {
     let hub = match Hub::<D, N, R>::open(rt, alloc, name, store, home) {
         Ok(hub) => hub,
-        Err((store, refused)) => return (store.into_device(), None, Err(refused)),
+        Err((store, refused)) => return (store.end(), None, Err(refused)),
     };
     let attended = run_with_waker(&rt, &hub, workload);
     let (device, left) = hub.close();

@@ -3,8 +3,8 @@
 //! To the layer above, `serve_store` accepts connections of a listener and answers each as a
 //! session of the store, at most 64 at one time, until it has started the number of sessions that
 //! its options name. Then it closes the listener, and once the last session has ended, it returns
-//! the device. Another listener, where there is one, is for sessions that only look up, and one is
-//! for peers that ask for the server's numbers.
+//! the ended device. It never has the device itself. Another listener, where there is one, is for
+//! sessions that only look up, and one is for peers that ask for the server's numbers.
 #![tactic(auto)]
 
 mod anchor;
@@ -29,6 +29,7 @@ mod watching;
 pub use anchor::Doubt;
 pub use error::RunError;
 pub use options::Options;
+pub use path_hub::{Ended, Release, Reserved};
 pub use reports::{Report, Reports};
 pub use running::{System, serve_store};
 pub use session_core::Kinds;

@@ -13,7 +13,7 @@ use crate::error::RunError;
 use crate::options::Options;
 use crate::reports::Reports;
 use crate::server::Server;
-use path_hub::{HubLeft, with_workload};
+use path_hub::{Ended, HubLeft, Reserved, with_workload};
 use sector_dev::Device;
 use seg_check::{TrustAll, Verifier};
 use server_listeners::{Listener, Listeners};
@@ -21,7 +21,6 @@ use std::alloc::Global;
 use std::sync::Wait;
 use std::thread::Threads;
 use std::time::{Clock, Instant};
-use store_open::Store;
 
 /// The home number of a server's state. A process runs one server.
 const HOME: u64 = 1;
@@ -32,8 +31,8 @@ pub trait System: Wait + Clock + Threads + Copy + Drop + Send + Sync {}
 impl<R: Wait + Clock + Threads + Copy + Drop + Send + Sync> System for R {}
 
 /// Serves sessions over a store until the number that the options name has been started and has
-/// ended. Returns that number, and the device with the log of all commands that were accepted. An
-/// honest device opens to the store's rows and place after a front of that log with all committed
+/// ended. Returns that number, and the ended device with the log of all commands that were accepted.
+/// An honest device opens to the store's rows and place after a front of that log with all committed
 /// commands, whatever the sessions did and however the call ends. So it has each command at its
 /// place that a session acknowledged: each session hands in the claims of those commands at its
 /// end. At every moment since the store was opened a stop of the device would have left a front of
@@ -49,10 +48,10 @@ pub fn serve_store<R: System, L: Listener + Drop + Send, D: Device + Send, O: Re
     rt: R,
     alloc: Global,
     listeners: Listeners<L>,
-    store: Store<D>,
+    store: Reserved<D>,
     options: &Options,
     reports: &O,
-) -> (D, Option<HubLeft>, Result<u64, RunError>)
+) -> (Ended<D>, Option<HubLeft>, Result<u64, RunError>)
     ensures left { IfSome result.1 (λ left. IsHonest (D.disk result.0)
         → EveryImage (D.disk result.0).history.now (OpensToLog (value_of_store store) left.log)) }
     ensures acknowledged { IfSome result.1 (λ left. IsHonest (D.disk result.0)
@@ -85,11 +84,11 @@ fn serve_checked<
     rt: R,
     alloc: Global,
     listeners: Listeners<L>,
-    store: Store<D>,
+    store: Reserved<D>,
     options: &Options,
     verifier: &V,
     reports: &O,
-) -> (D, Option<HubLeft>, Result<u64, RunError>)
+) -> (Ended<D>, Option<HubLeft>, Result<u64, RunError>)
     ensures left { IfSome result.1 (λ left. IsHonest (D.disk result.0)
         → EveryImage (D.disk result.0).history.now (OpensToLog (value_of_store store) left.log)) }
     ensures acknowledged { IfSome result.1 (λ left. IsHonest (D.disk result.0)

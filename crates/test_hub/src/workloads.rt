@@ -3,7 +3,7 @@
 
 use crate::checks::assert_same;
 use hub_claims::{HubError, HubName};
-use path_hub::{Hub, Notice, Senders, Workload, with_workload};
+use path_hub::{Hub, Notice, Reserved, Senders, Workload, with_workload};
 use sector_dev::Device;
 use std::alloc::Global;
 use std::process::Abort;
@@ -115,8 +115,9 @@ pub(crate) fn attended<
     E: Errand + Sync,
     R: Wait + Clock + Threads + Abort + Copy + Drop + Send + Sync,
 >(rt: R, alloc: Global, store: Store<D>, tasks: &Tasks<E>) -> (D, Result<u64, HubError>) {
-    let (device, _left, attended) = with_workload(rt, alloc, store, 1, tasks);
-    (device, attended)
+    let (store, release) = Reserved::of(store);
+    let (end, _left, attended) = with_workload(rt, alloc, store, 1, tasks);
+    (end.into_device(release), attended)
 }
 
 /// Runs all tasks with a hub over a store, and returns the device.

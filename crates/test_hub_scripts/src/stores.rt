@@ -4,7 +4,7 @@ use group_core::{Receipt, Redeemed, Ticket};
 use hub_claims::HubError;
 use isd_as::IsdAs;
 use path_db::{Command, Registration};
-use path_hub::{Awaited, HubLeft, Steps};
+use path_hub::{Awaited, Ended, HubLeft, Reserved, Steps};
 use sector_dev::{Device, MemDevice, SECTOR};
 use seg_core::{SegType, read_segment};
 use seg_lookup::Query;
@@ -104,13 +104,19 @@ pub fn register(alloc: Global, origin: u8, egress: u8) -> Option<Command> {
     Some(Command::Register(Registration::new(rows)))
 }
 
+/// A store for a hub whose device the test does not take back.
+pub fn reserved<D: Device>(store: Store<D>) -> Reserved<D> {
+    let (store, _release) = Reserved::of(store);
+    store
+}
+
 /// What came of a job. The device is dropped, with the log that is left.
 pub fn ended<D: Device + Drop, J: Drop, T>(
     rt: &impl TestHost,
-    done: Result<(T, D, HubLeft), (Store<D>, J, HubError)>,
+    done: Result<(T, Ended<D>, HubLeft), (Reserved<D>, J, HubError)>,
 ) -> T {
     match done {
-        Ok((out, _device, _left)) => out,
+        Ok((out, _end, _left)) => out,
         Err((_store, _job, e)) => rt.fail(format_args!("{e:?}")),
     }
 }

@@ -14,7 +14,7 @@ use std::sync::Wait;
 use std::sync::atomic::{AtomicU64, Ordering};
 use std::time::Clock;
 use test_hub_scripts::acts::{Unwatched, flush};
-use test_hub_scripts::stores::{Contents, assert_opens_to, ended, new_store};
+use test_hub_scripts::stores::{Contents, assert_opens_to, ended, new_store, reserved};
 
 /// How many purges are handed in ahead: more than a group has.
 const AHEAD: u64 = 40;
@@ -132,7 +132,7 @@ fn stop_answers_what_is_under_way(rt: HostRuntime) {
     let host = Host(&rt);
     let alloc = rt.alloc();
     let store = new_store(&host, alloc);
-    let (place, refused) = ended(&host, with_hub(&rt, alloc, store, 1, Stops));
+    let (place, refused) = ended(&host, with_hub(&rt, alloc, reserved(store), 1, Stops));
     assert_same(&rt, &place, &Some(0), &"the first");
     let wanted = [
         Some(HubError::Stopped(1)),

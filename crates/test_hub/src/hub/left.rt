@@ -5,7 +5,7 @@ ghost use Rattle.std.specs.Prelude.{◌≡◌};
 use crate::host::Host;
 use hub_claims::{HubClaim, HubName};
 use path_db::Command;
-use path_hub::{Hub, HubJob, Senders, UnnamedClaim, with_hub};
+use path_hub::{Hub, HubJob, Reserved, Senders, UnnamedClaim, with_hub};
 use sector_dev::Device;
 use std::process::Abort;
 use std::sync::Wait;
@@ -66,12 +66,13 @@ impl<D: Device, R: Wait + Clock + Abort> HubJob<D, R> for Registers {
 fn receipts_are_found_in_what_is_left(rt: HostRuntime) {
     let host = Host(&rt);
     let alloc = rt.alloc();
-    let store = new_store(&host, alloc);
+    let (store, release) = Reserved::of(new_store(&host, alloc));
     match with_hub(&rt, alloc, store, 1, Registers) {
-        Ok(((first, second), device, left)) => {
+        Ok(((first, second), end, left)) => {
             let mut left = left.into_left();
             left.prove_committed(first);
             left.prove_committed(second);
+            let device = end.into_device(release);
             let _device = assert_opens_to(&host, alloc, device, Contents::empty_at(2));
         }
         Err((_store, _job, e)) => panic!(rt; "{e:?}"),

@@ -9,7 +9,7 @@ use sector_dev::Device;
 use std::alloc::Global;
 use std::sync::Wait;
 use std::time::Clock;
-use test_hub_scripts::stores::{ended, new_store};
+use test_hub_scripts::stores::{ended, new_store, reserved};
 
 /// Takes readers out until there is none, and gives one back. Comes to how many there were, whether
 /// the hub's own one was there beside them, and whether there is one then.
@@ -55,6 +55,9 @@ fn sixty_four_readers(rt: HostRuntime) {
     let host = Host(&rt);
     let alloc = rt.alloc();
     let store = new_store(&host, alloc);
-    let seen = ended(&host, with_hub(&rt, alloc, store, 1, TakesAll { alloc }));
+    let seen = ended(
+        &host,
+        with_hub(&rt, alloc, reserved(store), 1, TakesAll { alloc }),
+    );
     assert_same(&rt, &seen, &Some((64, true, true)), &"readers");
 }

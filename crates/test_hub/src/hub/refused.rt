@@ -8,7 +8,7 @@ use group_core::{Durable, PublishError, StageError, Staged, StepError, SubmitErr
 use hub_claims::{HubError, HubName};
 use hub_readers::{HubNote, HubReader, ReaderError};
 use path_db::Command;
-use path_hub::{Hub, HubJob, Senders, Steps, with_hub};
+use path_hub::{Hub, HubJob, Release, Reserved, Senders, Steps, with_hub};
 use sector_dev::{Device, MemDevice};
 use std::alloc::Global;
 use std::process::Abort;
@@ -215,19 +215,19 @@ impl<D: Device, R: Wait + Clock + Abort> HubJob<D, R> for Adds {
 fn assert_kept<D: Device>(
     rt: &Host<impl Abort>,
     alloc: Global,
-    store: Store<D>,
+    (store, release): (Reserved<D>, Release<D>),
     e: HubError,
 ) -> Store<D> {
     let is_refused = matches!(e, HubError::NoMemory | HubError::NoReader);
     assert_same(&rt.0, &is_refused, &true, &e);
-    assert_contents(rt, contents_of(&store), FIRST);
-    let store = opened(rt, alloc, store.into_device());
+    assert_contents(rt, contents_of(store.as_store()), FIRST);
+    let store = opened(rt, alloc, store.end().into_device(release));
     assert_contents(rt, contents_of(&store), FIRST);
     store
 }
 
 /// What comes back where a hub is not made.
-type Refused = (Store<MemDevice>, Adds, HubError);
+type Refused = ((Reserved<MemDevice>, Release<MemDevice>), Adds, HubError);
 
 /// The places of both segments, where a hub is made over a store.
 fn added<R: Wait + Clock + Threads + Abort + Copy + Sync>(
@@ -236,9 +236,10 @@ fn added<R: Wait + Clock + Threads + Abort + Copy + Sync>(
     store: Store<MemDevice>,
     adds: Adds,
 ) -> Result<(u64, u64), Refused> {
+    let (store, release) = Reserved::of(store);
     match with_hub(rt, alloc, store, 1, adds) {
-        Ok((places, _device, _left)) => Ok(places),
-        Err(refused) => Err(refused),
+        Ok((places, _end, _left)) => Ok(places),
+        Err((store, adds, e)) => Err(((store, release), adds, e)),
     }
 }
 
@@ -327,7 +328,7 @@ fn joined_again<R: Wait + Clock + Threads + Abort + Copy + Drop + Send + Sync>(
     e: HubError,
     tasks: &Tasks<Joins>,
 ) -> (MemDevice, u64) {
-    let store = assert_kept(&Host(rt), alloc, store, e);
+    let store = assert_kept(&Host(rt), alloc, Reserved::of(store), e);
     let (device, again) = attended(rt, alloc, store, tasks);
     (device, again.expect(&rt, "there is memory"))
 }

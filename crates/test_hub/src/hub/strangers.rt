@@ -13,7 +13,7 @@ use std::sync::Wait;
 use std::thread::Threads;
 use std::time::Clock;
 use test_hub_scripts::acts::{Unwatched, keep, spend, submit};
-use test_hub_scripts::stores::{ended, new_store};
+use test_hub_scripts::stores::{ended, new_store, reserved};
 
 /// Redeems another hub's ticket while a ticket of this one has the same place. Comes to that
 /// ticket.
@@ -59,8 +59,8 @@ fn visited<R: Wait + Clock + Threads + Abort + Copy + Sync>(
     ticket: Ticket,
 ) -> Ticket {
     let store = new_store(&Host(&rt), alloc);
-    match with_hub(rt, alloc, store, 2, Redeems { ticket }) {
-        Ok((ticket, _device, _left)) => ticket,
+    match with_hub(rt, alloc, reserved(store), 2, Redeems { ticket }) {
+        Ok((ticket, _end, _left)) => ticket,
         Err((_store, _job, e)) => panic!(&rt; "{e:?}"),
     }
 }
@@ -84,7 +84,10 @@ fn strangers(rt: HostRuntime) {
     let host = Host(&rt);
     let alloc = rt.alloc();
     let store = new_store(&host, alloc);
-    ended(&host, with_hub(&rt, alloc, store, 1, Visits { alloc }));
+    ended(
+        &host,
+        with_hub(&rt, alloc, reserved(store), 1, Visits { alloc }),
+    );
 }
 
 /// How many commands may be pending.
@@ -167,5 +170,8 @@ fn full_tails_are_busy(rt: HostRuntime) {
     let host = Host(&rt);
     let alloc = rt.alloc();
     let store = new_store(&host, alloc);
-    ended(&host, with_hub(&rt, alloc, store, 1, Fills { alloc }));
+    ended(
+        &host,
+        with_hub(&rt, alloc, reserved(store), 1, Fills { alloc }),
+    );
 }

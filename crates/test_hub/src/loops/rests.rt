@@ -12,7 +12,7 @@ use std::time::{Clock, Duration, Instant};
 use test_hub_scripts::acts::{
     Answer, GROUPS, Unwatched, Watch, commit, commit_all, flush, fold, seal, spend, submit,
 };
-use test_hub_scripts::stores::{ended, new_store};
+use test_hub_scripts::stores::{ended, new_store, reserved};
 
 /// How many changes there were of each kind after each call, beyond those that there were at first.
 #[derive(Drop)]
@@ -140,7 +140,10 @@ fn changes_are_counted(rt: HostRuntime) {
     let host = Host(&rt);
     let alloc = rt.alloc();
     let store = new_store(&host, alloc);
-    ended(&host, with_hub(&rt, alloc, store, 1, Makes { alloc }));
+    ended(
+        &host,
+        with_hub(&rt, alloc, reserved(store), 1, Makes { alloc }),
+    );
 }
 
 /// How long this number of rests takes.
@@ -233,5 +236,5 @@ fn rest_sees_earlier_changes(rt: HostRuntime) {
     let host = Host(&rt);
     let alloc = rt.alloc();
     let store = new_store(&host, alloc);
-    ended(&host, with_hub(&rt, alloc, store, 1, Rests));
+    ended(&host, with_hub(&rt, alloc, reserved(store), 1, Rests));
 }

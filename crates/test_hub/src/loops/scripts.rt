@@ -20,7 +20,9 @@ use test_fault_devices::{Gate, HeldDevice};
 use test_group_scripts::acts::NOTHING;
 use test_hub_scripts::acts::{Answer, GROUPS, Watch, fill, fold, refuse_stage, spend, submit};
 use test_hub_scripts::fakes::state_of;
-use test_hub_scripts::stores::{Contents, LEAST, assert_opens_to, ended, formatted, opened};
+use test_hub_scripts::stores::{
+    Contents, LEAST, assert_opens_to, ended, formatted, opened, reserved,
+};
 
 /// How many lines the script has: 513 purges that are committed at once, the one that a seal is
 /// staged before, and the one that is left.
@@ -305,7 +307,7 @@ fn played<R: Wait + Clock + Threads + Abort + Copy + Sync>(rt: R, alloc: Global)
         alloc,
         syncs: &syncs,
     };
-    ended(&host, with_hub(rt, alloc, store, 1, plays))
+    ended(&host, with_hub(rt, alloc, reserved(store), 1, plays))
 }
 
 /// Sees that what was seen of all events is what is expected.

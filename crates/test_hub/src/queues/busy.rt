@@ -12,7 +12,7 @@ use std::process::Abort;
 use std::sync::Wait;
 use std::time::Clock;
 use test_hub_scripts::acts::{Unwatched, flush};
-use test_hub_scripts::stores::{ended, new_store};
+use test_hub_scripts::stores::{ended, new_store, reserved};
 
 /// How many commands may be pending.
 const MOST_PENDING: u64 = 256;
@@ -78,5 +78,8 @@ fn busy_in_its_turn(rt: HostRuntime) {
     let host = Host(&rt);
     let alloc = rt.alloc();
     let store = new_store(&host, alloc);
-    ended(&host, with_hub(&rt, alloc, store, 1, Fills { alloc }));
+    ended(
+        &host,
+        with_hub(&rt, alloc, reserved(store), 1, Fills { alloc }),
+    );
 }

@@ -3,7 +3,7 @@
 use crate::server::checks::assert_same;
 use crate::server::stores::{LEAST, assert_opens_to, failing, formatted, opened};
 use isd_as::IsdAs;
-use path_server::{Kinds, Options, Report, Reports, RunError, System, serve_store};
+use path_server::{Kinds, Options, Report, Reports, Reserved, RunError, System, serve_store};
 use sector_dev::Device;
 use seg_lookup::Roster;
 use server_listeners::{Listener, Listeners, set_accept_timeout};
@@ -272,9 +272,9 @@ pub(crate) fn serve<R: System + Abort, L: Listener + Drop + Send, D: Device + Dr
     options: &Options,
     counts: &Counts,
 ) -> (D, Result<u64, RunError>) {
-    let store = opened(&rt, alloc, device);
-    let (device, _left, served) = serve_store(rt, alloc, listeners, store, options, counts);
-    (device, served)
+    let (store, release) = Reserved::of(opened(&rt, alloc, device));
+    let (end, _left, served) = serve_store(rt, alloc, listeners, store, options, counts);
+    (end.into_device(release), served)
 }
 
 /// Serves clients from the store of a device at listeners, of which they know that of sessions, by

@@ -6,7 +6,7 @@ use crate::service::clocks::Counts;
 use crate::service::stores::cores;
 use crate::service::tasks;
 use hub_claims::{HubError, HubName, Patient};
-use path_hub::{Hub, Senders, Workload, with_workload};
+use path_hub::{Hub, Reserved, Senders, Workload, with_workload};
 use path_session::{FrameError, HubService};
 use sector_dev::Device;
 use seg_check::TrustAll;
@@ -86,8 +86,9 @@ fn attended<
     S: Sessions + Sync,
     R: Wait + Clock + Threads + Abort + Copy + Drop + Send + Sync,
 >(rt: R, alloc: Global, store: Store<D>, crowd: &Crowd<'_, S>) -> (D, Result<u64, HubError>) {
-    let (device, _left, attended) = with_workload(rt, alloc, store, 1, crowd);
-    (device, attended)
+    let (store, release) = Reserved::of(store);
+    let (end, _left, attended) = with_workload(rt, alloc, store, 1, crowd);
+    (end.into_device(release), attended)
 }
 
 /// Runs this number of sessions over a store: the device. Where memory is refused for the hub or

@@ -8,7 +8,7 @@ use crate::service::tasks::{Talk, nap, session, talked};
 use group_core::{Redeemed, Ticket};
 use hub_claims::HubName;
 use path_db::Command;
-use path_hub::{Hub, HubJob, Senders, Steps, with_hub};
+use path_hub::{Hub, HubJob, Reserved, Senders, Steps, with_hub};
 use sector_dev::Device;
 use seg_lookup::Roster;
 use std::alloc::Global;
@@ -148,9 +148,9 @@ impl<D: Device, R: Wait + Clock + Abort> HubJob<D, R> for Fills {
 #[test]
 fn pending_commands_are_busy(rt: HostRuntime) {
     let alloc = rt.alloc();
-    let store = new_store(&rt, alloc);
+    let (store, _release) = Reserved::of(new_store(&rt, alloc));
     match with_hub(&rt, alloc, store, 1, Fills { alloc }) {
-        Ok((written, _device, _left)) => {
+        Ok((written, _end, _left)) => {
             assert_replied(&rt, alloc, written, &["00000002ff51", "00000002ff54"])
         }
         Err((_store, _job, e)) => panic!(rt; "{e:?}"),

@@ -5,7 +5,7 @@ use crate::checks::assert_same;
 use crate::service::clocks::Counts;
 use crate::service::stores::opened;
 use hub_claims::{HubError, HubName, Patient};
-use path_hub::{Hub, Senders, Workload, with_workload};
+use path_hub::{Hub, Reserved, Senders, Workload, with_workload};
 use path_session::{FrameError, HubService, Service, serve};
 use sector_dev::Device;
 use seg_check::TrustAll;
@@ -94,8 +94,9 @@ fn attended<
     T: Talk + Sync,
     R: Wait + Clock + Threads + Abort + Copy + Drop + Send + Sync,
 >(rt: R, alloc: Global, store: Store<D>, task: &Task<T>) -> (D, Result<u64, HubError>) {
-    let (device, _left, attended) = with_workload(rt, alloc, store, 1, task);
-    (device, attended)
+    let (store, release) = Reserved::of(store);
+    let (end, _left, attended) = with_workload(rt, alloc, store, 1, task);
+    (end.into_device(release), attended)
 }
 
 /// Has a task talk to a hub over a store: the device, and what was replied. Where memory is

@@ -24,11 +24,13 @@ returns-clause-shown g c =
 pub returns-clause-left : goal.returns-clause-left
 returns-clause-left g c =
     left_at_end g.B.StateName.start g.B.StateName.opening c.self.inside.log c.self.inside.state c.self.invariant.tie c.self.invariant.kept c.stops_leave_fronts.ensures.leaves.exit
-    c.note_committed.new.log (g.D.Device.disk c.into_parts-device.result.0)
-    (log_is _ _ _ _ _ _ c.note_committed.ensures c.durable.ensures (ap (λ (d : Disk). moment_number d) c.device.ensures)) c.into_parts-device.ensures.device
+    c.note_committed.new.log (g.D.Device.disk c.of.result)
+    (log_is _ _ _ _ _ _ c.note_committed.ensures c.durable.ensures (ap (λ (d : Disk). moment_number d) c.device.ensures))
+    (ap g.D.Device.disk c.of.ensures ∙ c.into_parts-device.ensures.device)
 
 pub returns-clause-since : goal.returns-clause-since
 returns-clause-since g c =
     all_kept_at_end g.B.StateName.start g.B.StateName.opening c.self.inside.log c.self.inside.state c.self.invariant.tie c.self.invariant.kept c.stops_leave_fronts.ensures.leaves.exit
-    c.note_committed.new.log (g.D.Device.disk c.into_parts-device.result.0)
-    (log_is _ _ _ _ _ _ c.note_committed.ensures c.durable.ensures (ap (λ (d : Disk). moment_number d) c.device.ensures)) c.into_parts-device.ensures.device
+    c.note_committed.new.log (g.D.Device.disk c.of.result)
+    (log_is _ _ _ _ _ _ c.note_committed.ensures c.durable.ensures (ap (λ (d : Disk). moment_number d) c.device.ensures))
+    (ap g.D.Device.disk c.of.ensures ∙ c.into_parts-device.ensures.device)

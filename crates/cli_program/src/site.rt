@@ -1,0 +1,85 @@
+//! What a server begins with, and the opening of its store.
+
+ghost use Rattle.std.specs.Prelude.{IfOk};
+ghost use Rattle.sector_dev.specs.Disk.{IsHonest, reads_of};
+ghost use Rattle.sector_dev.specs.FileDevice.{file_disk};
+ghost use Rattle.sector_dev.specs.Image.{IsFromImage};
+ghost use Rattle.sector_dev.specs.Stretch.{Stretch};
+ghost use Rattle.store_open.specs.Open.{IsOpened, OpensAlike};
+
+use crate::addresses::listen;
+use crate::system::{Host, System};
+use clap::ArgMatches;
+use cli_lines::Failure;
+use cli_words::DEVICE;
+use path_hub::Reserved;
+use sector_dev::{FileDevice, LastFault, PositionedFile, SystemFile};
+use server_listeners::Listeners;
+use std::net::TcpListener;
+use std::sync::Arc;
+use store_open::open_in_threads;
+
+/// What a server begins with, over a file of any kind.
+#[derive(Drop)]
+pub(crate) struct Site<'a, F: PositionedFile> {
+    /// The path of the device's file.
+    pub(crate) path: &'a str,
+    // This file alone has it, until its store is reserved.
+    device: FileDevice<F>,
+    /// What failed last in that file.
+    pub(crate) last_fault: Arc<LastFault>,
+    /// Where the server listens, or why it does not, which is said once the store is open.
+    listeners: ListenersOr<'a>,
+}
+
+/// Where a server listens, or why it does not.
+pub(crate) type ListenersOr<'a> = Result<Listeners<TcpListener>, Failure<'a>>;
+
+impl<'a> Site<'a, SystemFile> {
+    /// Opens the file of the words, and listens at their addresses.
+    pub(crate) fn of_words<R: System>(
+        rt: &R,
+        words: &ArgMatches<'a>,
+    ) -> Result<Site<'a, SystemFile>, Failure<'a>> {
+        let path = words.get_str(DEVICE).unwrap_or("");
+        let no_file = |error| Failure::File(path, error);
+        let file = device_files::open(rt, path).map_err(no_file)?;
+        let Ok(last_fault) = file.last_fault() else {
+            return Err(Failure::Memory);
+        };
+        let device = FileDevice::new(file).map_err(no_file)?;
+        Ok(Site {
+            path,
+            device,
+            last_fault,
+            listeners: listen(rt, words),
+        })
+    }
+}
+
+impl<'a, F: PositionedFile + Drop> Site<'a, F> {
+    /// Opens the store of the device, whose rows are read in threads, and reserves it: from then on
+    /// its state alone has the device. Returns it with the listeners.
+    pub(crate) fn open<R: Host>(
+        self,
+        rt: &R,
+    ) -> Result<(Reserved<FileDevice<F>>, ListenersOr<'a>), Failure<'a>>
+        ensures opened { IfOk result (λ opened. IsHonest (file_disk self.device) → IsOpened (reads_of (file_disk self.device)) opened.0) }
+        ensures any_moment { IfOk result (λ opened.
+            Stretch (file_disk self.device) opened.0.disk (IsFromImage (file_disk self.device).history.now OpensAlike)) }
+    {
+        let Site {
+            path,
+            device,
+            last_fault: _last_fault,
+            listeners,
+        } = self;
+        match open_in_threads(rt, rt.alloc(), device) {
+            Ok(store) => {
+                let (store, _release) = Reserved::of(store);
+                Ok((store, listeners))
+            }
+            Err((_device, error)) => Err(Failure::Store(path, error.into())),
+        }
+    }
+}
