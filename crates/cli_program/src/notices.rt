@@ -5,6 +5,7 @@ ghost use Rattle.std.specs.Prelude.{◌≡◌};
 use crate::input::read_to_the_end;
 use crate::server_line::ServerLine;
 use crate::signals::Signals;
+use crate::starting::milliseconds_since;
 use crate::system::Host;
 use crate::usage::UsageFiles;
 use cli_lines::{Lines, Priority};
@@ -14,6 +15,7 @@ use std::alloc::{AllocError, Global};
 use std::io::Read;
 use std::sync::{Arc, Wait};
 use std::thread;
+use std::time::Instant;
 
 /// What the threads of the program and those of its server share.
 #[derive(Drop)]
@@ -31,6 +33,8 @@ struct Shared {
 #[derive(Drop)]
 pub(crate) struct Notices<R> {
     rt: R,
+    /// When the start of the server began, where the clock could be read.
+    begun: Option<Instant>,
     is_quiet: bool,
     shared: Arc<Shared>,
 }
@@ -63,6 +67,7 @@ impl<R: Host> Notices<R> {
         }
         Ok(Notices {
             rt: rt.clone()?,
+            begun: Instant::now(rt).ok(),
             is_quiet,
             shared,
         })
@@ -89,6 +94,12 @@ impl<R: Host> Notices<R> {
             let line = ServerLine::Text(priority, text);
             self.shared.lines.push(&self.rt, line);
         }
+    }
+
+    /// Says how long the start of the server took, from the making of these notices on.
+    fn say_ready(&self) {
+        let milliseconds = milliseconds_since(&self.rt, self.begun);
+        self.say(format!(in self.rt.alloc(); "ready in {milliseconds} ms"));
     }
 
     /// The rows of the store that was opened do not fit, so the server's store stops at once.
@@ -161,10 +172,13 @@ impl<R: Wait> Notices<R> {
     }
 }
 
-impl<R: Wait> Reports for Notices<R> {
+impl<R: Host> Reports for Notices<R> {
     fn report(&self, report: Report) {
         match report {
-            Report::Ready => self.shared.signals.note_ready(&self.rt),
+            Report::Ready => {
+                self.say_ready();
+                self.shared.signals.note_ready(&self.rt);
+            }
             // It is no fault of the device, and was said when the store was opened.
             Report::Stopped if self.shared.signals.is_overfull() => {}
             Report::Stopped => {

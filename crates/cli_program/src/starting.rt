@@ -78,7 +78,7 @@ fn opened_line<D: Device>(
 }
 
 /// The number of milliseconds since a moment, or 0 where the clock cannot be read.
-fn milliseconds_since(clock: &impl Clock, begun: Option<Instant>) -> u64 {
+pub(crate) fn milliseconds_since(clock: &impl Clock, begun: Option<Instant>) -> u64 {
     let Some(begun) = begun else {
         return 0;
     };
