@@ -42,8 +42,8 @@ pub(crate) fn purge_at_once<L: Link, W: Write>(
     print_ack(alloc, form, &ack, writer)
 }
 
-/// Purges by rising moments, of which the last is this one. `total` is what all steps so far did, if
-/// there is one.
+/// Purges by rising moments, of which the last is this one. `total` is what all steps so far did,
+/// if there is one.
 fn drop_in_steps<L: Link>(
     alloc: Global,
     link: &mut L,

@@ -28,12 +28,12 @@ pub trait Refusals {
     fn refused(&mut self, line: u64, code: u8);
 }
 
-/// Registers the segments of an input, a line each, as `list` and `show` print them by `--json`.
-/// Up to `MOST_AHEAD` registrations are sent ahead, each of one line, and the line of each
+/// Registers the segments of an input, a line each, as `list` and `show` print them by `--json`. Up
+/// to `MOST_AHEAD` registrations are sent ahead, each of one line, and the line of each
 /// acknowledgement is printed in the order of the lines. After a line that is refused, that has no
-/// segment, that is too long or that can't be read, no further one is sent; the replies that are under way are read and
-/// printed. The error is that of the first such line. A fault of the link, of the output or of memory
-/// ends the run at once, and so does a reply of another kind.
+/// segment, that is too long or that can't be read, no further one is sent; the replies that are
+/// under way are read and printed. The error is that of the first such line. A fault of the link,
+/// of the output or of memory ends the run at once, and so does a reply of another kind.
 pub fn register<L: Link, I: Read, W: Write, N: Refusals>(
     alloc: Global,
     link: &mut L,
@@ -94,8 +94,8 @@ struct Run {
 }
 
 impl Run {
-    /// Notes why no further line is sent. Of two faults that of the line that comes first is kept: a
-    /// line without a segment is seen before the replies to the lines before it.
+    /// Notes why no further line is sent. Of two faults that of the line that comes first is kept:
+    /// a line without a segment is seen before the replies to the lines before it.
     fn stop(&mut self, fault: LineFault)
         ensures { self.new ≡ record self.old { fault = Some (first_fault self.old.fault fault); is_over = true } }
     {
@@ -178,8 +178,9 @@ impl Lines {
         }
     }
 
-    /// The next line, which has this number, without its end. Bytes after the last end of a line are a
-    /// line, too. A line above `MOST_LINE` bytes is refused as `LongLine`, however the input is cut.
+    /// The next line, which has this number, without its end. Bytes after the last end of a line
+    /// are a line, too. A line above `MOST_LINE` bytes is refused as `LongLine`, however the input
+    /// is cut.
     fn next<I: Read>(&mut self, input: &mut I, number: u64) -> Result<Option<Vec<u8>>, AskError>
         ensures most { IfOk result (λ next. IfSome next (λ line. vec_len line ≤ MOST_LINE)) }
     {

@@ -159,7 +159,7 @@ fn segments_of(alloc: Global, messages: &[u8]) -> Result<Vec<Segment>, AskError>
     Ok(segments)
 }
 
-/// A message, and what is behind it.
+/// A message, and what follows it.
 #[derive(Clone, Copy)]
 struct Split<'a> {
     message: &'a [u8],

@@ -45,8 +45,8 @@ impl Step {
         }
     }
 
-    /// The step after this one, which has dropped this number of rows. The last one is by the moment
-    /// of the purge.
+    /// The step after this one, which has dropped this number of rows. The last one is by the
+    /// moment of the purge.
     pub(crate) fn next(&self, dropped: u32, last: u64) -> Step
         requires { self.now.moment < last }
         ensures width { result.width ≡ next_width dropped self.now.width (last - self.now.moment) }
@@ -74,8 +74,8 @@ fn next_width(dropped: u32, width: u64, left: u64) -> u64
     width_for(dropped, width).max(1).min(most)
 }
 
-/// The time within which some `ENOUGH` rows expire, after a step of this width that has dropped this
-/// number of them. After few rows it is twice the width.
+/// The time within which some `ENOUGH` rows expire, after a step of this width that has dropped
+/// this number of them. After few rows it is twice the width.
 #[tactic(auto, unfolding(crate::specs::Steps::width_for))]
 fn width_for(dropped: u32, width: u64) -> u64
     ensures { result ≡ width_for dropped width }

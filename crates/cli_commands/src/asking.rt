@@ -30,8 +30,8 @@ const PAUSE: u64 = 100;
 const INPUT: &str = "-";
 
 /// Asks a server, and prints what it answers. The words are judged before anything is opened, and
-/// the file of a registration is opened before a connection is made. No clause says what is printed,
-/// since none says what a server replies.
+/// the file of a registration is opened before a connection is made. No clause says what is
+/// printed, since none says what a server replies.
 pub fn ask_server<
     'a,
     R: AllocGlobal
@@ -127,9 +127,9 @@ impl<
         + Files<File = File>
         + Net<Listener = TcpListener, Stream = TcpStream>,
 > Way<'_, R> {
-    /// Connects to the server. Where it can't, it tries again until the time of the wait is over. What
-    /// is left of that time may be the time of a reply, too: a server that opens its store takes
-    /// connections, and answers none.
+    /// Connects to the server. Where it can't, it tries again until the time of the wait is over.
+    /// What is left of that time may be the time of a reply, too: a server that opens its store
+    /// takes connections, and answers none.
     fn connect(&self) -> Result<TcpLink<'_, R>, AskError> {
         let begun = Instant::now(self.rt).map_err(AskError::Connect)?;
         for _ in 0..u64::MAX {
@@ -145,8 +145,8 @@ impl<
         Err(AskError::Timeout)
     }
 
-    /// Connects to the first of the server's addresses that takes a connection. The error is that of
-    /// the last one.
+    /// Connects to the first of the server's addresses that takes a connection. The error is that
+    /// of the last one.
     fn connect_once(&self) -> io::Result<TcpStream> {
         let mut failed = io::Error::from(ErrorKind::NotFound);
         for address in self.server.to_socket_addrs(self.rt)? {

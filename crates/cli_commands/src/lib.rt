@@ -3,8 +3,8 @@
 //!
 //! To the layer above, each command has a function that takes its options, opens the files and
 //! connections that they name, and does what its crate does over these: `cli_once`, `cli_store` or
-//! `cli_ask`. `cores_in`, `key_in`, `u32_in` and `is_address` read options that a server has, too. `more_of` adds
-//! to the line of a failure what the system knows of a file.
+//! `cli_ask`. `cores_in`, `key_in`, `u32_in` and `is_address` read options that a server has, too.
+//! `more_of` adds to the line of a failure what the system knows of a file.
 #![tactic(auto)]
 
 mod addresses;

@@ -14,8 +14,8 @@ use isd_as::{IsdAs, parse};
 use seg_check::Keyed;
 use std::alloc::Global;
 
-/// The core ASes of the words, of which there are none where no option names them. A failure is that
-/// of the first text that is no ISD-AS, or memory was refused.
+/// The core ASes of the words, of which there are none where no option names them. A failure is
+/// that of the first text that is no ISD-AS, or memory was refused.
 pub fn cores_in<'a>(alloc: Global, words: &ArgMatches<'a>) -> Result<Vec<IsdAs>, Failure<'a>>
     ensures ok { IfOk result (λ cores. AreCoresOf (first_value (found_of words.now) (codes "cores")) cores.items) }
     ensures refused { IfErr result (λ failure. RefusesCores (first_value (found_of words.now) (codes "cores")) (ended_by failure)) }

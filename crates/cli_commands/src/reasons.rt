@@ -11,9 +11,9 @@ use std::io::ErrorKind;
 use std::rt::Files;
 use store_open::{OpenError, titled_sizes};
 
-/// What the line of a failure ends with: the process that has a file open, or how many bytes a store
-/// that was cut had. `None` where nothing more is known. No clause says what the system knows of a
-/// file.
+/// What the line of a failure ends with: the process that has a file open, or how many bytes a
+/// store that was cut had. `None` where nothing more is known. No clause says what the system knows
+/// of a file.
 pub fn more_of<R: AllocGlobal + Files<File = File>>(
     rt: &R,
     failure: &Failure<'_>,

@@ -235,8 +235,8 @@ fn zeros_for<'a, R: AllocGlobal + Files<File = File> + Eprint>(
     device_over(path, file.into_zeros(rt, path, len, room))
 }
 
-/// Why a file is not opened while this process reads the one at `old`: it may be that file, on which
-/// this process has a lock.
+/// Why a file is not opened while this process reads the one at `old`: it may be that file, on
+/// which this process has a lock.
 fn no_target<R: Files<File = File>>(rt: &R, old: &str, path: &str, error: Error) -> Error {
     if error.kind() == ErrorKind::WouldBlock && is_one_file(rt, old, path) {
         return Error::new(ErrorKind::InvalidInput, "OLD and NEW are one file");
@@ -317,8 +317,8 @@ pub(crate) fn form_in(options: &ArgMatches<'_>, text: RowForm) -> RowForm {
     }
 }
 
-/// Prints the status of a file's store. The file is opened for reading alone. No clause says what is
-/// printed: that of `status` says it of any device.
+/// Prints the status of a file's store. The file is opened for reading alone. No clause says what
+/// is printed: that of `status` says it of any device.
 pub fn status_of_file<'a, R: AllocGlobal + Files<File = File>, O: Write>(
     rt: &R,
     options: &ArgMatches<'a>,

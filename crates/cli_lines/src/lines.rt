@@ -41,7 +41,8 @@ pub struct Lines<L> {
 }
 
 impl<L: Line + Drop> Lines<L> {
-    /// No lines yet. Each will begin with its priority where `is_marked` says so. No clause says so.
+    /// No lines yet. Each will begin with its priority where `is_marked` says so. No clause says
+    /// so.
     pub fn new(alloc: Global, is_marked: bool) -> Result<Lines<L>, AllocError> {
         let shared = Shared {
             waiting: Waiting::new(alloc)?,

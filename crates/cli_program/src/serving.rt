@@ -23,8 +23,8 @@ use std::time::Instant;
 use std::{io, thread};
 
 /// Serves the sessions of a store. Prints `ready` once peers are answered, and the number of
-/// sessions at the end. The core ASes and the key are judged before the file is opened, and before a
-/// store is made where the words ask for that. The server listens before the store is opened, so
+/// sessions at the end. The core ASes and the key are judged before the file is opened, and before
+/// a store is made where the words ask for that. The server listens before the store is opened, so
 /// that peers that come early wait for the store.
 pub(crate) fn serve_file<'a, R: System, I: Read + Drop + Send + 'static, O: Write>(
     rt: &R,

@@ -21,8 +21,8 @@ const MOST_READ: usize = 4096;
 /// The microseconds of one of the ticks in which the system counts processor time.
 const TICK: u64 = 10_000;
 
-/// The files that say what the process uses of its machine. They are open from the start on, so that
-/// a thread of the server can read them.
+/// The files that say what the process uses of its machine. They are open from the start on, so
+/// that a thread of the server can read them.
 #[derive(Drop)]
 pub(crate) struct UsageFiles {
     status: File,

@@ -1,9 +1,9 @@
 //! The words of the program's command line, as `clap` reads them.
 //!
 //! To the layer above, `command` is the program's command with those within it that have the names
-//! of `ONCE`, `FORMAT`, `COPY`, `SHOW`, `STATUS`, `UPGRADE`, `RUN` and `ASK`, and `read` reads words by
-//! it, as a `CommandLine`; what their options say is read by `clap`, but that numbers are decimal digits
-//! alone.
+//! of `ONCE`, `FORMAT`, `COPY`, `SHOW`, `STATUS`, `UPGRADE`, `RUN` and `ASK`, and `read` reads
+//! words by it, as a `CommandLine`; what their options say is read by `clap`, but that numbers are
+//! decimal digits alone.
 #![tactic(auto)]
 
 mod command_line;
@@ -297,8 +297,8 @@ fn bare<'a>(
     Ok(Command::new(alloc, name).about(about))
 }
 
-/// Gives the command with a name an argument. Where memory for the command was refused, the error is
-/// passed on, so that a caller has one way out for all.
+/// Gives the command with a name an argument. Where memory for the command was refused, the error
+/// is passed on, so that a caller has one way out for all.
 fn with_arg<'a>(
     command: Result<Command<'a>, AllocError>,
     name: &str,

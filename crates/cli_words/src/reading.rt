@@ -42,8 +42,8 @@ const NO_SIZES: &str =
 
 /// What the words of a command line ask for. Words with no command of the program are an error, and
 /// so is another number of words after the name of a request than it takes, `AT_ONCE` of another
-/// request than a purge, and options that lack others: a store to be made without its sizes, for one.
-/// A number is decimal digits alone, with no sign: `clap` by itself takes one.
+/// request than a purge, and options that lack others: a store to be made without its sizes, for
+/// one. A number is decimal digits alone, with no sign: `clap` by itself takes one.
 pub fn read<'a>(alloc: Global, words: &'a [String]) -> Result<CommandLine<'a>, Error>
     ensures numbers { IfOk result (λ line. HasPlainNumbers (rows_of (found_of line.options))) }
     ensures request { IfOk result (λ line. line.subcommand ≡ Ask → HasRequest (found_of line.options)) }

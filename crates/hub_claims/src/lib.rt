@@ -5,9 +5,10 @@
 //! `Answer::refused` make the answer to that claim, and `Slot::put` puts it where the command's
 //! `HubClaim` finds it.
 //!
-//! To the layer above: `HubClaim::take_answer` returns a receipt of the command of the claim, or why
-//! there is none. An answer to another claim is not taken. `HubName` names the hub, and `HubError`
-//! says why a call of a hub was refused. A `Waiter` says whether it still waits for an answer.
+//! To the layer above: `HubClaim::take_answer` returns a receipt of the command of the claim, or
+//! why there is none. An answer to another claim is not taken. `HubName` names the hub, and
+//! `HubError` says why a call of a hub was refused. A `Waiter` says whether it still waits for an
+//! answer.
 #![tactic(auto)]
 
 mod answer;

@@ -41,8 +41,8 @@ impl Model for Left {
 }
 
 impl Left {
-    /// What is left of a state of this log, and of who acknowledged its commands, and looked at what
-    /// it showed.
+    /// What is left of a state of this log, and of who acknowledged its commands, and looked at
+    /// what it showed.
     pub fn of(log: UnnamedLog, acknowledged: UnnamedList, looked: FrontsNote) -> Left
         requires { acknowledged.table ≡ log.table }
         ensures { result ≡ record { table = log.table; log = log.log; acknowledged = acknowledged.claims; looked = looked.value } }

@@ -115,9 +115,10 @@ impl<D: Device, N: HubName, R: Wait + Clock> Hub<D, N, R> {
         }
     }
 
-    /// Submits a command of a sender that has not waited in the queue, and notes that the sender has
-    /// handed it in. A command that is refused is not noted: it gets its number once the state has
-    /// taken it, and the queue is locked meanwhile. It is refused as busy where commands wait there.
+    /// Submits a command of a sender that has not waited in the queue, and notes that the sender
+    /// has handed it in. A command that is refused is not noted: it gets its number once the state
+    /// has taken it, and the queue is locked meanwhile. It is refused as busy where commands wait
+    /// there.
     #[tactic(auto, using(store_loops::proofs::Through::taken))]
     pub(crate) fn submit_now(
         &self,

@@ -164,8 +164,9 @@ impl<D: Device, N: HubName, R: Wait + Clock> Hub<D, N, R> {
     /// Waits for the answer to a command that was handed in. The receipt shows the command, and its
     /// note a place above the command's own. A command that is not accepted is refused. Where the
     /// state stops before the command is committed, the error has the command's place, and it is
-    /// not known whether the store keeps the command. Where no other command waits and nothing is in
-    /// flight, this thread may commit the command itself. Otherwise the state's lock is not taken.
+    /// not known whether the store keeps the command. Where no other command waits and nothing is
+    /// in flight, this thread may commit the command itself. Otherwise the state's lock is not
+    /// taken.
     #[tactic(auto, using(crate::proofs::Committed::refuses))]
     pub fn settle(&self, claim: HubClaim<N>) -> Result<HubReceipt<N>, HubError>
         ensures committed { IfOk result (ReceiptShows N.opening claim) }

@@ -54,8 +54,8 @@ impl<D: Device, N: HubName, R: Wait + Clock> Hub<D, N, R> {
         false
     }
 
-    /// How long an actor rests at most where no change wakes it: 10 milliseconds where commands wait
-    /// or are pending, and else a second.
+    /// How long an actor rests at most where no change wakes it: 10 milliseconds where commands
+    /// wait or are pending, and else a second.
     pub(crate) fn longest_rest(&self) -> Duration {
         let is_idle = self.waiting() == 0 && self.status.is_idle(&self.rt);
         Duration::from_millis(if is_idle { IDLE_REST } else { LONGEST_REST })

@@ -61,9 +61,9 @@ impl Pace {
     }
 
     /// Notes the number of rows that a purge has dropped, or `None` where it was refused, which
-    /// changes nothing: what has expired is still to be dropped. After more than 250 rows the rest is
-    /// shorter, so that about 250 expire within it. After 125 and fewer it is twice as long, up to the
-    /// period.
+    /// changes nothing: what has expired is still to be dropped. After more than 250 rows the rest
+    /// is shorter, so that about 250 expire within it. After 125 and fewer it is twice as long, up
+    /// to the period.
     #[tactic(auto, unfolding(crate::specs::Pacing::parts_after))]
     pub(crate) fn note(&mut self, dropped: Option<u32>)
         ensures parts { IfSome dropped (λ rows. self.new.parts ≡ parts_after rows self.old.most self.old.parts) }

@@ -31,14 +31,15 @@ pub trait System: Wait + Clock + Threads + Copy + Drop + Send + Sync {}
 impl<R: Wait + Clock + Threads + Copy + Drop + Send + Sync> System for R {}
 
 /// Serves sessions over a store until the number that the options name has been started and has
-/// ended. Returns that number, and the ended device with the log of all commands that were accepted.
-/// An honest device opens to the store's rows and place after a front of that log with all committed
-/// commands, whatever the sessions did and however the call ends. So it has each command at its
-/// place that a session acknowledged: each session hands in the claims of those commands at its
-/// end. At every moment since the store was opened a stop of the device would have left a front of
-/// that log, and each of these commands from the moment of its commit on. Each command of the log
-/// was handed in, in the log's order and once, by a sender: of a session, or of the server's own
-/// purges. Where no log is left, nothing was served, and the device is the store's. Errors:
+/// ended. Returns that number, and the ended device with the log of all commands that were
+/// accepted. An honest device opens to the store's rows and place after a front of that log with
+/// all committed commands, whatever the sessions did and however the call ends. So it has each
+/// command at its place that a session acknowledged: each session hands in the claims of those
+/// commands at its end. At every moment since the store was opened a stop of the device would have
+/// left a front of that log, and each of these commands from the moment of its commit on. Each
+/// command of the log was handed in, in the log's order and once, by a sender: of a session, or of
+/// the server's own purges. Where no log is left, nothing was served, and the device is the
+/// store's. Errors:
 ///
 /// - `Net`: the listener for sessions broke.
 /// - `NoMemory`: the readers or a thread were not given.

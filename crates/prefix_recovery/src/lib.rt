@@ -1,5 +1,5 @@
-//! The recovery theorems on a page: a run that is traced and a server by the log that it leaves, and
-//! the opening of their devices after any stop.
+//! The recovery theorems on a page: a run that is traced and a server by the log that it leaves,
+//! and the opening of their devices after any stop.
 //!
 //! To the layer above: a trace has the order of a run's commands, and the run after each event. A
 //! device that has what a stop left since one of these states opens to the rows after a front of

@@ -4,8 +4,8 @@ use status_page::MemoryWaits;
 use std::sync::atomic::{AtomicBool, Ordering};
 use store_loops::Actor;
 
-/// Which threads of the store were refused memory, and try again. Other threads share it, so that no
-/// clause says which these are.
+/// Which threads of the store were refused memory, and try again. Other threads share it, so that
+/// no clause says which these are.
 #[derive(Drop)]
 pub struct Waiting {
     flusher: AtomicBool,

@@ -134,8 +134,8 @@ pub fn after_failure(error: &io::Error) -> AcceptFailure
     }
 }
 
-/// The action after the error of this number, as accept(2) of Linux lists them. It counts EOPNOTSUPP
-/// among the errors of a new connection, after which the next one is accepted.
+/// The action after the error of this number, as accept(2) of Linux lists them. It counts
+/// EOPNOTSUPP among the errors of a new connection, after which the next one is accepted.
 fn failure_of(number: i32) -> AcceptFailure
     ensures { result ≡ failure_of number }
 {

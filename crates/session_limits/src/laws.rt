@@ -1,4 +1,5 @@
-//! Laws of what a limited service answers. Each law is the contract of a function that does nothing.
+//! Laws of what a limited service answers. Each law is the contract of a function that does
+//! nothing.
 
 ghost use Rattle.std.specs.Prelude.{◌≡◌, false, Option, IsSome};
 ghost use Rattle.seg_core.specs.declared.error.SegError.{SegError};

@@ -57,8 +57,8 @@ impl<'a, S: Service, K: Clock> Counted<'a, S, K> {
         }
     }
 
-    /// Counts a lookup that was begun at a moment and is answered now, unless the clock could not be
-    /// read.
+    /// Counts a lookup that was begun at a moment and is answered now, unless the clock could not
+    /// be read.
     fn count_lookup(&self, begun: Option<Instant>) {
         if let Some(begun) = begun
             && let Ok(time) = begun.elapsed(self.clock)

@@ -3,8 +3,8 @@
 use command_log::LogName;
 use std::marker::Brand;
 
-/// Names one state by its log, and by its store when the state was made: its rows, its place and its
-/// device.
+/// Names one state by its log, and by its store when the state was made: its rows, its place and
+/// its device.
 pub trait StateName: LogName {
     ghost use Rattle.std.specs.Prelude.{List};
     ghost use Rattle.row_map.specs.Database.{RowView};
