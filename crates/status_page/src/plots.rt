@@ -63,8 +63,7 @@ pre { overflow-x: auto; padding: .6rem .8rem; border-radius: 6px; background: va
 <script>
 'use strict';
 
-// The milliseconds between two reads, those after which an answer is given up, and those that a
-// plot has.
+// The milliseconds between two reads, those after which an answer is given up, and those that a plot has.
 const EVERY = 2000, PATIENCE = 1500, SPAN = 300000;
 // How many answers in a row are missed until the server counts as away.
 const AWAY = 2;
@@ -73,11 +72,9 @@ const PROBED = 'pathd_refusals_total{code="41"}';
 // The size of a plot, in units of its own.
 const WIDTH = 300, HEIGHT = 80;
 
-// What was read, the oldest first: the moment, and the numbers by their names, or null without an
-// answer.
+// What was read, the oldest first: the moment, and the numbers by their names, or null without an answer.
 const samples = [];
-// The sample that the pointer is at, or null, the moment of the last answer, and how many were
-// missed since.
+// The sample that the pointer is at, or null, the moment of the last answer, and how many were missed since.
 let chosen = null, answered = Date.now(), missed = 0;
 
 const find = (name) => document.querySelector(name);
@@ -106,17 +103,16 @@ function current(now, start) {
   return [label(name).replaceAll('_', ' '), number];
 }
 
-// How much numbers have grown since the sample before, but for one of them; null where there is
-// none, or the server was started since.
+// How much numbers have grown since the sample before, but for one of them; null where there is none, or the
+// server was started since.
 function growth(start, { now, before }, but) {
   const all = (numbers) => sum(numbers, start) - (numbers.get(but) ?? 0);
   const grown = before ? all(now) - all(before) : -1;
   return grown < 0 ? null : grown;
 }
 
-// What a plot shows of a sample: a number, its growth in a second, its growth by that of another
-// one, and the milliseconds within which a part of what a histogram counts was done, as the end of
-// a bucket.
+// What a plot shows of a sample: a number, its growth in a second, its growth by that of another one,
+// and the milliseconds within which a part of what a histogram counts was done, as the end of a bucket.
 const level = (name) => ({ now }) => now.get(name);
 const rate = (start, but) => (sample) => {
   const grown = growth(start, sample, but);
@@ -136,8 +132,7 @@ const within = (histogram, part) => (sample) => {
 
 const halves = (histogram) => [within(histogram, .5), within(histogram, .99)];
 
-// A plot: its title, its unit, the one or two things that it shows, and its top where that is
-// fixed.
+// A plot: its title, its unit, the one or two things that it shows, and its top where that is fixed.
 const PLOTS = [
   ['Lookups', 'a second', [rate('pathd_replies_total{kind="found"}')]],
   ['Time of lookups: half, 99 of 100', 'ms, to 1,000', halves('pathd_lookup_seconds')],
