@@ -64,9 +64,9 @@ impl<'a, F: PositionedFile + Drop> Site<'a, F> {
         self,
         rt: &R,
     ) -> Result<(Reserved<FileDevice<F>>, ListenersOr<'a>), Failure<'a>>
-        ensures opened { IfOk result (λ opened. IsHonest (file_disk self.device) → IsOpened (reads_of (file_disk self.device)) opened.0) }
+        ensures opened { IfOk result (λ opened. IsHonest (file_disk self.entry.device) → IsOpened (reads_of (file_disk self.entry.device)) opened.0) }
         ensures any_moment { IfOk result (λ opened.
-            Stretch (file_disk self.device) opened.0.disk (IsFromImage (file_disk self.device).history.now OpensAlike)) }
+            Stretch (file_disk self.entry.device) opened.0.disk (IsFromImage (file_disk self.entry.device).history.now OpensAlike)) }
     {
         let Site {
             path,
