@@ -36,4 +36,5 @@ report_priority (report.CheckpointDone milliseconds) = Info
 abbrev pub line_priority : ServerLine → Priority
 line_priority (line.Report report) = report_priority report
 line_priority (line.Fault fault) = Error
+line_priority (line.Ready milliseconds) = Info
 line_priority (line.Text priority text) = priority

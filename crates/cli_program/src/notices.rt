@@ -15,7 +15,7 @@ use std::alloc::{AllocError, Global};
 use std::io::Read;
 use std::sync::{Arc, Wait};
 use std::thread;
-use std::time::Instant;
+use std::time::{Clock, Instant};
 
 /// What the threads of the program and those of its server share.
 #[derive(Drop)]
@@ -96,12 +96,6 @@ impl<R: Host> Notices<R> {
         }
     }
 
-    /// Says how long the start of the server took, from the making of these notices on.
-    fn say_ready(&self) {
-        let milliseconds = milliseconds_since(&self.rt, self.begun);
-        self.say(format!(in self.rt.alloc(); "ready in {milliseconds} ms"));
-    }
-
     /// The rows of the store that was opened do not fit, so the server's store stops at once.
     pub(crate) fn note_overfull(&self) {
         self.shared.signals.note_overfull();
@@ -172,11 +166,23 @@ impl<R: Wait> Notices<R> {
     }
 }
 
-impl<R: Host> Reports for Notices<R> {
+impl<R: Wait + Clock> Notices<R> {
+    /// Has a line printed that says how long the start of the server took, from the making of these
+    /// notices on, unless the program should be quiet.
+    fn push_ready(&self) {
+        let milliseconds = milliseconds_since(&self.rt, self.begun);
+        if !self.is_quiet {
+            let line = ServerLine::Ready { milliseconds };
+            self.shared.lines.push(&self.rt, line);
+        }
+    }
+}
+
+impl<R: Wait + Clock> Reports for Notices<R> {
     fn report(&self, report: Report) {
         match report {
             Report::Ready => {
-                self.say_ready();
+                self.push_ready();
                 self.shared.signals.note_ready(&self.rt);
             }
             // It is no fault of the device, and was said when the store was opened.

@@ -16,6 +16,8 @@ pub(crate) enum ServerLine {
     Report(Report),
     /// What failed in the store's file.
     Fault(FileFault),
+    /// The server is ready, and its start took so long.
+    Ready { milliseconds: u64 },
     /// A line of the program's own, with its priority.
     Text(Priority, String),
 }
@@ -25,6 +27,7 @@ impl Display for ServerLine {
         match self {
             ServerLine::Report(report) => write!(f, "{}", *report),
             ServerLine::Fault(fault) => write!(f, "{}", *fault),
+            ServerLine::Ready { milliseconds } => write!(f, "ready in {milliseconds} ms"),
             ServerLine::Text(_, text) => write!(f, "{}", text.as_str()),
         }
     }
@@ -37,6 +40,7 @@ impl Line for ServerLine {
         match self {
             ServerLine::Report(report) => report_priority(report),
             ServerLine::Fault(_) => Priority::Error,
+            ServerLine::Ready { .. } => Priority::Info,
             ServerLine::Text(priority, _) => *priority,
         }
     }
