@@ -488,8 +488,7 @@ HEAD = """# Wrong bodies, and the clauses that refuse them
 
 Each line is an edit: a wrong body of one function, for what it does. Then come the function and the
 clause whose goal the prover refuses; a function alone has one clause without a name. A line without
-them is of an edit that was not tried as it is now. The line `body:` of an edit's file says what it
-does in a phrase.
+them is of an edit that was not tried as it is now.
 """
 
 GATE = """
