@@ -27,7 +27,7 @@ const NO_COMMAND: &str = "a command of the program is required";
 /// What is printed of words with no request.
 const NO_REQUEST: &str = "a request is required";
 
-/// What is printed of another request than a purge, where that is to be one command.
+/// What is printed of another request than a purge, where that has to be one command.
 const NO_PURGE: &str = "the option '--at-once' is for the request 'purge' alone";
 
 /// What is printed of seats for sessions that only look up, where none are served.
@@ -36,7 +36,7 @@ const NO_LOOKUPS: &str = "the option '--lookup-seats' needs '--lookups <ADDR>'";
 /// What is printed of a server that is to make its store, without its size, or the other way round.
 const NO_ROWS: &str = "the options '--new' and '--rows <N>' need each other";
 
-/// What is printed of a store that is to be made without its sizes.
+/// What is printed where a store would be made without its sizes.
 const NO_SIZES: &str =
     "the sizes are missing: '--rows <N>', or '--checkpoint <C>' and '--journal <J>'";
 
@@ -100,7 +100,7 @@ fn refusal_with_usage(
     command_of(alloc, subcommand)?.error(kind, message)
 }
 
-/// Refuses a store that is to be made without its sizes.
+/// Refuses to make a store without its sizes.
 fn check_sizes(alloc: Global, options: &ArgMatches<'_>) -> Result<(), Error>
     ensures { OnOk result (HasSizes (found_of options.now)) }
 {

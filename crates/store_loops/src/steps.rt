@@ -154,7 +154,7 @@ pub trait Steps {
     /// count wraps at 2^64.
     fn changes(&self, awaited: Awaited) -> u64;
 
-    /// Waits until there are more changes than `seen`, at most 10 milliseconds. A change after the
-    /// count was read ends the rest at once, also where it came before the rest began.
+    /// Waits until there are more changes than `seen`, at most a second. A change after the count
+    /// was read ends the rest at once, also where it came before the rest began.
     fn rest(&self, awaited: Awaited, seen: u64);
 }

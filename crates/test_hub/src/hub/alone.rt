@@ -1,4 +1,4 @@
-//! A thread that registers alone commits its commands itself, and the flusher is not told of them.
+//! A thread that registers alone commits its commands itself, and does not wake the flusher.
 
 use crate::checks::{assert_same, assert_true};
 use crate::host::Host;
@@ -16,7 +16,7 @@ use test_hub_scripts::stores::{Contents, assert_opens_to, new_store};
 /// How many commands are registered, one after the other.
 const COUNT: u64 = 100;
 
-/// Registers commands, and counts those of which the flusher was told.
+/// Registers commands, and counts those that woke the flusher.
 #[derive(Drop)]
 struct Registers {
     told: AtomicU64,

@@ -1,4 +1,4 @@
-//! Index rows, which tell that they have expired without their segments.
+//! Index rows, which say that they have expired without their segments.
 
 use crate::checks::done;
 use crate::host::Host;
