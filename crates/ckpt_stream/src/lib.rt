@@ -8,10 +8,10 @@
 //! old area. By these sums it notices a sector that reads otherwise than when it was planned.
 //!
 //! Below that, the records of a database after commands are made of the records before, piece by
-//! piece. A `Planner` sees each row once. A `Settling` then applies the commands in pieces and makes
-//! a `Plan`, which has a small edit for each run of rows and a row for each key that the commands
-//! name. A `Rewrite` follows the plan: it makes the records after, reads no row again and takes no
-//! memory.
+//! piece. A `Planner` sees each row once. A `Settling` then applies the commands in pieces and
+//! makes a `Plan`, which has a small edit for each run of rows and a row for each key that the
+//! commands name. A `Rewrite` follows the plan: it makes the records after, reads no row again and
+//! takes no memory.
 #![tactic(auto)]
 
 mod beginning;

@@ -58,8 +58,8 @@ pub(crate) struct RowsRead {
     pub(crate) front: Front,
     /// The half's journal.
     pub(crate) journal: Scan,
-    /// The number of the journal's first commands for which the planner plans. No row is read before
-    /// it plans for all of them.
+    /// The number of the journal's first commands for which the planner plans. No row is read
+    /// before it plans for all of them.
     pub(crate) named: usize,
     /// The rows so far, planned for these commands.
     pub(crate) planner: Planner,
@@ -98,9 +98,9 @@ pub(crate) fn start_rows(alloc: Global, front: Front, journal: Scan) -> RowsRead
     }
 }
 
-/// Names some commands of the journal to the planner. Once all are named, it reads on in the rows of
-/// a half: at most 64 sectors. Where all sectors are read, what the journal's commands leave has to be
-/// settled next.
+/// Names some commands of the journal to the planner. Once all are named, it reads on in the rows
+/// of a half: at most 64 sectors. Where all sectors are read, what the journal's commands leave has
+/// to be settled next.
 pub(crate) fn rows_on<D: Device>(
     alloc: Global,
     device: &mut D,

@@ -86,8 +86,8 @@ impl Planner {
         Ok(())
     }
 
-    /// Begins to settle what the commands leave, once all rows were seen. The commands are those for
-    /// which the planner was made.
+    /// Begins to settle what the commands leave, once all rows were seen. The commands are those
+    /// for which the planner was made.
     pub fn settle(self, commands: Vec<Command>) -> Result<Settling, AllocError>
         ensures settles { IfOk result (SettlesSeen self commands.items) }
         ensures few { IfOk result (λ settling. steps_to_settle settling < 2 ^ 65) }

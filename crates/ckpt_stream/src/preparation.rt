@@ -16,8 +16,8 @@ use std::mem::replace;
 use store_layout::{Geometry, Half};
 use store_open::SealedError;
 
-/// What is read and settled of a sealed half so far, for the checkpoint that begins from it. It is right
-/// as long as nobody writes to that half.
+/// What is read and settled of a sealed half so far, for the checkpoint that begins from it. It is
+/// right as long as nobody writes to that half.
 #[derive(Drop)]
 pub struct Preparation {
     pub(crate) read: HalfRead,
@@ -55,8 +55,8 @@ impl Preparation {
 
     /// Reads the next piece of a sealed half: 64 sectors, less at the end of the area or of the
     /// journal, and more where the group that ends the piece goes on after them. Once all are read,
-    /// a call settles what some of the journal's commands leave, and reads nothing. Where the device
-    /// fails, memory is refused or the half is `Damaged`, the preparation begins anew.
+    /// a call settles what some of the journal's commands leave, and reads nothing. Where the
+    /// device fails, memory is refused or the half is `Damaged`, the preparation begins anew.
     pub fn read_on<D: Device>(
         &mut self,
         alloc: Global,

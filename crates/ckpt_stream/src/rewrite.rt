@@ -96,8 +96,8 @@ impl Rewrite {
         None
     }
 
-    /// The number of bytes that are still to be kept of the edit that was begun: those from the next
-    /// byte that is wanted on.
+    /// The number of bytes that are still to be kept of the edit that was begun: those from the
+    /// next byte that is wanted on.
     pub fn left_to_keep(&self) -> u32
         ensures { result ≡ left_to_keep self.now }
     {

@@ -184,8 +184,8 @@ impl Settling {
     }
 }
 
-/// The work of a command: one, and one more for each row that it registers. A purge, which may visit
-/// all rows, is the work of a piece.
+/// The work of a command: one, and one more for each row that it registers. A purge, which may
+/// visit all rows, is the work of a piece.
 fn work_of(command: &Command) -> usize {
     match command {
         Command::Register(registration) => registration.as_slice().len().saturating_add(1),

@@ -15,8 +15,8 @@ use seg_core::{SegType, Segment};
 use std::alloc::{AllocError, Global};
 
 /// The greatest one of a moment and the moments of the purges among commands, in half seconds since
-/// 1970, where there are any. A row that no command names is left after the commands exactly where it
-/// expires after their greatest moment.
+/// 1970, where there are any. A row that no command names is left after the commands exactly where
+/// it expires after their greatest moment.
 pub(crate) fn greatest_purge(before: Option<u64>, commands: &[Command]) -> Option<u64>
     ensures { (row : RowView) → is_beyond result row ≡ (if is_beyond before row then outlives commands.now row else false) }
 {

@@ -11,9 +11,9 @@ const LOCKS: &str = "/proc/locks";
 /// The base of the numbers of a device in the list.
 const BASE: u32 = 16;
 
-/// The number of the process that holds a lock on the file of a path, as the system lists it. `None`
-/// where none is listed: the system has no such list, or lists a file by another device than the
-/// one that it says of the file, as btrfs does; another machine or another container holds the
+/// The number of the process that holds a lock on the file of a path, as the system lists it.
+/// `None` where none is listed: the system has no such list, or lists a file by another device than
+/// the one that it says of the file, as btrfs does; another machine or another container holds the
 /// lock; memory was refused; or the lock was released in the meantime. No clause states what the
 /// system lists.
 pub fn holder_of<R: AllocGlobal + Files<File = File>>(rt: &R, path: &str) -> Option<u32> {

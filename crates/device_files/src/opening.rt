@@ -15,9 +15,9 @@ use std::io;
 use std::rt::Files;
 
 /// Opens a file or a block device, which this process alone may read and write. Where another
-/// process has it open by a function of this library, the error is `WouldBlock`. A block device that
-/// the system does not let anybody write, though it opens it, is refused by the system's error. A
-/// file that is longer than the process may write is refused by `FileTooLarge`.
+/// process has it open by a function of this library, the error is `WouldBlock`. A block device
+/// that the system does not let anybody write, though it opens it, is refused by the system's
+/// error. A file that is longer than the process may write is refused by `FileTooLarge`.
 pub fn open<R: AllocGlobal + Files<File = File>>(rt: &R, path: &str) -> io::Result<SystemFile>
     ensures failures { IfOk result (λ file. failures_of file ≡ 0) }
     ensures above { IfOk result (λ file. IsAboveStandard (calls_of file)) }

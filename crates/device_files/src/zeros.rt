@@ -33,8 +33,8 @@ pub(crate) fn set_zeros(file: &File, len: u64, room: Room) -> io::Result<()> {
     file.sync_all()
 }
 
-/// Writes `len` zero bytes from the beginning of a file on, and syncs them: a file system may refuse
-/// room only then.
+/// Writes `len` zero bytes from the beginning of a file on, and syncs them: a file system may
+/// refuse room only then.
 fn write_zeros(file: &File, len: u64) -> io::Result<()> {
     let zeros = [0u8; PIECE];
     let pieces = len / PIECE as u64;

@@ -53,8 +53,9 @@ impl Waker {
     }
 
     /// Has the noted condition variables notified: by the waker's thread, where it has one and
-    /// several are noted, else by this thread. Once the waker is ended, several that are noted after
-    /// that are notified by no thread: who sleeps on one of them wakes at the end of its rest.
+    /// several are noted, else by this thread. Once the waker is ended, several that are noted
+    /// after that are notified by no thread: who sleeps on one of them wakes at the end of its
+    /// rest.
     pub fn call<R: Wait>(&self, rt: &R) {
         if self.has_thread.load(Ordering::SeqCst) && self.count_due(rt) > 1 {
             self.calls.notify_all();

@@ -105,8 +105,8 @@ impl LogHistory {
         }
     }
 
-    /// A past log of this log: the log begins with its commands, and no fewer of them are committed.
-    /// The call compares nothing.
+    /// A past log of this log: the log begins with its commands, and no fewer of them are
+    /// committed. The call compares nothing.
     pub fn prove_past(&mut self, past: &PastLog)
         requires { past.now.book ≡ self.old.book }
         ensures same { self.new ≡ self.old }

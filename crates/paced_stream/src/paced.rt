@@ -17,8 +17,8 @@ use std::time::{Clock, Duration};
 /// be whole within the idle time of the first read that waits for its rest. A frame that is written
 /// has to be taken within the idle time of the write that began it. Where a write took all that
 /// there was to send, what follows has the idle time of the next write. So the time in which the
-/// server answers messages is no frame's. A call that is interrupted is made again for the time that
-/// is left.
+/// server answers messages is no frame's. A call that is interrupted is made again for the time
+/// that is left.
 #[derive(Drop)]
 pub(crate) struct Paced<'a, C, T> {
     clock: &'a C,

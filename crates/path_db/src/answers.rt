@@ -65,8 +65,8 @@ impl Wanted {
         }
     }
 
-    /// The number by which an index has each row that the lookup asks for. `None` where the rows may
-    /// have several.
+    /// The number by which an index has each row that the lookup asks for. `None` where the rows
+    /// may have several.
     pub(crate) fn number(&self, by: By) -> Option<u64>
         ensures { IfSome result (AllHave by self.now) }
     {
@@ -267,8 +267,8 @@ fn append_if_shown(
     Ok(())
 }
 
-/// The segments of the first index rows that the lookup asks for, at most `limit`. `None` means that
-/// not enough rows may be visited.
+/// The segments of the first index rows that the lookup asks for, at most `limit`. `None` means
+/// that not enough rows may be visited.
 pub(crate) fn shown_at(
     alloc: Global,
     index_keys: IndexKeys<'_>,

@@ -134,9 +134,9 @@ impl PathDb {
         })
     }
 
-    /// Two equal databases that keep the indexes of their rows by their ends, and share the segments.
-    /// Up to four threads make them, the calling one among them. An error means that memory was
-    /// refused. Copies of an empty database take no memory.
+    /// Two equal databases that keep the indexes of their rows by their ends, and share the
+    /// segments. Up to four threads make them, the calling one among them. An error means that
+    /// memory was refused. Copies of an empty database take no memory.
     pub fn indexed_pair<R: Threads + Sync>(&self, rt: &R) -> Result<(PathDb, PathDb), AllocError>
         ensures first { IfOk result (λ pair. pair.0 ≡ self.now) }
         ensures second { IfOk result (λ pair. pair.1 ≡ self.now) }

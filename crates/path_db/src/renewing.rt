@@ -12,10 +12,10 @@ ghost use Rattle.row_map.specs.EndKeys.{index_number, IsRowIndex, IsRowOf};
 
 use row_map::{By, Change, End, EndIndex, IndexRow, Row, RowMap, index_row_of};
 
-/// Replaces an older row under the same key and with the same ends, or keeps one that is as new, and
-/// has the indexes have the row that is left. Returns which of both was done. This takes no memory.
-/// `None` means that there is no such row, or that 2^63 rows share the segment already, and nothing
-/// changed. `bytes` counts the bytes of all rows.
+/// Replaces an older row under the same key and with the same ends, or keeps one that is as new,
+/// and has the indexes have the row that is left. Returns which of both was done. This takes no
+/// memory. `None` means that there is no such row, or that 2^63 rows share the segment already, and
+/// nothing changed. `bytes` counts the bytes of all rows.
 pub(crate) fn renew_indexed(
     rows: &mut RowMap,
     bytes: &mut u128,

@@ -1,6 +1,7 @@
-//! The ways to the rows that a lookup shows: along an index, or over all rows of the type. Each way has a limit of rows to visit and ends without an answer where it does not suffice,
-//! and each is tried anew with four times the limit. So a short way decides how many are visited.
-//! Where no way is short, one that visits the rows in the order of their keys is followed to its end.
+//! The ways to the rows that a lookup shows: along an index, or over all rows of the type. Each way
+//! has a limit of rows to visit and ends without an answer where it does not suffice, and each is
+//! tried anew with four times the limit. So a short way decides how many are visited. Where no way
+//! is short, one that visits the rows in the order of their keys is followed to its end.
 
 ghost use Rattle.std.specs.Prelude.{◌≡◌, ◌+◌, ◌*◌, ◌^◌, ◌<◌, ◌≤◌, ◌&&◌, None, length, filter, IsTrue, IfSome, IfOk, OnOk, OnErr};
 ghost use Rattle.std.specs.List.{AllByRecursion};
@@ -120,9 +121,9 @@ fn shown_in_rounds(
     Ok(None)
 }
 
-/// The answer by the first way that needs to visit no more rows than `budget`: along the index of an
-/// ISD-AS, along that of two ISDs, over the rows of the type, or along the index of one ISD. `None`
-/// means that there is no such way.
+/// The answer by the first way that needs to visit no more rows than `budget`: along the index of
+/// an ISD-AS, along that of two ISDs, over the rows of the type, or along the index of one ISD.
+/// `None` means that there is no such way.
 fn shown_within(
     alloc: Global,
     rows: &RowMap,
@@ -175,8 +176,8 @@ fn shown_within(
     )
 }
 
-/// The answer along the first index that has all rows of the lookup by one number and needs to visit
-/// no more rows than `budget`. `None` means that there is no such index.
+/// The answer along the first index that has all rows of the lookup by one number and needs to
+/// visit no more rows than `budget`. `None` means that there is no such index.
 fn shown_exactly(
     alloc: Global,
     rows: &RowMap,
@@ -220,8 +221,8 @@ fn shown_exactly(
 }
 
 /// The answer along an index, where it has all rows of the lookup by one number. `None` means that
-/// not enough rows may be visited, that the rows may have several numbers, or that memory was refused
-/// for the id after which the lookup goes on.
+/// not enough rows may be visited, that the rows may have several numbers, or that memory was
+/// refused for the id after which the lookup goes on.
 fn shown_along(
     alloc: Global,
     rows: &RowMap,

@@ -78,8 +78,8 @@ impl DatabaseReader {
         (ROW_HEAD + read_u32(&self.rest, 1) as usize).saturating_sub(has)
     }
 
-    /// Reads bytes on the calling thread, after those of the record that is not whole yet. The bytes
-    /// are copied.
+    /// Reads bytes on the calling thread, after those of the record that is not whole yet. The
+    /// bytes are copied.
     fn feed_joined(self, bytes: &[u8]) -> Result<DatabaseReader, DbError>
         ensures fed { IfOk result (λ reader. reader ≡ self ++ bytes.now) }
         ensures refused { IfErr result (λ e. e ≢ NoMemory → AreRefused (self ++ bytes.now) e) }
@@ -98,8 +98,8 @@ impl DatabaseReader {
         Ok(DatabaseReader { alloc, rows, rest })
     }
 
-    /// Reads bytes in this way where no record before them is cut. Only those of a record that is not
-    /// whole are copied.
+    /// Reads bytes in this way where no record before them is cut. Only those of a record that is
+    /// not whole are copied.
     fn feed_apart<B: RowDecoder>(self, by: &B, bytes: &[u8]) -> Result<DatabaseReader, DbError>
         requires { B.is_ready by.now }
         ensures fed { IfOk result (λ reader. reader ≡ self ++ bytes.now) }

@@ -62,9 +62,9 @@ fn read_by_four<R: Threads + Sync>(rt: &R, alloc: Global, bytes: &[u8]) -> Optio
     Some((joined(front, back)?, whole + taken))
 }
 
-/// The whole rows at the front of two slices, one after the other, read by two threads, and how many
-/// bytes their records have; `None` where the bytes are refused, or memory is, or a row of the first
-/// slice does not end in it.
+/// The whole rows at the front of two slices, one after the other, read by two threads, and how
+/// many bytes their records have; `None` where the bytes are refused, or memory is, or a row of the
+/// first slice does not end in it.
 fn read_by_two<R: Threads + Sync>(
     rt: &R,
     alloc: Global,
@@ -92,8 +92,8 @@ fn rows_of_len(bytes: &[u8], least: usize) -> usize
     at
 }
 
-/// The whole rows at the front of the bytes, and how many bytes their records have; `None` where the
-/// bytes are refused, or memory is.
+/// The whole rows at the front of the bytes, and how many bytes their records have; `None` where
+/// the bytes are refused, or memory is.
 fn read_first(alloc: Global, bytes: &[u8]) -> Option<(Vec<Row>, usize)>
     ensures { IfSome result (λ read. AreReadOn [] (row_views read.0.items) bytes.now read.1) }
 {

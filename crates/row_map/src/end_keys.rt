@@ -51,7 +51,8 @@ fn isd_as_at(end: End, row: &Row) -> u64
     }
 }
 
-/// The ISDs of two ISD-ASes, which have 64 bits each. The first one's is in the upper 16 of 32 bits.
+/// The ISDs of two ISD-ASes, which have 64 bits each. The first one's is in the upper 16 of 32
+/// bits.
 pub fn isds_number(first: u64, last: u64) -> u64
     ensures same { result ≡ isds_number first last }
     ensures short { result < 2 ^ 32 }
@@ -209,8 +210,8 @@ pub fn add_all(
 }
 
 /// Makes an index have the rows as the map has them: removes the touched rows that the map does not
-/// have, and replaces the others. This takes no memory. `false` means that 2^63 rows share a segment
-/// already, and then the index can't be used any more.
+/// have, and replaces the others. This takes no memory. `false` means that 2^63 rows share a
+/// segment already, and then the index can't be used any more.
 pub fn sweep(by: By, index: &mut EndIndex, rows: &RowMap, touched: &[IndexRow]) -> bool
     requires covered { IsCovered (index_number by) rows.now touched.now index.old }
     requires rows { AllByRecursion HasRow touched.now }
@@ -256,8 +257,8 @@ fn standing<'a>(by: By, rows: &'a RowMap, index_row: &IndexRow) -> Option<&'a Ro
     None
 }
 
-/// Removes a row from an index. This takes no memory. `false` means that 2^63 rows share the segment
-/// already, and then the index can't be used any more.
+/// Removes a row from an index. This takes no memory. `false` means that 2^63 rows share the
+/// segment already, and then the index can't be used any more.
 pub fn take_out(by: By, index: &mut EndIndex, row: &Row) -> bool
     ensures { result ≡ true → IsTakenOut (index_number by) (row_view row.now) index.old index.new }
 {

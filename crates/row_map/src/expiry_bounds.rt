@@ -69,9 +69,10 @@ impl ExpiryBounds {
         self.by_bucket.resize(BUCKETS, u64::MAX).is_ok()
     }
 
-    /// Makes a bound for each bucket of these rows, if there are enough, where one of them is new and
-    /// there are no such bounds. Where memory is refused nothing changes. No clause says that a bound
-    /// is the greatest one: a lower one costs a purge time, and changes nothing that it drops.
+    /// Makes a bound for each bucket of these rows, if there are enough, where one of them is new
+    /// and there are no such bounds. Where memory is refused nothing changes. No clause says that a
+    /// bound is the greatest one: a lower one costs a purge time, and changes nothing that it
+    /// drops.
     pub(crate) fn split_for(&mut self, rows: &BTreeMap<RowKey, Row>, has_new: bool)
         ensures { AllByRecursion (IsBoundedBy self.old) (views_of rows.now.entries) → AllByRecursion (IsBoundedBy self.new) (views_of rows.now.entries) }
     {
@@ -141,9 +142,9 @@ impl ExpiryBounds {
         }
     }
 
-    /// Passes the buckets whose rows are known to expire after the walk's moment, and visits no row.
-    /// Returns the end of the next buckets, whose rows the caller visits: the first bucket that is
-    /// none of them.
+    /// Passes the buckets whose rows are known to expire after the walk's moment, and visits no
+    /// row. Returns the end of the next buckets, whose rows the caller visits: the first bucket
+    /// that is none of them.
     pub(crate) fn pass_lasting(&self, walk: &mut BucketWalk) -> usize
         requires { walk.old.bucket ≤ bucket_count }
         ensures passed { (row : RowView) → IsBoundedBy self.now row → OutlastsBefore walk.old row → OutlastsBefore walk.new row }

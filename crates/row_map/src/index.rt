@@ -43,8 +43,8 @@ impl EndIndex {
         }
     }
 
-    /// Adds a row. Where one is at its index key, no clause says which of the two the index has then.
-    /// Where memory is refused, the index is unchanged.
+    /// Adds a row. Where one is at its index key, no clause says which of the two the index has
+    /// then. Where memory is refused, the index is unchanged.
     pub fn add(&mut self, index_row: IndexRow) -> Result<(), AllocError>
         ensures ok { OnOk result ((q : IndexKey) → has self.new q ≡ (is_same q index_row || has self.old q)) }
         ensures rows { OnOk result ((known : IndexKey → Bool) (row : IndexKey → Option (SegTypeView × SegmentView))
@@ -55,8 +55,8 @@ impl EndIndex {
         Ok(())
     }
 
-    /// Replaces the row at an index key by this one. The call takes no memory. Where no row is at its
-    /// index key, the index is unchanged, or has the row.
+    /// Replaces the row at an index key by this one. The call takes no memory. Where no row is at
+    /// its index key, the index is unchanged, or has the row.
     pub fn renew(&mut self, index_row: IndexRow)
         ensures kept { has self.old index_row ≡ true → (q : IndexKey) → has self.new q ≡ has self.old q }
         ensures rows { has self.old index_row ≡ true → (known : IndexKey → Bool) (row : IndexKey → Option (SegTypeView × SegmentView))
@@ -124,8 +124,8 @@ impl EndIndex {
         )
     }
 
-    /// The rows of a type whose ISD-AS is at least `low` and below `high`, by rising ISD-AS and then
-    /// by rising id. No others are visited.
+    /// The rows of a type whose ISD-AS is at least `low` and below `high`, by rising ISD-AS and
+    /// then by rising id. No others are visited.
     pub fn keys_between(&self, kind: SegType, low: u64, high: u64) -> IndexKeys<'_>
         requires { low ≤ high }
         ensures same { result ≡ filter (stands_between (type_number kind) low high) self.now }

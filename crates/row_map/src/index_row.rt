@@ -21,9 +21,9 @@ use std::marker::Model;
 /// The number of bytes of an id that are kept beside a segment.
 const HEAD: usize = 3;
 
-/// How an index row is kept, in 24 bytes. A row has a variant for each type, with the first bytes of
-/// its id, the second at which it has expired, its number and its segment. The first bytes decide
-/// most comparisons, so that these don't read the segment.
+/// How an index row is kept, in 24 bytes. A row has a variant for each type, with the first bytes
+/// of its id, the second at which it has expired, its number and its segment. The first bytes
+/// decide most comparisons, so that these don't read the segment.
 #[derive(Drop)]
 enum Place {
     /// Below all rows of a type and a number.
@@ -140,8 +140,8 @@ impl IndexRow {
     }
 
     /// Whether the row is known to expire at this moment or before, in half seconds since 1970. Its
-    /// segment is not read. `false` says nothing of a row that expires at the moment itself, or after
-    /// 2^32 - 2 seconds.
+    /// segment is not read. `false` says nothing of a row that expires at the moment itself, or
+    /// after 2^32 - 2 seconds.
     pub fn expires_by(&self, moment: u64) -> bool
         ensures expired { result ≡ true → IfSome self.now.row (λ row. expiry_of row.1 ≤ moment) }
         ensures told { IfSome self.now.row (λ row. expiry_of row.1 < moment → expiry_of row.1 ≤ 2 * (2 ^ 32 - 2) → result ≡ true) }
@@ -154,8 +154,8 @@ impl IndexRow {
         }
     }
 
-    /// An equal index row, which shares the segment. For a row the call takes no memory, and an error
-    /// means that 2^63 rows share the segment already.
+    /// An equal index row, which shares the segment. For a row the call takes no memory, and an
+    /// error means that 2^63 rows share the segment already.
     pub fn try_clone(&self) -> Result<IndexRow, AllocError>
         ensures { IfOk result (λ copy. copy ≡ self.now) }
     {
@@ -243,8 +243,8 @@ fn second_of(segment: &Segment) -> u32
     (expires / 2 + expires % 2).min(u64::from(u32::MAX)) as u32
 }
 
-/// Whether a second that is kept, and not the last one, is at this moment or before, in half seconds
-/// since 1970.
+/// Whether a second that is kept, and not the last one, is at this moment or before, in half
+/// seconds since 1970.
 fn is_by(second: u32, moment: u64) -> bool
     ensures by { result ≡ true → (second < 2 ^ 32 - 1) × (2 * second ≤ moment) }
     ensures told { second < 2 ^ 32 - 1 → 2 * second ≤ moment → result ≡ true }

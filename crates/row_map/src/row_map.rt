@@ -258,9 +258,9 @@ impl RowMap {
         self.bounds.keep(walk.low, walk.high, walk.least);
     }
 
-    /// Passes the buckets whose rows are known to expire after the walk's moment, and visits no row.
-    /// Returns the end of the next buckets, whose rows the caller visits: the first bucket that is
-    /// none of them.
+    /// Passes the buckets whose rows are known to expire after the walk's moment, and visits no
+    /// row. Returns the end of the next buckets, whose rows the caller visits: the first bucket
+    /// that is none of them.
     pub fn pass_lasting(&self, walk: &mut BucketWalk) -> usize
         requires passed { HasPassedBuckets walk.old self.now }
         requires within { walk.old.bucket ≤ bucket_count }
@@ -283,8 +283,8 @@ pub(crate) fn key_of_row(row: &Row) -> RowKey
     row_key(row.kind, row.id())
 }
 
-/// The map of rows, whose keys rise, and how many bytes their records have. Each node of its tree is
-/// full but for the last ones.
+/// The map of rows, whose keys rise, and how many bytes their records have. Each node of its tree
+/// is full but for the last ones.
 pub fn map_of(alloc: Global, rows: Vec<Row>) -> Result<(RowMap, u128), AllocError>
     requires { IsRising (row_views rows.items) }
     ensures rows { IfOk result (λ made. made.0 ≡ row_views rows.items) }

@@ -53,8 +53,8 @@ impl MemDevice {
         range[landed..].fill(fill);
     }
 
-    /// A write of `len` bytes from sector `at` on, of which nothing lands. The range is dirty all the
-    /// same.
+    /// A write of `len` bytes from sector `at` on, of which nothing lands. The range is dirty all
+    /// the same.
     pub fn touch(&mut self, at: u64, len: usize)
         requires { SECTOR * at + len ≤ SECTOR * (memory_disk self.old).sectors }
         ensures { memory_disk self.new ≡ record (memory_disk self.old) {

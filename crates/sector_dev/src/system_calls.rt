@@ -1,5 +1,6 @@
 //! The calls of the system on an open file. No contract states what the system does, so here alone
-//! a file is not called honest. Each method is one call, and that of a block device's status is two.
+//! a file is not called honest. Each method is one call, and that of a block device's status is
+//! two.
 
 use crate::{FileCalls, FileStatus};
 use std::fs::File;

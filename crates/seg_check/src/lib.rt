@@ -1,8 +1,8 @@
 //! The id and the expiry of a path segment, and the check that it is accepted.
 //!
 //! To the layer above, the id and the expiry are functions of the segment alone, and a check
-//! returns exactly the first refusal, also that of several segments (`check_all`). The caller supplies a `Verifier`, which decides whether a
-//! signature is good.
+//! returns exactly the first refusal, also that of several segments (`check_all`). The caller
+//! supplies a `Verifier`, which decides whether a signature is good.
 #![tactic(auto)]
 
 mod checking;

@@ -2,7 +2,8 @@
 //!
 //! To the layer above, `classify` returns exactly what the table of sides says, by a roster of core
 //! ASes, which counts only as a set. `answer` is the filter: the first 64 segments by key that
-//! match the query and are valid. `page_after` returns them after an id, and whether further ones follow.
+//! match the query and are valid. `page_after` returns them after an id, and whether further ones
+//! follow.
 #![tactic(auto)]
 
 mod answers;

@@ -50,8 +50,8 @@ pub(crate) fn next_frame(
     Ok(Some((message_of(kinds, kind, body), LENGTH_SIZE + len)))
 }
 
-/// Whether frames of this kind can have this length. Only purges, removals and lists have lengths of
-/// their own.
+/// Whether frames of this kind can have this length. Only purges, removals and lists have lengths
+/// of their own.
 fn is_length_of(kind: u8, len: usize) -> bool
     ensures { IsTrue result ↔ IsLengthOf kind len }
 {

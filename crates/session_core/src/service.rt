@@ -114,8 +114,8 @@ pub trait Service {
         ensures answers { answers (state self.old) (Remove kind id.now) (reply_to_remove Self.Ack.says result) (state self.new) }
         ensures sent { hands_in (sent self.old) (Remove kind id.now) (sent self.new) };
 
-    /// Answers a list: a page of segments of one type. The number of the type can be any byte. Nothing
-    /// is handed in.
+    /// Answers a list: a page of segments of one type. The number of the type can be any byte.
+    /// Nothing is handed in.
     fn list(&mut self, alloc: Global, request: &ListRequest) -> Result<Listing, Code>
         ensures answers { answers (state self.old) (List request.now) (reply_to_list result) (state self.new) }
         ensures few { IfOk result (λ listing. length listing.segments.items ≤ MOST_SEGMENTS) }
@@ -131,8 +131,8 @@ pub trait Service {
         ensures same { state self.new ≡ state self.old }
         ensures sent { MatchOption result (sent self.new ≡ sent self.old) (λ _. hands_in (sent self.old) (message_at message.entry) (sent self.new)) };
 
-    /// Answers a command that was handed in. It is known of the others what was known before. Nothing
-    /// more is handed in.
+    /// Answers a command that was handed in. It is known of the others what was known before.
+    /// Nothing more is handed in.
     fn settle(&mut self, under_way: Self::UnderWay) -> Result<Self::Ack, Code>
         ensures answers { (message : MessageView) (kind : KindOfCommand) → is_for (state self.old) under_way message → command_kind message ≡ Some kind
             → answers (state self.old) message (reply_to_kind Self.Ack.says kind result) (state self.new) }

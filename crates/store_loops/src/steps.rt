@@ -26,8 +26,8 @@ pub enum Awaited {
 /// A state that several threads work on. Each call but `changes` and `rest` makes one call of the
 /// state's method of that name, and no other step of an actor, while no other thread makes a call.
 /// Where commands wait in a queue, `submit`, `stage` and `follow` may submit some of them before
-/// their step, and each call may redeem tickets of these after its own. Nothing is known of the state
-/// from one call to the next. A value that is returned is the one that was passed.
+/// their step, and each call may redeem tickets of these after its own. Nothing is known of the
+/// state from one call to the next. A value that is returned is the one that was passed.
 pub trait Steps {
     ghost use Rattle.std.specs.Prelude.{List};
     ghost use Rattle.row_map.specs.Database.{RowView};
@@ -113,9 +113,9 @@ pub trait Steps {
     ) -> Result<Stable, PublishError<AtDurableFollowed>>
         ensures { IsPassedOn value result };
 
-    /// Reads the next piece of the sealed half for a checkpoint that is begun after that, or applies
-    /// the next commands of its journal: 64 sectors or, in the journal, as much more as the last
-    /// group of the piece has.
+    /// Reads the next piece of the sealed half for a checkpoint that is begun after that, or
+    /// applies the next commands of its journal: 64 sectors or, in the journal, as much more as the
+    /// last group of the piece has.
     fn prepare(&self) -> Result<Prepared, BeginError>
         ensures { IfErr result (λ e. e ≡ begin_refused.Stopped → has_stopped self.now) };
 

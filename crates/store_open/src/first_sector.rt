@@ -87,8 +87,8 @@ fn is_named_store(sector: &[u8]) -> bool
     read_u64(sector, 0) == STORE_MAGIC
 }
 
-/// The sizes that sector 0 says of a store, however many sectors the device has; `None` where sector
-/// 0 is no store's. The device is unchanged.
+/// The sizes that sector 0 says of a store, however many sectors the device has; `None` where
+/// sector 0 is no store's. The device is unchanged.
 pub fn titled_sizes<D: Device>(device: &mut D) -> Result<Option<Geometry>, DevError>
     ensures looks { LooksAt result (D.disk device.old) (D.disk device.new) }
     ensures sizes { IfOk result (λ found. IsHonest (D.disk device.old) → option_map geometry_view found ≡ titled_sizes (D.disk device.old)) }

@@ -3,8 +3,8 @@
 //! To the layer above: after `format` every image of the device is a new store. `read_geometry`
 //! returns the sizes of a store exactly where an image is one. `open` returns what the image opens
 //! with, and at every moment leaves the image unchanged, or an image that opens with the same.
-//! `look` returns what the image opens with, and leaves the device unchanged. `lay`, `write_through`
-//! and `title_sector` are the steps of which a store with given rows is made.
+//! `look` returns what the image opens with, and leaves the device unchanged. `lay`,
+//! `write_through` and `title_sector` are the steps of which a store with given rows is made.
 #![tactic(auto)]
 
 mod checkpoint;

@@ -46,8 +46,8 @@ pub fn scan_journal<D: Device>(
     }
 }
 
-/// Reads this number of sectors, of 512 bytes each, which the device has from the sector `at` on. An
-/// error is `Device` or `NoMemory`.
+/// Reads this number of sectors, of 512 bytes each, which the device has from the sector `at` on.
+/// An error is `Device` or `NoMemory`.
 pub fn read_piece<D: Device>(
     alloc: Global,
     device: &mut D,
