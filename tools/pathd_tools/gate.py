@@ -11,11 +11,13 @@ The proofs of the tests take as long as those of most libraries, and say nothing
 that was proved. Where the variable RT_JOBS is not set, three crates are proved at a time. `gate_hook` has
 `rt` prove a library by two processes where few are being proved, and has it read each crate's
 sources once for each sum of them, and not once for each way that leads down to it. The output and
-the status are those of `rt ci`.
+the status are those of `rt ci`, but for one thing more: no function of `logged_state`, or of a crate
+below it, may wait. So each returns, and its clauses on every moment of a device hold of each call.
 """
 from __future__ import annotations
 
 import os
+import re
 import shutil
 import subprocess
 import tempfile
@@ -32,14 +34,20 @@ JOBS = "3"
 HOOK = Path(__file__).with_name("gate_hook")
 # What the copy has beside the crates.
 FILES = ("crates.txt", "HANDLES")
+# Its functions and those of the crates below write the device of a server, and each of them returns.
+RETURNS = "logged_state"
 # The program, in its folder of the crate.
 BUILT = Path("crates/pathd/out")
 
 
 def kept() -> set[str]:
     """The crates of the copy: those of the product, the programs, and what these use."""
+    return with_below([it for it in source.uses() if crates.is_program(it) or not it.startswith("test_")])
+
+
+def with_below(wanted: list[str]) -> set[str]:
+    """These crates, and the crates of the repository that they use."""
     uses = source.uses()
-    wanted = [it for it in uses if crates.is_program(it) or not it.startswith("test_")]
     found: set[str] = set()
     while wanted:
         name = wanted.pop()
@@ -60,8 +68,19 @@ def copy_to(folder: Path, names: set[str]) -> None:
 
 
 def prove(folder: Path) -> int:
-    """Runs `rt ci` in a folder, and answers its status."""
-    return subprocess.run(["rt", "ci"], cwd=folder, env={"RT_JOBS": JOBS, **os.environ, "PYTHONPATH": str(HOOK)}, check=False).returncode
+    """Runs `rt ci` in a folder, and answers its status; 1 where a function may wait that has to return."""
+    returning, crate, waiting = with_below([RETURNS]), "", []
+    environment = {"RT_JOBS": JOBS, **os.environ, "PYTHONPATH": str(HOOK)}
+    with subprocess.Popen(["rt", "ci"], cwd=folder, env=environment, stdout=subprocess.PIPE, stderr=subprocess.STDOUT, text=True) as run:
+        for line in run.stdout or ():
+            print(line, end="", flush=True)
+            if line.startswith("== "):
+                crate = line.removeprefix("== ").strip()
+            elif crate in returning and re.match(r"logic=.* may-wait=", line):
+                waiting.append(crate)
+    if waiting:
+        print(f"gate: functions of {', '.join(waiting)} may wait\n0 passed, {len(waiting)} failed")
+    return run.returncode or int(bool(waiting))
 
 
 def main(words: list[str]) -> int:
