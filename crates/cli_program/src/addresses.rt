@@ -4,7 +4,7 @@ use clap::ArgMatches;
 use cli_commands::is_address;
 use cli_lines::Failure;
 use cli_words::{LISTEN, LOOKUPS, STATUS_LISTEN};
-use server_listeners::{Listeners, raised_listener, set_accept_timeout};
+use server_front::{Listeners, raised_listener, set_accept_timeout};
 use std::net::{Net, TcpListener, TcpStream};
 
 /// The address of an option that may be left out.

@@ -10,13 +10,17 @@ use clap::ArgMatches;
 use cli_commands::{cores_in, key_in, u32_in};
 use cli_lines::Failure;
 use cli_words::{
-    FUTURE, GRACE, IDLE, LEAVE, LISTS, LOOKUP_SEATS, PEER_SESSIONS, PURGE, PURGE_GRACE, SESSIONS,
-    SPARE,
+    FUTURE, GRACE, IDLE, LEAVE, LISTS, LOOKUP_SEATS, MOST_SEATS, PEER_SESSIONS, PURGE, PURGE_GRACE,
+    SESSIONS, SPARE,
 };
 use path_server::{Kinds, Options};
 use seg_lookup::Roster;
+use server_front::MOST_LOOKUP_SEATS;
 use std::alloc::Global;
 use std::time::Duration;
+
+// An option of seats has the bound that the server has.
+const _: () = prove!(MOST_SEATS == MOST_LOOKUP_SEATS as i64);
 
 /// The number of seconds that a peer may be silent where no option names it.
 const IDLE_SECONDS: u32 = 300;

@@ -14,7 +14,7 @@ use cli_lines::Failure;
 use cli_words::DEVICE;
 use path_hub::Reserved;
 use sector_dev::{FileDevice, LastFault, PositionedFile, SystemFile};
-use server_listeners::Listeners;
+use server_front::Listeners;
 use std::net::TcpListener;
 use std::sync::Arc;
 use store_open::open_in_threads;

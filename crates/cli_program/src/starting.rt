@@ -7,7 +7,7 @@ use cli_lines::Priority;
 use cli_words::CORES;
 use isd_as::parse;
 use sector_dev::Device;
-use server_listeners::Listeners;
+use server_front::Listeners;
 use std::alloc::{AllocError, Global};
 use std::net::TcpListener;
 use std::time::{Clock, Instant};

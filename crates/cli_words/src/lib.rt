@@ -18,7 +18,6 @@ use clap::{Arg, ArgAction, Command, value_parser};
 pub use command_line::{CommandLine, Subcommand};
 pub use reading::{read, request_in, words_in};
 pub use request::Request;
-use server_seats::MOST_LOOKUP_SEATS;
 use std::alloc::{AllocError, Global};
 use store_layout::{LEAST_CHECKPOINT, LEAST_JOURNAL, MOST_SECTORS};
 
@@ -81,6 +80,10 @@ pub const FUTURE: &str = "future";
 
 /// The name of its option with the number of seats that commands under way leave to others.
 pub const SPARE: &str = "spare";
+
+/// The greatest value of `LOOKUP_SEATS` and of `SPARE`, as the server has it: of its 64 seats 8 are
+/// always for sessions that may have commands.
+pub const MOST_SEATS: i64 = 56;
 
 /// The name of its flag by which lists are answered.
 pub const LISTS: &str = "lists";
@@ -483,7 +486,7 @@ fn with_lookups<'a>(
     let seats = "The number of the 64 seats that are for these sessions, 1 to 56 [default: 16]";
     let seats = option(alloc, LOOKUP_SEATS, "SEATS", seats);
     let command = with_arg(command, RUN, option(alloc, LOOKUPS, "ADDR", lookups));
-    with_arg(command, RUN, within(seats, 1, MOST_LOOKUP_SEATS as i64))
+    with_arg(command, RUN, within(seats, 1, MOST_SEATS))
 }
 
 /// Gives the command that serves sessions the options for how many and how long.
@@ -524,11 +527,7 @@ fn with_refusals<'a>(
     let spare =
         "Keep this number of the 64 seats for sessions without commands under way, 0 to 56 [default: 0]";
     let command = with_arg(command, RUN, seconds(alloc, FUTURE, future));
-    let spare = within(
-        option(alloc, SPARE, "SEATS", spare),
-        0,
-        MOST_LOOKUP_SEATS as i64,
-    );
+    let spare = within(option(alloc, SPARE, "SEATS", spare), 0, MOST_SEATS);
     let command = with_arg(command, RUN, spare);
     let lists = "Answer lists of segments; without it a list ends its session";
     with_arg(command, RUN, flag(alloc, LISTS, lists))

@@ -10,8 +10,8 @@ use Rattle.seg_check.specs.Signatures.{Verdicts}
 use Rattle.seg_lookup.specs.Roster.{RosterView}
 use Rattle.session_core.specs.declared.error.FrameError.{FrameError}
 use Rattle.session_core.specs.declared.message_kinds.Kinds.{Kinds}
-use Rattle.server_seats.specs.declared.role.Role.{Role}
-use Rattle.server_seats.specs.Roles.{takes_commands}
+use Rattle.server_front.specs.declared.role.Role.{Role}
+use Rattle.server_front.specs.Roles.{takes_commands}
 use Rattle.hub_readers.specs.Sight.{Sight}
 use Rattle.path_session.specs.Serving.{Serving, beginning}
 use Rattle.path_session.specs.Answered.{HubAnswers}

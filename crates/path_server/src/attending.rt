@@ -1,7 +1,7 @@
 //! The session of one peer of a server.
 
 ghost use Rattle.std.specs.Prelude.{◌≡◌, false, [], IfSome, is_some};
-ghost use Rattle.server_seats.specs.Roles.{takes_commands};
+ghost use Rattle.server_front.specs.Roles.{takes_commands};
 ghost use Rattle.path_server.specs.Attending.{IsHubServed, shares_room};
 
 use crate::parting::end_early;
@@ -16,9 +16,7 @@ use path_hub::{Hub, LoggedList, Sender};
 use path_session::{HubService, SystemNow};
 use sector_dev::Device;
 use seg_check::Verifier;
-use server_counts::{Circumstances, cause_of};
-use server_listeners::{Listener, turn_away};
-use server_seats::Role;
+use server_front::{Circumstances, Listener, Role, cause_of, turn_away};
 use session_limits::Limited;
 use status_server::Counted;
 use std::net::{SocketAddr, TcpStream};

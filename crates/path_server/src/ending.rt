@@ -4,7 +4,7 @@ use crate::reports::Reports;
 use crate::server::Server;
 use paced_stream::Deadline;
 use seg_check::Verifier;
-use server_listeners::Listener;
+use server_front::Listener;
 use std::sync::Wait;
 use std::sync::atomic::Ordering;
 use std::thread::sleep;

@@ -13,7 +13,7 @@ use paced_stream::Deadline;
 use path_hub::Hub;
 use sector_dev::Device;
 use seg_check::Verifier;
-use server_listeners::Listener;
+use server_front::Listener;
 use session_clock::Now;
 use std::sync::Wait;
 use std::thread::sleep;

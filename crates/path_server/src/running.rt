@@ -16,7 +16,7 @@ use crate::server::Server;
 use path_hub::{Ended, HubLeft, Reserved, with_workload};
 use sector_dev::Device;
 use seg_check::{TrustAll, Verifier};
-use server_listeners::{Listener, Listeners};
+use server_front::{Listener, Listeners};
 use std::alloc::Global;
 use std::sync::Wait;
 use std::thread::Threads;

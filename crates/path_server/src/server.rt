@@ -1,7 +1,7 @@
 //! A server's work with a hub: it attends to each connection in a thread of its own.
 
 ghost use Rattle.std.specs.Prelude.{◌≡◌, false, is_some};
-ghost use Rattle.server_seats.specs.Roles.{takes_commands};
+ghost use Rattle.server_front.specs.Roles.{takes_commands};
 ghost use Rattle.path_server.specs.Attending.{shares_room};
 
 use crate::error::RunError;
@@ -17,9 +17,10 @@ use path_hub::{Hub, Notice, Senders, Workload};
 use path_session::SystemNow;
 use sector_dev::Device;
 use seg_check::Verifier;
-use server_counts::{Ends, Seldom, Stopwatch, Waiting};
-use server_listeners::{Door, Entrances, Listener, Listeners, StatusListener};
-use server_seats::{LEAST_COMMAND_SEATS, MOST_SESSIONS, Role, Seats, shares_of};
+use server_front::{
+    Door, Ends, Entrances, LEAST_COMMAND_SEATS, Listener, Listeners, MOST_SESSIONS, Role, Seats,
+    Seldom, StatusListener, Stopwatch, Waiting, shares_of,
+};
 use session_clock::SteadyNow;
 use session_core::MOST_AHEAD;
 use session_limits::{Limits, Rooms};

@@ -1,6 +1,6 @@
 //! The tasks that the threads of a server attend to.
 
-use server_seats::Role;
+use server_front::Role;
 use std::time::Duration;
 
 /// A seat: its number among those for the sessions of a role.

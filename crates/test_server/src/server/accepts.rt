@@ -4,7 +4,7 @@ use crate::server::checks::assert_same;
 use crate::server::stores::{LEAST, assert_opens_to, formatted};
 use crate::server::worlds::{Counts, World, options, serve};
 use path_server::RunError;
-use server_listeners::{AcceptFailure, Listener, Listeners, after_failure};
+use server_front::{AcceptFailure, Listener, Listeners, after_failure};
 use std::alloc::Global;
 use std::io;
 use std::net::{OpenListener, SocketAddr, TcpStream};

@@ -7,7 +7,7 @@ use crate::server::stores::{LEAST, assert_opens_to, formatted};
 use crate::server::worlds::{Counts, World, serve};
 use path_server::{Kinds, Options, RunError};
 use seg_lookup::Roster;
-use server_listeners::{Listener, Listeners};
+use server_front::{Listener, Listeners};
 use std::alloc::Global;
 use std::io;
 use std::net::{OpenListener, SocketAddr, TcpStream};

@@ -8,7 +8,7 @@ use crate::server::worlds::{
     Clients, Counts, Others, Outside, World, listen, options, serve_beside,
 };
 use path_server::Options;
-use server_seats::{MOST_LOOKUP_SEATS, MOST_SESSIONS};
+use server_front::{MOST_LOOKUP_SEATS, MOST_SESSIONS};
 use std::alloc::Global;
 use std::io;
 use std::net::{SocketAddr, TcpListener};

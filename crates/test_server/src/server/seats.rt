@@ -7,7 +7,7 @@ use crate::server::stores::{LEAST, assert_opens_to, formatted};
 use crate::server::worlds::{
     Clients, Counts, End, Outside, assert_met, assert_served, listen, options, serve_at,
 };
-use server_listeners::Listeners;
+use server_front::Listeners;
 use std::alloc::Global;
 use std::io;
 use std::net::{SocketAddr, TcpStream};

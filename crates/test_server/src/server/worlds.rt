@@ -6,7 +6,7 @@ use isd_as::IsdAs;
 use path_server::{Kinds, Options, Report, Reports, Reserved, RunError, System, serve_store};
 use sector_dev::Device;
 use seg_lookup::Roster;
-use server_listeners::{Listener, Listeners, set_accept_timeout};
+use server_front::{Listener, Listeners, set_accept_timeout};
 use std::alloc::Global;
 use std::net::{Net, Shutdown, SocketAddr, TcpListener, TcpStream};
 use std::os::fd::OwnedFd;

@@ -2,7 +2,7 @@
 
 ghost use Rattle.std.specs.Prelude.{◌≡◌};
 ghost use Rattle.std.specs.IoError.{raw_os_error};
-ghost use Rattle.server_listeners.specs.Accepting.{failure_of, failure_after, next_pause};
+ghost use Rattle.server_front.specs.Accepting.{failure_of, failure_after, next_pause};
 
 use crate::descriptors::raised;
 use libc::{EAGAIN, EBADF, EINVAL, ENOTSOCK};

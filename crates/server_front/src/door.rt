@@ -1,12 +1,12 @@
 //! The door of a server, by which its peers arrive.
 
 ghost use Rattle.std.specs.Prelude.{◌≡◌, ◌&&◌, nat_le, nat_lt, false};
-ghost use Rattle.server_listeners.specs.Doors.{wanted_of};
+ghost use Rattle.server_front.specs.Arriving.{wanted_of};
 
 use crate::accepting::{Arrival, next_arrival};
 use crate::listeners::Listener;
+use crate::role::Role;
 use crate::two_listeners::{Entrances, next_of_two};
-use server_seats::Role;
 use std::sync::atomic::{AtomicBool, AtomicU64, Ordering};
 use std::sync::{Mutex, Wait};
 use std::time::Clock;

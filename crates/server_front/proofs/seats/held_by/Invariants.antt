@@ -1,6 +1,6 @@
 use Rattle.std.proofs.Common.{◌≡◌, ◌-◌, ◌^◌, min, take}
-use Rattle.server_seats.specs.Seating.{held_by}
-use Rattle.server_seats.proofs.seats.held_by.Given as goal
+use Rattle.server_front.specs.Seating.{held_by}
+use Rattle.server_front.proofs.seats.held_by.Given as goal
 
 -- the seats so far
 abbrev pub invariant-loop-seat : goal.invariant-loop-seat

@@ -1,12 +1,42 @@
-//! Waiting for peers that ask for the numbers of a server, beside those that are visiting.
+//! The listener for requests of the numbers, and the peers that come by it.
 
 ghost use Rattle.std.specs.Prelude.{◌≡◌, false};
-ghost use Rattle.server_listeners.specs.Visiting.{is_nobody};
+ghost use Rattle.server_front.specs.Arriving.{is_nobody};
 
 use crate::accepting::{AcceptFailure, accept_one, after_failure, next_peer};
 use std::net::{OpenListener, TcpStream};
-use std::sync::Wait;
+use std::sync::atomic::{AtomicBool, Ordering};
+use std::sync::{Mutex, Wait};
 use std::time::Clock;
+
+/// The listener for requests of the numbers, until a thread takes it. Threads share it, so that no
+/// clause says whether it is there.
+#[derive(Drop)]
+pub struct StatusListener<L> {
+    listener: Mutex<Option<L>>,
+    /// Whether a thread for the listener was asked for.
+    is_offered: AtomicBool,
+}
+
+impl<L: Drop> StatusListener<L> {
+    /// Keeps the listener, if there is one.
+    pub fn new(listener: Option<L>) -> StatusListener<L> {
+        StatusListener {
+            listener: Mutex::new(listener),
+            is_offered: AtomicBool::new(false),
+        }
+    }
+
+    /// Whether a thread must be asked for the listener, as it is once where there is one.
+    pub fn offer<R: Wait>(&self, rt: &R) -> bool {
+        !self.is_offered.swap(true, Ordering::SeqCst) && self.listener.lock(rt).is_some()
+    }
+
+    /// Takes the listener.
+    pub fn take<R: Wait>(&self, rt: &R) -> Option<L> {
+        (*self.listener.lock(rt)).take()
+    }
+}
 
 /// What comes of a look for a peer.
 #[derive(Drop)]

@@ -7,10 +7,10 @@ use Rattle.std.specs.Net.Socket.{socket_ip}
 use Rattle.std.specs.declared.net.ip_addr.IpAddr.{IpAddr}
 use Rattle.std.specs.declared.net.ip_addr.IpAddr.TheVariants.{V4, V6}
 use Rattle.std.specs.declared.net.socket_addr.SocketAddr.{SocketAddr}
-use Rattle.server_seats.specs.declared.seats.NoSeat.{NoSeat}
-use Rattle.server_seats.specs.declared.seats.NoSeat.TheVariants.{Full, AddressFull}
-use Rattle.server_seats.specs.declared.seats.Peer.{Peer}
-use Rattle.server_seats.specs.declared.seats.Seats.{Seats}
+use Rattle.server_front.specs.declared.seats.NoSeat.{NoSeat}
+use Rattle.server_front.specs.declared.seats.NoSeat.TheVariants.{Full, AddressFull}
+use Rattle.server_front.specs.declared.seats.Peer.{Peer}
+use Rattle.server_front.specs.declared.seats.Seats.{Seats}
 
 -- The number of the seats, which does not change.
 abbrev pub count_of : Seats → ℕ

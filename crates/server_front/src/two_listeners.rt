@@ -1,13 +1,13 @@
 //! Waiting for peers of two listeners.
 
 ghost use Rattle.std.specs.Prelude.{◌≡◌};
-ghost use Rattle.server_listeners.specs.Waiting.{ready_by};
+ghost use Rattle.server_front.specs.Arriving.{ready_by};
 
 use crate::accepting::{AcceptFailure, Arrival, accept_one, after_failure, pause_after};
 use crate::listeners::{ACCEPT, Listener};
+use crate::role::Role;
 use libc::net::{POLLIN, poll};
 use libc::types::pollfd;
-use server_seats::Role;
 use std::sync::Wait;
 use std::time::Clock;
 

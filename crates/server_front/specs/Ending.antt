@@ -2,9 +2,9 @@
 use Rattle.std.specs.Prelude.{ℕ, Bool, true, false, Result, Ok, Err, if◌then◌else◌}
 use Rattle.session_core.specs.declared.error.FrameError.{FrameError}
 use Rattle.session_core.specs.declared.error.FrameError.TheVariants as error
-use Rattle.server_counts.specs.declared.ends.Cause.{Cause}
-use Rattle.server_counts.specs.declared.ends.Cause.TheVariants.{Orderly, Idle, Frame, Failed, NoMemory, Server}
-use Rattle.server_counts.specs.declared.ends.Circumstances.{Circumstances}
+use Rattle.server_front.specs.declared.ends.Cause.{Cause}
+use Rattle.server_front.specs.declared.ends.Cause.TheVariants.{Orderly, Idle, Frame, Failed, NoMemory, Server}
+use Rattle.server_front.specs.declared.ends.Circumstances.{Circumstances}
 
 -- The cause of the end of a session whose connection failed.
 abbrev pub cause_of_failure : Circumstances → Cause

@@ -1,7 +1,7 @@
 //! How sessions end.
 
 ghost use Rattle.std.specs.Prelude.{◌≡◌};
-ghost use Rattle.server_counts.specs.Ending.{cause_of, is_fault};
+ghost use Rattle.server_front.specs.Ending.{cause_of, is_fault};
 
 use session_core::FrameError;
 use std::sync::atomic::{AtomicU64, Ordering};

@@ -1,7 +1,7 @@
 -- The server's action after an accept that failed.
 use Rattle.std.specs.Prelude.{ℕ, ℤ, pos, negsuc, ◌*◌, min, max, Bool, false, List, [], ◌∷◌, Option, Some, None, if◌then◌else◌, ◌||◌, ◌==◌}
-use Rattle.server_listeners.specs.declared.accepting.AcceptFailure.{AcceptFailure}
-use Rattle.server_listeners.specs.declared.accepting.AcceptFailure.TheVariants.{Nobody, Pause, Broken}
+use Rattle.server_front.specs.declared.accepting.AcceptFailure.{AcceptFailure}
+use Rattle.server_front.specs.declared.accepting.AcceptFailure.TheVariants.{Nobody, Pause, Broken}
 
 -- A number is among others.
 abbrev pub is_among : List ℕ → ℕ → Bool

@@ -1,7 +1,7 @@
 -- What the sessions of a listener may ask for.
 use Rattle.std.specs.Prelude.{Bool, true, false}
-use Rattle.server_seats.specs.declared.role.Role.{Role}
-use Rattle.server_seats.specs.declared.role.Role.TheVariants.{All, Lookups}
+use Rattle.server_front.specs.declared.role.Role.{Role}
+use Rattle.server_front.specs.declared.role.Role.TheVariants.{All, Lookups}
 
 -- The sessions of a role may have their commands taken.
 abbrev pub takes_commands : Role → Bool

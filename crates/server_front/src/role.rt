@@ -1,7 +1,7 @@
 //! What the sessions of a listener may ask for.
 
 ghost use Rattle.std.specs.Prelude.{◌≡◌};
-ghost use Rattle.server_seats.specs.Roles.{takes_commands, other_of};
+ghost use Rattle.server_front.specs.Roles.{takes_commands, other_of};
 
 /// What the sessions of a listener may ask for.
 #[derive(Clone, Copy, Debug, PartialEq, Eq)]

@@ -1,8 +1,8 @@
 //! The seats of a server: one for each session at one time.
 
 ghost use Rattle.std.specs.Prelude.{◌≡◌, ◌+◌, ◌≤◌, ◌<◌, ◌-◌, ◌^◌, IfErr, OnOk, min, true, false};
-ghost use Rattle.server_seats.specs.Seating.{count_of, limit_of, refusal_of, has_host, held_by};
-ghost use Rattle.server_seats.specs.declared.seats.NoSeat.TheVariants.{AddressFull, NoMemory};
+ghost use Rattle.server_front.specs.Seating.{count_of, limit_of, refusal_of, has_host, held_by};
+ghost use Rattle.server_front.specs.declared.seats.NoSeat.TheVariants.{AddressFull, NoMemory};
 
 use std::alloc::{AllocError, Global};
 use std::net::{Shutdown, SocketAddr, TcpStream};

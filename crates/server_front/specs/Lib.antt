@@ -1,0 +1,5 @@
+pub mod Accepting
+pub mod Arriving
+pub mod Ending
+pub mod Roles
+pub mod Seating

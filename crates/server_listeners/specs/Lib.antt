@@ -1,4 +1,0 @@
-pub mod Accepting
-pub mod Doors
-pub mod Visiting
-pub mod Waiting
