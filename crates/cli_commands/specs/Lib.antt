@@ -1,2 +1,4 @@
+pub mod Ending
+pub mod Failures
 pub mod Options
-pub mod Stores
+pub mod Priorities

@@ -6,8 +6,8 @@ use Rattle.clap.specs.Words.{one_text}
 use Rattle.isd_as.specs.declared.number.IsdAs.{IsdAs}
 use Rattle.cli_once.specs.Cores.{AreCores, RefusesList, texts_of}
 use Rattle.cli_once.specs.Key.{RefusesKey}
-use Rattle.cli_lines.specs.declared.ending.Ended.{Ended}
-use Rattle.cli_lines.specs.declared.ending.Ended.TheVariants as ended
+use Rattle.cli_commands.specs.declared.ending.Ended.{Ended}
+use Rattle.cli_commands.specs.declared.ending.Ended.TheVariants as ended
 use Rattle.hex.specs.Hex.{decode_of}
 
 -- Core ASes are those of the texts of a list, and there are none without a list.

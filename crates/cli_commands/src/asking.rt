@@ -1,6 +1,7 @@
 //! The command that asks a server.
 
 use crate::addresses::is_address;
+use crate::failure::Failure;
 use crate::options::u32_in;
 use crate::stores::form_in;
 use clap::ArgMatches;
@@ -8,7 +9,6 @@ use cli_ask::{
     Answer, AskError, Asked, NamedCode, Question, Refusals, TcpLink, WordError, ask, asked_of,
     register,
 };
-use cli_lines::Failure;
 use cli_words::{AT_ONCE, Request, SERVER, TIMEOUT, WAIT, request_in, words_in};
 use row_lines::RowForm;
 use session_clock::{Now, SystemNow};

@@ -1,10 +1,10 @@
 //! The files of devices, and why a command over the store of one has failed.
 
 ghost use Rattle.std.specs.Prelude.{◌≡◌};
-ghost use Rattle.cli_lines.specs.Failures.{ended_by};
-ghost use Rattle.cli_commands.specs.Stores.{ended_by_fault};
+ghost use Rattle.cli_commands.specs.Failures.{ended_by};
+ghost use Rattle.cli_commands.specs.Failures.{ended_by_fault};
 
-use cli_lines::Failure;
+use crate::failure::Failure;
 use cli_store::Fault;
 use sector_dev::{FileDevice, LastFault, SystemFile};
 use std::io;

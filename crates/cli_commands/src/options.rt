@@ -2,12 +2,12 @@
 
 ghost use Rattle.std.specs.Prelude.{◌≡◌, codes, IfOk, IfErr};
 ghost use Rattle.clap.specs.Words.{first_value, found_of};
-ghost use Rattle.cli_lines.specs.declared.ending.Ended.TheVariants.{Session};
-ghost use Rattle.cli_lines.specs.Failures.{ended_by};
+ghost use Rattle.cli_commands.specs.declared.ending.Ended.TheVariants.{Session};
+ghost use Rattle.cli_commands.specs.Failures.{ended_by};
 ghost use Rattle.cli_commands.specs.Options.{AreCoresOf, IsKeyOf, IsNumberOf, RefusesCores, RefusesKeyOf};
 
+use crate::failure::Failure;
 use clap::ArgMatches;
-use cli_lines::Failure;
 use cli_once::{SessionFault, cores_of, key_of};
 use cli_words::{CORES, KEY};
 use isd_as::{IsdAs, parse};

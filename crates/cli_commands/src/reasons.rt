@@ -1,7 +1,7 @@
 //! What more can be said of why a file is not opened.
 
+use crate::failure::Failure;
 use crate::opened::device_over;
-use cli_lines::Failure;
 use cli_store::Fault;
 use device_files::{holder_of, open_to_read};
 use sector_dev::{Device, SECTOR};

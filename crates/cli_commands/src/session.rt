@@ -1,8 +1,8 @@
 //! The command that answers one session.
 
+use crate::failure::Failure;
 use crate::options::{cores_in, key_in};
 use clap::ArgMatches;
-use cli_lines::Failure;
 use cli_once::{SessionFault, once, once_in_hex};
 use cli_words::{HEX, NOW};
 use seg_check::{TrustAll, Verifier};

@@ -7,10 +7,10 @@ ghost use Rattle.store_layout.specs.Geometry.{geometry_view};
 ghost use Rattle.cli_store.specs.Sizes.{sizes_for};
 ghost use Rattle.cli_commands.specs.Options.{IsNumberOf};
 
+use crate::failure::Failure;
 use crate::opened::{Site, device_over};
 use crate::progress::{MEBIBYTE, Progress};
 use clap::ArgMatches;
-use cli_lines::Failure;
 use cli_store::{
     Consent, Fault, Wishes, ask, copy, decide, format, show, show_layout, sizes_for, status,
     upgrade,

@@ -4,11 +4,11 @@ use Rattle.clap.specs.declared.parser.matches.Found.{Found}
 use Rattle.cli_commands.specs.Options.{IsNumberOf}
 use Rattle.cli_words.specs.declared.command_line.Subcommand.{Subcommand}
 use Rattle.cli_words.specs.declared.command_line.Subcommand.TheVariants.{Run}
-use Rattle.cli_lines.specs.Failures.{is_lasting}
+use Rattle.cli_commands.specs.Failures.{is_lasting}
 use Rattle.path_server.specs.declared.error.RunError.{RunError}
 use Rattle.path_server.specs.declared.error.RunError.TheVariants as server
-use Rattle.cli_lines.specs.declared.failure.Failure.{Failure}
-use Rattle.cli_lines.specs.declared.failure.Failure.TheVariants as failure
+use Rattle.cli_commands.specs.declared.failure.Failure.{Failure}
+use Rattle.cli_commands.specs.declared.failure.Failure.TheVariants as failure
 
 -- The failure for an error of the server.
 abbrev pub failure_of : RunError → Failure

@@ -1,8 +1,8 @@
 -- The priorities of a server's lines on standard error.
 use Rattle.path_server.specs.declared.reports.Report.{Report}
 use Rattle.path_server.specs.declared.reports.Report.TheVariants as report
-use Rattle.cli_lines.specs.declared.priority.Priority.{Priority}
-use Rattle.cli_lines.specs.declared.priority.Priority.TheVariants.{Error, Warning, Info}
+use Rattle.cli_commands.specs.declared.priority.Priority.{Priority}
+use Rattle.cli_commands.specs.declared.priority.Priority.TheVariants.{Error, Warning, Info}
 use Rattle.cli_program.specs.declared.server_line.ServerLine.{ServerLine}
 use Rattle.cli_program.specs.declared.server_line.ServerLine.TheVariants as line
 

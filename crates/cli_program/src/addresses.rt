@@ -1,8 +1,7 @@
 //! Where a server listens.
 
 use clap::ArgMatches;
-use cli_commands::is_address;
-use cli_lines::Failure;
+use cli_commands::{Failure, is_address};
 use cli_words::{LISTEN, LOOKUPS, STATUS_LISTEN};
 use server_front::{Listeners, raised_listener, set_accept_timeout};
 use std::net::{Net, TcpListener, TcpStream};

@@ -2,7 +2,7 @@
 //!
 //! To the layer above, `carry_out` reads the words, does what they ask for, prints on standard
 //! error why it could not, and returns the program's status. It is `run`, then the line and the
-//! status of `cli_lines`. The commands that start no server are those of `cli_commands`.
+//! status of `cli_commands`, which has the commands that start no server.
 #![tactic(auto)]
 
 mod addresses;

@@ -8,7 +8,7 @@ use crate::signals::Signals;
 use crate::starting::milliseconds_since;
 use crate::system::Host;
 use crate::usage::UsageFiles;
-use cli_lines::{Lines, Priority};
+use cli_commands::{Lines, Priority};
 use path_server::{Report, Reports, Usage};
 use sector_dev::LastFault;
 use std::alloc::{AllocError, Global};

@@ -3,7 +3,7 @@
 ghost use Rattle.std.specs.Prelude.{◌≡◌, codes};
 ghost use Rattle.clap.specs.Words.{found_of};
 ghost use Rattle.cli_commands.specs.Options.{IsNumberOf};
-ghost use Rattle.cli_lines.specs.Failures.{ended_by};
+ghost use Rattle.cli_commands.specs.Failures.{ended_by};
 ghost use Rattle.cli_program.specs.Failures.{IsFinalStatusOf, status_by};
 
 use crate::output::Output;
@@ -12,9 +12,9 @@ use crate::system::System;
 use clap::error::ErrorKind;
 use clap::{ArgMatches, Error};
 use cli_commands::{
-    answer, ask_server, copy_file, format_file, more_of, show_file, status_of_file, upgrade_file,
+    Done, Failed, Failure, Priority, answer, ask_server, copy_file, format_file, more_of,
+    show_file, status_of, status_of_file, upgrade_file,
 };
-use cli_lines::{Done, Failed, Failure, Priority, status_of};
 use cli_words::{CommandLine, FINAL_STATUS, LOG_PRIORITY, Request, Subcommand, read, request_in};
 use std::io::{IsTerminal, Read, Write};
 use std::{env, io};

@@ -3,7 +3,7 @@
 ghost use Rattle.std.specs.Prelude.{◌≡◌};
 ghost use Rattle.cli_program.specs.Priorities.{line_priority, report_priority};
 
-use cli_lines::{Line, Priority};
+use cli_commands::{Line, Priority};
 use path_server::Report;
 use sector_dev::FileFault;
 use std::fmt;

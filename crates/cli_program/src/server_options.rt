@@ -7,8 +7,7 @@ ghost use Rattle.cli_commands.specs.Options.{IsKeyOf, IsNumberOf};
 ghost use Rattle.cli_program.specs.Options.{AreKindsOf, IsRosterOf, limit_of, bound_of};
 
 use clap::ArgMatches;
-use cli_commands::{cores_in, key_in, u32_in};
-use cli_lines::Failure;
+use cli_commands::{Failure, cores_in, key_in, u32_in};
 use cli_words::{
     FUTURE, GRACE, IDLE, LEAVE, LISTS, LOOKUP_SEATS, MOST_SEATS, PEER_SESSIONS, PURGE, PURGE_GRACE,
     SESSIONS, SPARE,

@@ -12,8 +12,7 @@ use crate::starting::{say_addresses, say_opened, say_overfull, say_wildcards, sa
 use crate::system::{Host, System};
 use crate::usage::UsageFiles;
 use clap::ArgMatches;
-use cli_commands::make_where_none;
-use cli_lines::Failure;
+use cli_commands::{Failure, make_where_none};
 use cli_words::{CORES, LOG_PRIORITY, QUIET, STOP_ON_END_OF_INPUT};
 use path_hub::{Ended, HubLeft};
 use path_server::{Options, RunError, serve_store};

@@ -10,7 +10,7 @@ ghost use Rattle.store_open.specs.Open.{IsOpened, OpensAlike};
 use crate::addresses::listen;
 use crate::system::{Host, System};
 use clap::ArgMatches;
-use cli_lines::Failure;
+use cli_commands::Failure;
 use cli_words::DEVICE;
 use path_hub::Reserved;
 use sector_dev::{FileDevice, LastFault, PositionedFile, SystemFile};

@@ -3,7 +3,7 @@
 use crate::notices::Notices;
 use crate::system::Host;
 use ckpt_pair::area_room;
-use cli_lines::Priority;
+use cli_commands::Priority;
 use cli_words::CORES;
 use isd_as::parse;
 use sector_dev::Device;

@@ -3,7 +3,7 @@
 //! has to fail for them.
 
 use cli_ask::AskFault;
-use cli_lines::{Ended, Failed, Failure, status_of};
+use cli_commands::{Ended, Failed, Failure, status_of};
 use cli_once::SessionFault;
 use cli_store::Fault as StoreFault;
 use sector_dev::{FaultKind, FileFault};

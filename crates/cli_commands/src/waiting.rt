@@ -1,7 +1,7 @@
 //! The lines of a server that wait to be printed.
 
 ghost use Rattle.std.specs.VecDeque.{deque_capacity};
-ghost use Rattle.cli_lines.specs.declared.waiting.TheConstants.{MOST_LINES};
+ghost use Rattle.cli_commands.specs.declared.waiting.TheConstants.{MOST_LINES};
 ghost use Rattle.std.specs.Prelude.{◌≡◌, ◌+◌, ◌-◌, ◌^◌, ◌≤◌, ◌<◌, [], ◌∷◌, ◌++◌, ◌↔◌, length, min, option_map, option_to_list, IfOk, MatchOption, IsTrue};
 
 use std::alloc::{AllocError, Global};

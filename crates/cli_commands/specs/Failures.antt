@@ -9,10 +9,10 @@ use Rattle.cli_store.specs.declared.error.Fault.{Fault}
 use Rattle.cli_store.specs.declared.error.Fault.TheVariants as store_fault
 use Rattle.cli_ask.specs.declared.error.AskFault.TheVariants as ask_fault
 use Rattle.cli_ask.specs.Faults.{ask_fault_of, word_number}
-use Rattle.cli_lines.specs.declared.ending.Ended.{Ended}
-use Rattle.cli_lines.specs.declared.ending.Ended.TheVariants as ended
-use Rattle.cli_lines.specs.declared.failure.Failure.{Failure}
-use Rattle.cli_lines.specs.declared.failure.Failure.TheVariants as failure
+use Rattle.cli_commands.specs.declared.ending.Ended.{Ended}
+use Rattle.cli_commands.specs.declared.ending.Ended.TheVariants as ended
+use Rattle.cli_commands.specs.declared.failure.Failure.{Failure}
+use Rattle.cli_commands.specs.declared.failure.Failure.TheVariants as failure
 
 -- How the program ends where the system refuses a file or an address by this kind of error: as for
 -- any other want of memory, or as for a refusal of another kind.
@@ -37,6 +37,11 @@ ended_by failure.BrokenListener = ended.Net
 ended_by (failure.Session fault) = ended.Session fault
 ended_by failure.Memory = ended.Session session_fault.Memory
 ended_by failure.Output = ended.Session session_fault.Output
+
+-- How the program ends by a fault of a command over a store: by standard output, or by the store.
+abbrev pub ended_by_fault : Fault → Ended
+ended_by_fault store_fault.Output = ended.Session session_fault.Output
+ended_by_fault fault = ended.Store fault
 
 -- A store that could not be opened for this reason cannot be opened later, unless it is changed: it
 -- is none, or is damaged.

@@ -1,7 +1,7 @@
 //! How the program ends: its status, and its last line on standard error.
 
 ghost use Rattle.std.specs.Prelude.{◌≡◌, Some};
-ghost use Rattle.cli_lines.specs.Ending.{program_status};
+ghost use Rattle.cli_commands.specs.Ending.{program_status};
 
 use std::error::Error;
 use std::fmt;
@@ -31,7 +31,7 @@ pub enum Ended {
 }
 
 impl fmt::Display for Ended {
-    ghost use Rattle.cli_lines.specs.Ending.{ended_line};
+    ghost use Rattle.cli_commands.specs.Ending.{ended_line};
 
     ghost output = { λ ended. Some (ended_line ended) };
 
@@ -48,7 +48,7 @@ impl fmt::Display for Ended {
 impl Error for Ended {}
 
 impl From<cli_once::SessionFault> for Ended {
-    ghost use Rattle.cli_lines.specs.declared.ending.Ended.TheVariants.{Session};
+    ghost use Rattle.cli_commands.specs.declared.ending.Ended.TheVariants.{Session};
 
     ghost from_gives = { λ fault ended. ended ≡ Session fault };
 
@@ -58,7 +58,7 @@ impl From<cli_once::SessionFault> for Ended {
 }
 
 impl From<cli_store::Fault> for Ended {
-    ghost use Rattle.cli_lines.specs.declared.ending.Ended.TheVariants.{Store};
+    ghost use Rattle.cli_commands.specs.declared.ending.Ended.TheVariants.{Store};
 
     ghost from_gives = { λ fault ended. ended ≡ Store fault };
 

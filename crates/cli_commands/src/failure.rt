@@ -2,7 +2,7 @@
 
 ghost use Rattle.std.specs.Prelude.{◌≡◌};
 ghost use Rattle.std.specs.IoError.{error_kind};
-ghost use Rattle.cli_lines.specs.Failures.{ended_by, is_lasting, is_lasting_fault, is_lasting_kind, or_memory};
+ghost use Rattle.cli_commands.specs.Failures.{ended_by, is_lasting, is_lasting_fault, is_lasting_kind, or_memory};
 
 use crate::ending::Ended;
 use cli_ask::{AskError, AskFault, WordError};

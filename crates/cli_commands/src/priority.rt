@@ -1,8 +1,8 @@
 //! The priorities of lines on standard error.
 
 ghost use Rattle.std.specs.Prelude.{◌≡◌};
-ghost use Rattle.cli_lines.specs.declared.priority.Priority.{Priority};
-ghost use Rattle.cli_lines.specs.Priorities.{mark_of, mark_where};
+ghost use Rattle.cli_commands.specs.declared.priority.Priority.{Priority};
+ghost use Rattle.cli_commands.specs.Priorities.{mark_of, mark_where};
 
 use std::fmt::Display;
 

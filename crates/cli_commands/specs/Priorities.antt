@@ -1,7 +1,7 @@
 -- The priorities of lines on standard error.
 use Rattle.std.specs.Prelude.{ℕ, Bool, List, [], codes, if◌then◌else◌}
-use Rattle.cli_lines.specs.declared.priority.Priority.{Priority}
-use Rattle.cli_lines.specs.declared.priority.Priority.TheVariants.{Error, Warning, Info}
+use Rattle.cli_commands.specs.declared.priority.Priority.{Priority}
+use Rattle.cli_commands.specs.declared.priority.Priority.TheVariants.{Error, Warning, Info}
 
 -- What a line of a priority begins with: syslog's number of it.
 abbrev pub mark_of : Priority → List ℕ

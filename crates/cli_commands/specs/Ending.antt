@@ -3,11 +3,11 @@ use Rattle.std.specs.Prelude.{ℕ, List, ◌++◌, codes, Result, Ok, Err}
 use Rattle.cli_once.specs.Fault as session
 use Rattle.cli_store.specs.Fault as store
 use Rattle.cli_ask.specs.Faults as asked
-use Rattle.cli_lines.specs.declared.ending.Done.{Done}
-use Rattle.cli_lines.specs.declared.ending.Done.TheVariants.{Carried, Refused}
-use Rattle.cli_lines.specs.declared.ending.Ended.{Ended}
-use Rattle.cli_lines.specs.declared.ending.Failed.{Failed}
-use Rattle.cli_lines.specs.declared.ending.Ended.TheVariants.{Session, Store, Net, Ask}
+use Rattle.cli_commands.specs.declared.ending.Done.{Done}
+use Rattle.cli_commands.specs.declared.ending.Done.TheVariants.{Carried, Refused}
+use Rattle.cli_commands.specs.declared.ending.Ended.{Ended}
+use Rattle.cli_commands.specs.declared.ending.Failed.{Failed}
+use Rattle.cli_commands.specs.declared.ending.Ended.TheVariants.{Session, Store, Net, Ask}
 
 -- The words that say why the program ends.
 abbrev pub ended_text : Ended → List ℕ
