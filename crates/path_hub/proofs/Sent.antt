@@ -19,7 +19,7 @@ use Rattle.std.specs.declared.sync.Wait as wait
 use Rattle.atomic_table.proofs.shared.Seat.TheSendSync as seat
 use Rattle.atomic_table.proofs.shared.Shared.TheSendSync as shared
 use Rattle.atomic_table.proofs.send_lease.SendLease.TheSendSync as lease
-use Rattle.hub_status.specs.contracts.status.HubStatus as HubStatus
+use Rattle.hub_waits.specs.contracts.status.HubStatus as HubStatus
 use Rattle.sector_dev.specs.declared.device.Device as device
 use Rattle.command_log.specs.declared.name.LogName as named
 use Rattle.command_log.specs.contracts.gathering.LoggedList as LoggedList

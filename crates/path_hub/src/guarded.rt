@@ -17,7 +17,7 @@ use group_core::{
 };
 use hub_claims::HubName;
 use hub_readers::{HubNote, HubShow};
-use hub_status::Done;
+use hub_waits::Done;
 use logged_state::LoggedState;
 use path_db::Command;
 use sector_dev::Device;
@@ -63,7 +63,7 @@ impl<D: Device, N: HubName, R: Wait + Clock> Hub<D, N, R> {
 
     /// Ends a guarded call: answers the commands whose outcome is known, copies the state's numbers
     /// and what the call has completed to the status, and gives the lock up.
-    #[tactic(auto, using(hub_status::proofs::Numbers::are_of_a_state))]
+    #[tactic(auto, using(hub_waits::proofs::Numbers::are_of_a_state))]
     pub(crate) fn end_call(&self, mut locked: Guarded<'_, D, N, R>, done: Done) {
         self.answer_known(&mut locked);
         self.status.end(&self.rt, locked.state.numbers(), done);

@@ -11,7 +11,7 @@ use crate::hub::Hub;
 use command_queue::{Claim, HandedIn, MOST_WAITING, NotQueued, Sender};
 use group_core::{SubmitError, Ticket};
 use hub_claims::{Answer, HubName, NotCommitted, Slot};
-use hub_status::Done;
+use hub_waits::Done;
 use logged_state::{Accepted, LoggedRedeemed};
 use path_db::Command;
 use sector_dev::Device;

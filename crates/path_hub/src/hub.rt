@@ -6,7 +6,7 @@ ghost use Rattle.command_queue.specs.Handed.{handed_with};
 ghost use Rattle.hub_claims.specs.declared.error.HubError.TheVariants.{NoReader};
 ghost use Rattle.hub_claims.specs.Committed.{ReceiptShows, RefusesCommand, RefusesHandingIn, EndsWaiting};
 ghost use Rattle.path_hub.specs.Sending.{NotesTaken};
-ghost use Rattle.hub_status.specs.Numbers.{AreNumbers};
+ghost use Rattle.hub_waits.specs.Numbers.{AreNumbers};
 
 use crate::guarded::Locked;
 use crate::handing::submit_error;
@@ -15,7 +15,7 @@ use command_queue::{CommandQueue, EndedSenders, NotQueued, Sender, Senders};
 use group_core::{Numbers, SubmitError};
 use hub_claims::{HubClaim, HubError, HubName, Patient, Slot, Waiter};
 use hub_readers::{HubReader, HubReceipt, Look, Looks};
-use hub_status::{Changes, Completed, HubStatus, LONGEST_REST};
+use hub_waits::{Changes, Completed, HubStatus, LONGEST_REST};
 use logged_state::{ClaimCollector, LoggedList};
 use path_db::Command;
 use sector_dev::Device;

@@ -31,7 +31,7 @@ mod workload;
 
 pub use command_queue::{Sender, Senders};
 pub use hub::Hub;
-pub use hub_status::Completed;
+pub use hub_waits::Completed;
 pub use left::HubLeft;
 pub use logged_state::{
     ClaimCollector, Ended, Left, Logged, LoggedList, LoggedReceipt, Release, Reserved,

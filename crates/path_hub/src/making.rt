@@ -20,7 +20,7 @@ use crate::new_name::NewName;
 use command_queue::{CommandQueue, NewQueue, Senders};
 use hub_claims::{HubError, HubName};
 use hub_readers::{Looks, ReaderError, open_readers};
-use hub_status::{Changes, HubStatus};
+use hub_waits::{Changes, HubStatus};
 use logged_state::{Ended, Left, LoggedList, LoggedState, Reserved};
 use sector_dev::Device;
 use std::alloc::Global;
@@ -126,7 +126,7 @@ fn do_with<
 
 impl<D: Device, N: HubName, R: Wait + Clock> Hub<D, N, R> {
     /// A hub of this name over a store, or the store again.
-    #[tactic(auto, using(hub_status::proofs::Numbers::are_of_a_state))]
+    #[tactic(auto, using(hub_waits::proofs::Numbers::are_of_a_state))]
     pub(crate) fn open(
         rt: R,
         alloc: Global,

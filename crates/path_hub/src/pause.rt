@@ -3,7 +3,7 @@
 use crate::handing::MOST_TAKEN;
 use crate::hub::Hub;
 use hub_claims::HubName;
-use hub_status::LONGEST_REST;
+use hub_waits::LONGEST_REST;
 use sector_dev::Device;
 use std::sync::Wait;
 use std::time::{Clock, Duration, Instant};

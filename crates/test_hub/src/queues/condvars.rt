@@ -1,7 +1,7 @@
 //! The condition variables by which threads wait for the answers to their commands.
 
 use crate::checks::{assert_same, assert_true};
-use hub_status::Waker;
+use hub_waits::Waker;
 use std::process::Abort;
 use std::sync::atomic::{AtomicU64, Ordering};
 use std::sync::{Condvar, Wait};

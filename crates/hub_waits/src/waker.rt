@@ -1,10 +1,14 @@
 //! Waking the threads whose commands are answered.
 
-use crate::condvars::{CONDVARS, Condvars};
+use std::array;
 use std::mem::replace;
 use std::sync::atomic::{AtomicBool, Ordering};
 use std::sync::{Condvar, Mutex, Wait};
 use std::time::Duration;
+
+/// The number of condition variables. The commands of 64 sessions that are 8 ahead each have one
+/// each, so that a thread is woken for its own answer alone.
+const CONDVARS: usize = 512;
 
 /// The bits of a word.
 const BITS: usize = 64;
@@ -14,6 +18,27 @@ const WORDS: usize = CONDVARS / BITS;
 
 /// The longest sleep of the thread that notifies, in milliseconds.
 const LONGEST_SLEEP: u64 = 1000;
+
+/// The condition variables: the command of number n has the one of index n modulo 512.
+#[derive(Drop)]
+struct Condvars {
+    condvars: [Condvar; CONDVARS],
+}
+
+impl Condvars {
+    /// Makes condition variables, none of which was notified yet.
+    fn new() -> Condvars {
+        Condvars {
+            condvars: array::from_fn(|_index| Condvar::new()),
+        }
+    }
+
+    /// The condition variable of the command of a number. Each 512th command after it has the same
+    /// one.
+    fn of(&self, number: u64) -> &Condvar {
+        &self.condvars[(number % CONDVARS as u64) as usize]
+    }
+}
 
 /// The condition variables of commands that were handed in, by their numbers. A thread of its own
 /// notifies several condition variables, so that the thread that answers a whole group does not

@@ -8,7 +8,6 @@
 
 mod changes;
 mod completed;
-mod condvars;
 mod pause;
 mod status;
 mod turns;

@@ -2,9 +2,9 @@
 use Rattle.std.specs.Prelude.{◌≡◌, ℕ, Option, Some, None}
 use Rattle.store_loops.specs.declared.commits.CommitTimes.{CommitTimes}
 use Rattle.store_loops.specs.Commits.{one_more, times_after}
-use Rattle.hub_status.specs.declared.completed.Completed.{Completed}
-use Rattle.hub_status.specs.declared.completed.Done.{Done}
-use Rattle.hub_status.specs.declared.completed.Done.TheVariants.{Group, Seal, Checkpoint}
+use Rattle.hub_waits.specs.declared.completed.Completed.{Completed}
+use Rattle.hub_waits.specs.declared.completed.Done.{Done}
+use Rattle.hub_waits.specs.declared.completed.Done.TheVariants.{Group, Seal, Checkpoint}
 
 -- The times of commits after one more, whose time may be unknown.
 abbrev pub timed : Option ℕ → CommitTimes → CommitTimes

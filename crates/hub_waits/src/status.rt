@@ -2,9 +2,9 @@
 
 ghost use Rattle.std.specs.Prelude.{◌≡◌, None, Some, MatchOption};
 ghost use Rattle.std.specs.Duration.{as_nanos};
-ghost use Rattle.hub_status.specs.Completed.{HasCounted};
-ghost use Rattle.hub_status.specs.Moments.{microseconds_of};
-ghost use Rattle.hub_status.specs.Numbers.{AreNumbers};
+ghost use Rattle.hub_waits.specs.Completed.{HasCounted};
+ghost use Rattle.hub_waits.specs.Moments.{microseconds_of};
+ghost use Rattle.hub_waits.specs.Numbers.{AreNumbers};
 
 use crate::completed::{Completed, Done};
 use group_core::Numbers;

@@ -1,8 +1,8 @@
 //! How much both actors have completed.
 
 ghost use Rattle.std.specs.Prelude.{◌≡◌, nat_lt, if◌then◌else◌};
-ghost use Rattle.hub_status.specs.declared.completed.Done.TheVariants.{Nothing, Group, Seal};
-ghost use Rattle.hub_status.specs.Completed.{completed_after};
+ghost use Rattle.hub_waits.specs.declared.completed.Done.TheVariants.{Nothing, Group, Seal};
+ghost use Rattle.hub_waits.specs.Completed.{completed_after};
 
 use store_loops::CommitTimes;
 
