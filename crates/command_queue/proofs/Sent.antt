@@ -1,5 +1,5 @@
--- What goes from one thread to another: a claim, a sender, what begins senders and takes them in,
--- what was submitted, and a queue of what may go there.
+-- What goes from one thread to another: a claim, what begins senders and what takes them in, what
+-- was submitted, and a queue of what may go there.
 use denote.RattleType.{RattleType}
 use denote.Builtin.{u64}
 use denote.Param.Send.{IsSend, IsSync, sendable, recorded_send, struct_send, struct_sync}
@@ -38,7 +38,7 @@ module _ (N : RattleType) (g : Ghosts N.Denot) (n : IsSend N) where
   numbered_send = search (sendable, crosses, seat.the_send) depth 30 fits 20000
 
   pub ended_send : IsSend (EndedSenders.the_row N g)
-  ended_send = search (sendable, crosses, seat.the_send) depth 30 fits 20000
+  ended_send = search (sendable, crosses, seat.the_send, shared.the_send, shared.the_sync, lease.the_send, lease.the_sync) depth 60 fits 20000
 
   pub submitted_send : IsSend (Submitted.the_row N g)
   submitted_send = search (sendable, crosses, seat.the_send, shared.the_send, shared.the_sync, lease.the_send, lease.the_sync) depth 60 fits 20000

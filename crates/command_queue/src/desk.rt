@@ -23,11 +23,13 @@ use std::sync::Arc;
 pub(crate) struct NewDesk {
     pub(crate) table: Arc<QueueTable, Global>,
     pub(crate) of_senders: Arc<QueueTable, Global>,
+    pub(crate) of_ended: Arc<QueueTable, Global>,
     pub(crate) of_submitted: Arc<QueueTable, Global>,
     pub(crate) keeper: QueuePass,
     pub(crate) submitter: QueuePass,
     ghost one_word: { (arc_value table).shared.table_id.words ≡ 1 },
     ghost senders_same: { (arc_value of_senders).shared.table_id ≡ (arc_value table).shared.table_id },
+    ghost ended_same: { (arc_value of_ended).shared.table_id ≡ (arc_value table).shared.table_id },
     ghost submitted_same: { (arc_value of_submitted).shared.table_id ≡ (arc_value table).shared.table_id },
     ghost keeper_of: { keeper.table_id ≡ (arc_value table).shared.table_id },
     ghost keeper_is: { keeper.me ≡ (keeper_view [] 0, []) },
@@ -41,11 +43,13 @@ impl NewDesk {
         let (table, mut keeper) = QueueTable::of_words(alloc, &[0], &())?;
         let table = Arc::new(alloc, table)?;
         let of_senders = Arc::try_clone(&table)?;
+        let of_ended = Arc::try_clone(&table)?;
         let of_submitted = Arc::try_clone(&table)?;
         let submitter = steps::begin(&table, &mut keeper);
         Ok(NewDesk {
             table,
             of_senders,
+            of_ended,
             of_submitted,
             keeper,
             submitter,

@@ -32,5 +32,5 @@ pub use ghosts::rule::{QueuePass, QueueRule, QueueTable, QueueView, SenderList, 
 pub use history::{History, NewHistory, QueueName};
 pub use not_queued::{MOST_WAITING, NotQueued};
 pub use queue::{CommandQueue, HandedIn, NewQueue};
-pub use sender::{EndedSenders, Sender, Senders};
+pub use sender::{EndedSender, EndedSenders, Sender, Senders};
 pub use submitted::{Numbered, Submitted};

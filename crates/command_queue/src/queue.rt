@@ -58,6 +58,8 @@ pub struct NewQueue<J: QueueName, T> {
     pub queue: CommandQueue<J, T>,
     /// What begins its senders.
     pub senders: Senders<J>,
+    /// What takes them in as they end.
+    pub ended: EndedSenders<J>,
     /// What notes which of its commands were submitted.
     pub submitted: Submitted<J>,
 }
@@ -65,8 +67,8 @@ pub struct NewQueue<J: QueueName, T> {
 impl<J: QueueName, T: Drop> CommandQueue<J, T> {
     ghost use Rattle.path_db.specs.declared.command.Command.{Command};
 
-    /// A queue in which no command waits, what begins its senders, and what notes which commands
-    /// were submitted.
+    /// A queue in which no command waits, what begins its senders and takes them in as they end,
+    /// and what notes which commands were submitted.
     pub fn new(alloc: Global, history: NewHistory) -> NewQueue<J, T>
         requires history { history.seen.book ≡ J.history }
         requires senders { history.desk.keeper.table_id ≡ J.senders }
@@ -74,11 +76,13 @@ impl<J: QueueName, T: Drop> CommandQueue<J, T> {
         ensures queue { (result.queue.numbers.next ≡ 0) × (result.queue.waiting.items ≡ []) × (result.queue.is_closed ≡ false) }
         ensures history { result.queue.numbers.desk ≡ [] }
         ensures submitted { result.submitted ≡ record { next = 0; commands = [] } }
+        ensures ended { result.ended ≡ [] }
     {
         let NewHistory { head, seen, desk } = history;
         let NewDesk {
             table,
             of_senders,
+            of_ended,
             of_submitted,
             keeper,
             submitter,
@@ -92,6 +96,7 @@ impl<J: QueueName, T: Drop> CommandQueue<J, T> {
         NewQueue {
             queue,
             senders: Senders::new(of_senders),
+            ended: EndedSenders::none(of_ended),
             submitted: Submitted::nothing(submitter, of_submitted),
         }
     }

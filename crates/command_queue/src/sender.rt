@@ -34,16 +34,33 @@ impl<J: QueueName> Model for Sender<J> {
     ghost invariant = { λ s. (s.pass.table_id ≡ J.senders) × (s.pass.me.1 ≡ []) × IsSender s.pass.me.0 };
 }
 
+impl<J: QueueName> Sender<J> {
+    /// Ends the sender: by what is left of it, nothing is handed in.
+    pub fn end(self) -> EndedSender<J>
+        ensures { result.sender ≡ self }
+    {
+        EndedSender { sender: self }
+    }
+}
+
+/// A sender that has ended.
+#[derive(Drop)]
+pub struct EndedSender<J: QueueName> {
+    sender: Sender<J>,
+}
+
 /// What senders that have ended had handed in: for each that has handed something in, its number
-/// and its commands, in their order. It has no bytes.
+/// and its commands, in their order. Each queue has one, which begins no sender.
 #[derive(Drop)]
 pub struct EndedSenders<J: QueueName> {
-    pub(crate) pass: QueuePass,
+    table: Arc<QueueTable, Global>,
+    pass: QueuePass,
     of: PhantomData<J>,
 }
 
 impl<J: QueueName> Model for EndedSenders<J> {
     ghost use Rattle.std.specs.Prelude.{◌≡◌, [], List};
+    ghost use Rattle.std.specs.Arc.{arc_value};
     ghost use Rattle.command_queue.specs.declared.ghosts.rule.SenderList.{SenderList};
     ghost use Rattle.command_queue.specs.Passes.{IsLists};
 
@@ -51,21 +68,46 @@ impl<J: QueueName> Model for EndedSenders<J> {
 
     ghost view = { λ e. e.pass.me.0.lists };
 
-    ghost invariant = { λ e. (e.pass.table_id ≡ J.senders) × (e.pass.me.1 ≡ []) × IsLists e.pass.me.0 };
+    ghost invariant = { λ e. ((arc_value e.table).shared.table_id.words ≡ 1) × ((arc_value e.table).shared.table_id ≡ J.senders) × (e.pass.table_id ≡ J.senders) × (e.pass.me.1 ≡ []) × IsLists e.pass.me.0 };
 }
 
 impl<J: QueueName> EndedSenders<J> {
+    /// No sender has ended yet.
+    pub(crate) fn none(table: Arc<QueueTable, Global>) -> EndedSenders<J>
+        requires { ((arc_value table).shared.table_id.words ≡ 1) × ((arc_value table).shared.table_id ≡ J.senders) }
+        ensures { result ≡ [] }
+    {
+        EndedSenders {
+            pass: steps::issue(&table),
+            table,
+            of: PhantomData,
+        }
+    }
+
+    /// Takes in a sender that has ended.
+    pub fn take_in(&mut self, ended: EndedSender<J>)
+        ensures { Keeps ended.sender self.old self.new }
+    {
+        let EndedSender { sender } = ended;
+        let Sender { pass, of: _ } = sender;
+        steps::gather(&self.table, &mut self.pass, pass);
+    }
+
     /// The pass alone.
     pub(crate) fn into_pass(self) -> QueuePass
         ensures lists { result.me.0.lists ≡ self }
         ensures pass { (result.table_id ≡ J.senders) × (result.me.1 ≡ []) × IsLists result.me.0 }
     {
-        let EndedSenders { pass, of: _ } = self;
+        let EndedSenders {
+            table: _table,
+            pass,
+            of: _,
+        } = self;
         pass
     }
 }
 
-/// Begins the senders of the queue of this name, and takes them in as they end. Each queue has one.
+/// Begins the senders of the queue of this name: nothing else does. Each queue has one.
 #[derive(Drop)]
 pub struct Senders<J: QueueName> {
     table: Arc<QueueTable, Global>,
@@ -93,23 +135,5 @@ impl<J: QueueName> Senders<J> {
             pass: steps::issue(&self.table),
             of: PhantomData,
         }
-    }
-
-    /// No sender has ended yet.
-    pub fn none_ended(&self) -> EndedSenders<J>
-        ensures { result ≡ [] }
-    {
-        EndedSenders {
-            pass: steps::issue(&self.table),
-            of: PhantomData,
-        }
-    }
-
-    /// Takes in a sender that has ended.
-    pub fn end(&self, ended: &mut EndedSenders<J>, sender: Sender<J>)
-        ensures { Keeps sender ended.old ended.new }
-    {
-        let Sender { pass, of: _ } = sender;
-        steps::gather(&self.table, &mut ended.pass, pass);
     }
 }

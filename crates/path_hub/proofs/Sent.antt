@@ -55,6 +55,7 @@ use Rattle.ckpt_stream.specs.contracts.preparation.Preparation as Preparation
 use Rattle.group_core.specs.declared.showcase.Showcase as show
 use Rattle.group_core.specs.contracts.state.State as State
 use Rattle.path_hub.specs.contracts.hub.Hub as Hub
+use Rattle.path_hub.specs.contracts.workload.OpenHub as OpenHub
 
 -- what puts claims together
 collector_sync : (N : RattleType) (l : named.Ghosts N.Denot) → IsSync N → IsSync (ClaimCollector.the_field N l).row
@@ -170,5 +171,9 @@ status_sync : IsSync (HubStatus.the_field).row
 status_sync = search (sendable, crosses) depth 80 fits 50000
 
 module _ (D N R : RattleType) (b : reader.Ghosts N.Denot) (s : opened.Ghosts N.Denot) (l : named.Ghosts N.Denot) (q : queue.Ghosts N.Denot) (d : device.Ghosts D.Denot) (w : wait.Ghosts R.Denot) (e : IsSend D) (n : IsSend N) (m : IsSync N) (r : IsSend R) (t : IsSync R) where
-  pub hub_sync : IsSync (Hub.the_row D N R d b s l q w)
-  hub_sync = recorded_sync _ _ _ (Hub.the_type D N R d b s l q w).to_one (struct_sync (shape (Hub.the_type D N R d b s l q w)) (t, (search (sendable, crosses), (queue_sync N b s l q n, (search (sendable, crosses), (state_sync D N R b s l q d w e n m r, (search (sendable, crosses) depth 20 fits 5000, (status_sync, (search (sendable, crosses), (readers_sync N b s l n m, (own_reader_sync N b s l n m, (collector_sync N l m, (acknowledged_sync N l n, (looks_sync N b s l n, (ended_sync N q n, (senders_sync N q m, tt))))))))))))))))
+  hub_field_sync : IsSync (Hub.the_field D N R d b s l q w).row
+  hub_field_sync = struct_sync (shape (Hub.the_type D N R d b s l q w)) (t, (search (sendable, crosses), (queue_sync N b s l q n, (search (sendable, crosses), (state_sync D N R b s l q d w e n m r, (search (sendable, crosses) depth 20 fits 5000, (status_sync, (search (sendable, crosses), (readers_sync N b s l n m, (own_reader_sync N b s l n m, (collector_sync N l m, (acknowledged_sync N l n, (looks_sync N b s l n, (ended_sync N q n, tt))))))))))))))
+
+  -- the hub, and what begins its senders
+  pub open_sync : IsSync (OpenHub.the_row D N R d b s l q w)
+  open_sync = recorded_sync _ _ _ (OpenHub.the_type D N R d b s l q w).to_one (struct_sync (shape (OpenHub.the_type D N R d b s l q w)) (hub_field_sync, (senders_sync N q m, tt)))

@@ -11,7 +11,7 @@ ghost use Rattle.hub_waits.specs.Numbers.{AreNumbers};
 use crate::guarded::Locked;
 use crate::handing::submit_error;
 use crate::judging::judge_by;
-use command_queue::{CommandQueue, EndedSenders, NotQueued, Sender, Senders};
+use command_queue::{CommandQueue, EndedSender, EndedSenders, NotQueued, Sender};
 use group_core::{Numbers, SubmitError};
 use hub_claims::{HubClaim, HubError, HubName, Patient, Slot, Waiter};
 use hub_readers::{HubReader, HubReceipt, Look, Looks};
@@ -31,6 +31,9 @@ use store_loops::{Awaited, DeviceCall, Steps};
 /// The lock's value has a `LoggedState`, so what that type says of a state and its log holds
 /// whenever the lock is free: a stop at that moment leaves an image that opens to what the hub
 /// opened with after a front of the log, which has at least all committed commands.
+///
+/// Nothing in a hub begins a sender. So no call of a hub hands a command in, but by the sender that
+/// its caller lends to it, and what such a call notes there is in its contract.
 pub struct Hub<D: Device, N: HubName, R: Wait + Clock> {
     pub(crate) rt: R,
     pub(crate) alloc: Global,
@@ -52,9 +55,6 @@ pub struct Hub<D: Device, N: HubName, R: Wait + Clock> {
     pub(crate) looks: Mutex<Looks<N>>,
     /// What senders that have ended had handed in.
     pub(crate) ended: Mutex<EndedSenders<N>>,
-    /// What begins the senders of the queue. Another crate gets it from its job or its workload
-    /// alone.
-    pub(crate) senders: Senders<N>,
 }
 
 impl<D: Device, N: HubName, R: Wait + Clock> Hub<D, N, R> {
@@ -113,8 +113,8 @@ impl<D: Device, N: HubName, R: Wait + Clock> Hub<D, N, R> {
 
     /// Takes a sender that has ended. When the hub ends, what it handed in is all that was handed
     /// in of it. No clause says that the hub keeps it: what was handed in is under a lock.
-    pub fn keep_sender(&self, sender: Sender<N>) {
-        self.senders.end(&mut self.ended.lock(&self.rt), sender);
+    pub fn keep_sender(&self, sender: EndedSender<N>) {
+        self.ended.lock(&self.rt).take_in(sender);
     }
 
     /// Submits a command of a sender, and waits until it is committed. The receipt shows the

@@ -29,7 +29,7 @@ mod new_name;
 mod pause;
 mod workload;
 
-pub use command_queue::{Sender, Senders};
+pub use command_queue::{EndedSender, Sender, Senders};
 pub use hub::Hub;
 pub use hub_waits::Completed;
 pub use left::HubLeft;

@@ -115,17 +115,17 @@ fn do_with<
     ensures back { IfErr result (λ back. (back.0 ≡ store) × (back.1 ≡ job)) }
     ensures why { IfErr result (λ back. (back.2 ≡ NoMemory) ⊎ (back.2 ≡ NoReader)) }
 {
-    let hub = match Hub::<D, N, R>::open(rt, alloc, name, store, home) {
-        Ok(hub) => hub,
+    let (hub, senders) = match Hub::<D, N, R>::open(rt, alloc, name, store, home) {
+        Ok(made) => made,
         Err((store, refused)) => return Err((store, job, refused)),
     };
-    let out = job.run::<N>(&hub, &hub.senders);
+    let out = job.run::<N>(&hub, &senders);
     let (device, left) = hub.close();
     Ok((out, device, left))
 }
 
 impl<D: Device, N: HubName, R: Wait + Clock> Hub<D, N, R> {
-    /// A hub of this name over a store, or the store again.
+    /// A hub of this name over a store, and what begins its senders, or the store again.
     #[tactic(auto, using(hub_waits::proofs::Numbers::are_of_a_state))]
     pub(crate) fn open(
         rt: R,
@@ -133,7 +133,7 @@ impl<D: Device, N: HubName, R: Wait + Clock> Hub<D, N, R> {
         name: NewName,
         store: Reserved<D>,
         home: u64,
-    ) -> Result<Hub<D, N, R>, (Reserved<D>, HubError)>
+    ) -> Result<(Hub<D, N, R>, Senders<N>), (Reserved<D>, HubError)>
     where
         R: Threads + Copy + Sync,
         requires opening { value_of_store store ≡ N.opening }
@@ -176,10 +176,10 @@ impl<D: Device, N: HubName, R: Wait + Clock> Hub<D, N, R> {
         let NewQueue {
             queue,
             senders,
+            ended,
             submitted,
         } = CommandQueue::new(alloc, history);
-        let ended = senders.none_ended();
-        Ok(Hub {
+        let hub = Hub {
             rt,
             alloc,
             queue: Mutex::new(queue),
@@ -198,8 +198,8 @@ impl<D: Device, N: HubName, R: Wait + Clock> Hub<D, N, R> {
             looks: Mutex::new(looks),
             ended: Mutex::new(ended),
             collector,
-            senders,
-        })
+        };
+        Ok((hub, senders))
     }
 
     /// Ends the hub, which no one else has, and returns its device with the log of all commands
@@ -234,7 +234,6 @@ impl<D: Device, N: HubName, R: Wait + Clock> Hub<D, N, R> {
             acknowledged,
             looks,
             ended,
-            senders: _senders,
         } = self;
         let Locked {
             state,

@@ -41,7 +41,7 @@ pub trait Workload<D: Device, R: Wait + Clock> {
     fn next<N: HubName>(&self, hub: &Hub<D, N, R>) -> Option<Self::Task>;
 
     /// Attends to a task, in a thread of its own. Nothing else of a workload can hand in commands,
-    /// since it has nothing that begins a sender.
+    /// nor can the hub by itself, since this call alone gets what begins a sender.
     fn attend<N: HubName>(&self, hub: &Hub<D, N, R>, senders: &Senders<N>, task: Self::Task);
 
     /// Notes that no thread was given for this task, so that nobody attends to it.
@@ -133,6 +133,12 @@ pub fn with_workload<
     named_workload::<Brand, D, C, R>(rt, alloc, name, store, home, workload)
 }
 
+/// An open hub, and what begins the senders of its queue.
+struct OpenHub<D: Device, N: HubName, R: Wait + Clock> {
+    hub: Hub<D, N, R>,
+    senders: Senders<N>,
+}
+
 /// `with_workload` for one brand `N`, which ties readers and claims to this hub.
 fn named_workload<
     N: HubName + Send + Sync,
@@ -169,11 +175,15 @@ fn named_workload<
     ensures made { OnOk result.2 (IsSome result.1) }
     ensures why { IfErr result.2 (λ e. (e ≡ NoMemory) ⊎ (e ≡ NoReader)) }
 {
-    let hub = match Hub::<D, N, R>::open(rt, alloc, name, store, home) {
-        Ok(hub) => hub,
+    let open = match Hub::<D, N, R>::open(rt, alloc, name, store, home) {
+        Ok((hub, senders)) => OpenHub { hub, senders },
         Err((store, refused)) => return (store.end(), None, Err(refused)),
     };
-    let attended = run_with_waker(&rt, &hub, workload);
+    let attended = run_with_waker(&rt, &open, workload);
+    let OpenHub {
+        hub,
+        senders: _senders,
+    } = open;
     let (device, left) = hub.close();
     (device, Some(left), attended)
 }
@@ -185,7 +195,7 @@ fn run_with_waker<
     D: Device + Send,
     C: Workload<D, R> + Sync,
     R: Wait + Clock + Threads + Drop + Send + Sync,
->(rt: &R, hub: &Hub<D, N, R>, workload: &C) -> Result<u64, HubError>
+>(rt: &R, open: &OpenHub<D, N, R>, workload: &C) -> Result<u64, HubError>
     ensures { IfErr result (λ e. e ≡ NoMemory) }
 {
     thread::scope(
@@ -194,11 +204,11 @@ fn run_with_waker<
         |waker| -> Result<u64, HubError>
             ensures { IfErr result (λ e. e ≡ NoMemory) }
         {
-            if waker.spawn(move || run_waker(rt, hub)).is_err() {
+            if waker.spawn(move || run_waker(open)).is_err() {
                 return Err(HubError::NoMemory);
             }
-            let attended = run_with_checkpointer(rt, hub, workload);
-            hub.stop();
+            let attended = run_with_checkpointer(open.hub.handle(), open, workload);
+            open.hub.stop();
             attended
         },
     )
@@ -211,7 +221,7 @@ fn run_with_checkpointer<
     D: Device + Send,
     C: Workload<D, R> + Sync,
     R: Wait + Clock + Threads + Drop + Send + Sync,
->(rt: &R, hub: &Hub<D, N, R>, workload: &C) -> Result<u64, HubError>
+>(rt: &R, open: &OpenHub<D, N, R>, workload: &C) -> Result<u64, HubError>
     ensures { IfErr result (λ e. e ≡ NoMemory) }
 {
     thread::scope(
@@ -221,14 +231,14 @@ fn run_with_checkpointer<
             ensures { IfErr result (λ e. e ≡ NoMemory) }
         {
             if checkpointer
-                .spawn(move || run_checkpointer(hub, workload))
+                .spawn(move || run_checkpointer(open, workload))
                 .is_err()
             {
                 return Err(HubError::NoMemory);
             }
-            hub.expect_threads();
-            let attended = run_with_flusher(hub.handle(), hub, workload);
-            hub.stop();
+            open.hub.expect_threads();
+            let attended = run_with_flusher(open.hub.handle(), open, workload);
+            open.hub.stop();
             attended
         },
     )
@@ -240,7 +250,7 @@ fn run_with_flusher<
     D: Device + Send,
     C: Workload<D, R> + Sync,
     R: Wait + Clock + Threads + Drop + Send + Sync,
->(rt: &R, hub: &Hub<D, N, R>, workload: &C) -> Result<u64, HubError>
+>(rt: &R, open: &OpenHub<D, N, R>, workload: &C) -> Result<u64, HubError>
     ensures { IfErr result (λ e. e ≡ NoMemory) }
 {
     thread::scope(
@@ -249,11 +259,11 @@ fn run_with_flusher<
         |flusher| -> Result<u64, HubError>
             ensures { IfErr result (λ e. e ≡ NoMemory) }
         {
-            if flusher.spawn(move || run_flusher(hub, workload)).is_err() {
+            if flusher.spawn(move || run_flusher(open, workload)).is_err() {
                 return Err(HubError::NoMemory);
             }
-            let attended = attend_all(hub.handle(), hub, workload);
-            hub.stop();
+            let attended = attend_all(open.hub.handle(), open, workload);
+            open.hub.stop();
             Ok(attended)
         },
     )
@@ -261,22 +271,24 @@ fn run_with_flusher<
 
 /// Runs the checkpointer until the state stops.
 fn run_checkpointer<N: HubName, D: Device, C: Workload<D, R>, R: Wait + Clock>(
-    hub: &Hub<D, N, R>,
+    open: &OpenHub<D, N, R>,
     workload: &C,
 ) {
+    let hub = &open.hub;
     checkpointer_loop(hub.handle(), hub, &Watching { hub, workload });
 }
 
 /// Wakes the threads whose commands are answered, until the state stops.
-fn run_waker<N: HubName, D: Device, R: Wait + Clock>(rt: &R, hub: &Hub<D, N, R>) {
-    hub.changes.waker.run(rt);
+fn run_waker<N: HubName, D: Device, R: Wait + Clock>(open: &OpenHub<D, N, R>) {
+    open.hub.changes.waker.run(open.hub.handle());
 }
 
 /// Runs the flusher until the state stops, and reports to the workload why it did.
 fn run_flusher<N: HubName, D: Device, C: Workload<D, R>, R: Wait + Clock>(
-    hub: &Hub<D, N, R>,
+    open: &OpenHub<D, N, R>,
     workload: &C,
 ) {
+    let hub = &open.hub;
     flusher_loop(hub.handle(), hub, &Watching { hub, workload });
     if hub.has_stranger() {
         workload.met_stranger();
@@ -291,17 +303,17 @@ fn attend_all<
     D: Device + Send,
     C: Workload<D, R> + Sync,
     R: Wait + Clock + Threads + Drop + Send + Sync,
->(rt: &R, hub: &Hub<D, N, R>, workload: &C) -> u64 {
+>(rt: &R, open: &OpenHub<D, N, R>, workload: &C) -> u64 {
     thread::scope(thread::scope_env(), rt, |tasks| {
         let mut attended = 0u64;
         for _ in 0..u64::MAX {
-            let Some(task) = workload.next::<N>(hub) else {
+            let Some(task) = workload.next::<N>(&open.hub) else {
                 break;
             };
-            if tasks.spawn(move || attend(hub, workload, task)).is_ok() {
+            if tasks.spawn(move || attend(open, workload, task)).is_ok() {
                 attended = attended.saturating_add(1);
             } else {
-                workload.miss::<N>(hub, task);
+                workload.miss::<N>(&open.hub, task);
             }
         }
         attended
@@ -309,9 +321,9 @@ fn attend_all<
 }
 
 fn attend<N: HubName, D: Device, C: Workload<D, R>, R: Wait + Clock>(
-    hub: &Hub<D, N, R>,
+    open: &OpenHub<D, N, R>,
     workload: &C,
     task: C::Task,
 ) {
-    workload.attend::<N>(hub, &hub.senders, task)
+    workload.attend::<N>(&open.hub, &open.senders, task)
 }

@@ -149,7 +149,7 @@ impl<'a, D: Device, N: HubName, R: Wait + Clock, C: Now, S: Now> Purger<'a, D, N
             anchor: _,
             sender,
         } = self;
-        hub.keep_sender(sender);
+        hub.keep_sender(sender.end());
     }
 
     /// Hands in a purge of the trusted moment less the grace, or of this one where that is before

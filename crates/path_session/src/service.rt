@@ -139,7 +139,7 @@ impl<'a, D: Device, N: HubName, R: Wait + Clock, V: Verifier, C: Now, P: Waiter>
             acknowledged,
             sender,
         } = self;
-        hub.keep_sender(sender);
+        hub.keep_sender(sender.end());
         let look = reader.last_look();
         (reader, acknowledged, look)
     }

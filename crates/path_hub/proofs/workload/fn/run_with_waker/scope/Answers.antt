@@ -1,8 +1,8 @@
 use denote.Param.Send.{sendable}
 use Rattle.std.proofs.Crossing.{crosses}
-use Rattle.path_hub.proofs.Sent.{hub_sync}
+use Rattle.path_hub.proofs.Sent.{open_sync}
 use Rattle.path_hub.proofs.workload.fn.run_with_waker.scope.Goals as goal
 
 -- each thread has the hub and the workload
 pub spawn-requires-send-F : goal.spawn-requires-send-F
-spawn-requires-send-F g c κs within = search (sendable, crosses, hub_sync) depth 20 fits 5000
+spawn-requires-send-F g c κs within = search (sendable, crosses, open_sync) depth 20 fits 5000
