@@ -11,6 +11,7 @@
 //! of a front of the commands that the showcase was given.
 #![tactic(auto)]
 
+mod entry;
 mod error;
 mod ghosts;
 mod look;

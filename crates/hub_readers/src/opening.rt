@@ -1,6 +1,6 @@
 //! Making the showcase of a hub and its readers.
 
-ghost use Rattle.std.specs.Prelude.{◌≡◌, [], IfOk, drop, length};
+ghost use Rattle.std.specs.Prelude.{◌≡◌, [], true, IfOk, drop, length};
 ghost use Rattle.left_right.specs.Sides.{view};
 ghost use Rattle.log_history.specs.Entries.{new_log};
 ghost use Rattle.hub_readers.specs.Shown.{IsShownAfter};
@@ -35,6 +35,7 @@ pub fn open_readers<N: ReaderName, R: Wait + Threads + Drop + Sync>(
 ) -> Result<(HubShow<N, R>, Vec<HubReader<N>>), ReaderError>
     requires opening { record { db = db.now; place = place } ≡ N.opening }
     requires history { history ≡ new_log N.shown }
+    requires shut { N.shut ≡ true }
     ensures value { IfOk result (λ made. made.0.value ≡ N.opening) }
     ensures owed { IfOk result (λ made. made.0.owed ≡ []) }
     ensures groups { IfOk result (λ made. made.0.groups ≡ []) }
@@ -78,7 +79,8 @@ fn new_readers<N: ReaderName>(
     past: &PastLog,
     writer: &HubWriter<N>,
 ) -> Result<Vec<HubReader<N>>, ReaderError>
-    requires { past.now ≡ new_log N.shown }
+    requires past { past.now ≡ new_log N.shown }
+    requires shut { N.shut ≡ true }
     ensures { IfOk result (λ readers. length readers.items ≡ SEATS) }
 {
     let mut readers = Vec::with_capacity(alloc, SEATS)?;

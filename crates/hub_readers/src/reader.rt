@@ -1,6 +1,6 @@
 //! Readers that wait for nobody.
 
-ghost use Rattle.std.specs.Prelude.{◌≡◌, ◌⊎◌, ◌≤◌, ◌<◌, None, length, max, IfOk, IfErr, IfSome, OnOk, OnErr};
+ghost use Rattle.std.specs.Prelude.{◌≡◌, ◌⊎◌, ◌≤◌, ◌<◌, true, None, length, max, IfOk, IfErr, IfSome, OnOk, OnErr};
 ghost use Rattle.std.specs.List.{AllByRecursion};
 ghost use Rattle.std.specs.Option.{option_copied};
 ghost use mathlib.Core.List.{IsPrefix};
@@ -13,28 +13,24 @@ ghost use Rattle.hub_readers.specs.Sight.{answer_shown, shown_within, page_shown
 ghost use Rattle.hub_readers.specs.Learnt.{learnt};
 ghost use Rattle.hub_readers.specs.Shown.{shown_log};
 
+use crate::entry::{Entry, HubSeat};
 use crate::error::ReaderError;
 use crate::ghosts::name::ReaderName;
-use crate::ghosts::rule::{ReaderRule, SeenGroups, SeesAll};
 use crate::look::Look;
 use crate::note::{HubNote, HubReceipt};
-use crate::published::Published;
 use core::mem::replace_with;
-use left_right::reader::Reader;
 use log_history::PastLog;
 use seg_core::Segment;
 use seg_lookup::{ANSWER_LIMIT, Page, Query, first_after};
 use std::alloc::AllocError;
 use std::marker::Model;
 
-/// A reader's seat at what a hub publishes.
-pub(crate) type HubSeat<N> = Reader<Published, SeenGroups, ReaderRule<N>>;
-
 /// A reader of the hub of this name. Contracts see the groups after which it has looked last, and
 /// the greatest place that a lookup or a receipt has shown it.
 #[derive(Drop)]
 pub struct HubReader<N: ReaderName> {
     seat: HubSeat<N>,
+    entry: Entry<N>,
     seen: u64,
     /// The past log of what it has looked at last.
     past: PastLog,
@@ -57,12 +53,14 @@ impl<N: ReaderName> Model for HubReader<N> {
 impl<N: ReaderName> HubReader<N> {
     /// A reader at this seat, which has been shown nothing.
     pub(crate) fn over(seat: HubSeat<N>, past: PastLog) -> HubReader<N>
-        requires { past ≡ shown_log N.shown (all_of (view seat.place).groups) }
+        requires past { past ≡ shown_log N.shown (all_of (view seat.place).groups) }
+        requires shut { N.shut ≡ true }
         ensures groups { result.groups ≡ (view seat.place).groups }
         ensures seen { result.seen ≡ 0 }
     {
         HubReader {
             seat,
+            entry: Entry::new(),
             seen: 0,
             past,
         }
@@ -84,13 +82,13 @@ impl<N: ReaderName> HubReader<N> {
         ensures seen { OnOk result (self.new.seen ≡ place_after N.opening self.new.groups) }
 
         // Memory is refused only for an answer that is not empty, after the reader has looked.
-        // NoReader is returned only where the reader cannot look, or where what is published is
-        // older than what the reader has seen. What the reader has seen is then unchanged.
+        // NoReader is returned only where the library let the reader's seat not in, or where what is
+        // published is older than what the reader has seen. That is then unchanged.
         ensures why { IfErr result (λ e. (e ≡ NoMemory) ⊎ (e ≡ NoReader)) }
         ensures memory { IfErr result (λ e. e ≡ NoMemory → 1 ≤ length (answer_shown N.opening self.new.groups query.now now)) }
         ensures looked { IfErr result (λ e. e ≡ NoMemory → self.new.seen ≡ place_after N.opening self.new.groups) }
         ensures kept { IfErr result (λ e. e ≡ NoReader → self.new.seen ≡ self.old.seen) }
-        ensures unshown { IfErr result (λ e. e ≡ NoReader → (self.new.groups ≡ self.old.groups) ⊎ (place_after N.opening self.new.groups < self.old.seen)) }
+        ensures unshown { IfErr result (λ e. e ≡ NoReader → ((N.shut ≡ true) × (self.new.groups ≡ self.old.groups)) ⊎ (place_after N.opening self.new.groups < self.old.seen)) }
         ensures grows { self.old.seen ≤ self.new.seen }
     {
         self.look_for(query, None, now, ANSWER_LIMIT)
@@ -119,14 +117,14 @@ impl<N: ReaderName> HubReader<N> {
         ensures seen { OnOk result (self.new.seen ≡ place_after N.opening self.new.groups) }
 
         // Memory is refused only for a page that is not empty, after the reader has looked.
-        // NoReader is returned only where the reader cannot look, or where what is published is
-        // older than what the reader has seen. What the reader has seen is then unchanged.
+        // NoReader is returned only where the library let the reader's seat not in, or where what is
+        // published is older than what the reader has seen. That is then unchanged.
         ensures why { IfErr result (λ e. (e ≡ NoMemory) ⊎ (e ≡ NoReader)) }
         ensures memory { IfErr result (λ e. e ≡ NoMemory
             → 1 ≤ length (page_shown N.opening self.new.groups query.now (option_copied after.entry) now)) }
         ensures looked { IfErr result (λ e. e ≡ NoMemory → self.new.seen ≡ place_after N.opening self.new.groups) }
         ensures kept { IfErr result (λ e. e ≡ NoReader → self.new.seen ≡ self.old.seen) }
-        ensures unshown { IfErr result (λ e. e ≡ NoReader → (self.new.groups ≡ self.old.groups) ⊎ (place_after N.opening self.new.groups < self.old.seen)) }
+        ensures unshown { IfErr result (λ e. e ≡ NoReader → ((N.shut ≡ true) × (self.new.groups ≡ self.old.groups)) ⊎ (place_after N.opening self.new.groups < self.old.seen)) }
         ensures grows { self.old.seen ≤ self.new.seen }
     {
         match self.look_for(query, after, now, ANSWER_LIMIT + 1) {
@@ -156,10 +154,10 @@ impl<N: ReaderName> HubReader<N> {
             → 1 ≤ length (shown_within limit N.opening self.new.groups query.now (option_copied after.entry) now)) }
         ensures looked { IfErr result (λ e. e ≡ NoMemory → self.new.seen ≡ place_after N.opening self.new.groups) }
         ensures kept { IfErr result (λ e. e ≡ NoReader → self.new.seen ≡ self.old.seen) }
-        ensures unshown { IfErr result (λ e. e ≡ NoReader → (self.new.groups ≡ self.old.groups) ⊎ (place_after N.opening self.new.groups < self.old.seen)) }
+        ensures unshown { IfErr result (λ e. e ≡ NoReader → ((N.shut ≡ true) × (self.new.groups ≡ self.old.groups)) ⊎ (place_after N.opening self.new.groups < self.old.seen)) }
         ensures grows { self.old.seen ≤ self.new.seen }
     {
-        let Some(sight) = look_in(&mut self.seat, query, after, now, limit) else {
+        let Some(sight) = look_in(&self.entry, &mut self.seat, query, after, now, limit) else {
             return Err(ReaderError::NoReader);
         };
         self.past = sight.past;
@@ -210,6 +208,7 @@ struct Found {
 
 /// Looks at what is published, once.
 fn look_in<N: ReaderName>(
+    entry: &Entry<N>,
     seat: &mut HubSeat<N>,
     query: &Query,
     after: Option<&[u8; 32]>,
@@ -225,17 +224,18 @@ fn look_in<N: ReaderName>(
     ensures whole { IfSome result (λ f. IfOk f.found (λ found. AllByRecursion IsSegment found.items)) }
     ensures memory { IfSome result (λ f. OnErr f.found
         (1 ≤ length (shown_within limit N.opening (view seat.new.place).groups query.now (option_copied after.entry) now))) }
-    ensures gone { result ≡ None → (view seat.new.place).groups ≡ (view seat.old.place).groups }
+    ensures gone { result ≡ None → (N.shut ≡ true) × ((view seat.new.place).groups ≡ (view seat.old.place).groups) }
 {
     replace_with(
         seat,
-        (query, after, now, limit),
-        |seat, asked| look(seat, asked.0, asked.1, asked.2, asked.3),
+        (entry, query, after, now, limit),
+        |seat, asked| look(asked.0, seat, asked.1, asked.2, asked.3, asked.4),
     )
 }
 
 /// Looks at what is published from a seat, and returns the seat.
 fn look<N: ReaderName>(
+    entry: &Entry<N>,
     seat: HubSeat<N>,
     query: &Query,
     after: Option<&[u8; 32]>,
@@ -251,9 +251,9 @@ fn look<N: ReaderName>(
     ensures whole { IfSome result.1 (λ f. IfOk f.found (λ found. AllByRecursion IsSegment found.items)) }
     ensures memory { IfSome result.1 (λ f. OnErr f.found
         (1 ≤ length (shown_within limit N.opening (view result.0.place).groups query.now (option_copied after.entry) now))) }
-    ensures gone { result.1 ≡ None → (view result.0.place).groups ≡ (view seat.place).groups }
+    ensures gone { result.1 ≡ None → (N.shut ≡ true) × ((view result.0.place).groups ≡ (view seat.place).groups) }
 {
-    match seat.enter_as::<SeesAll<N>>() {
+    match entry.enter(seat) {
         Ok(reading) => {
             let published = reading.get();
             let found = first_after(published.db(), query, after, now, limit);

@@ -99,6 +99,7 @@ fn do_with<
     requires history { name.history.seen.book ≡ N.history }
     requires senders { name.history.desk.keeper.table_id ≡ N.senders }
     requires shown { name.shown.book ≡ N.shown }
+    requires shut { N.shut ≡ true }
     requires refusals { (command : Command) (why : Option SubmitError) → N.refused command why ≡ true }
     ensures done { IfOk result (λ done. J.does job done.0 done.2.table) }
     ensures left { IfOk result (λ done. IsHonest (D.disk done.1) → EveryImage (D.disk done.1).history.now (OpensToLog N.opening done.2.log)) }
@@ -142,6 +143,7 @@ impl<D: Device, N: HubName, R: Wait + Clock> Hub<D, N, R> {
         requires history { name.history.seen.book ≡ N.history }
         requires senders { name.history.desk.keeper.table_id ≡ N.senders }
         requires shown { name.shown.book ≡ N.shown }
+        requires shut { N.shut ≡ true }
         requires refusals { (command : Command) (why : Option SubmitError) → N.refused command why ≡ true }
         ensures back { IfErr result (λ back. back.0 ≡ store) }
         ensures why { IfErr result (λ back. (back.1 ≡ NoMemory) ⊎ (back.1 ≡ NoReader)) }

@@ -159,6 +159,7 @@ fn named_workload<
     requires history { name.history.seen.book ≡ N.history }
     requires senders { name.history.desk.keeper.table_id ≡ N.senders }
     requires shown { name.shown.book ≡ N.shown }
+    requires shut { N.shut ≡ true }
     requires refusals { (command : Command) (why : Option SubmitError) → N.refused command why ≡ true }
     ensures left { IfSome result.1 (λ left. IsHonest (D.disk result.0) → EveryImage (D.disk result.0).history.now (OpensToLog N.opening left.log)) }
     ensures acknowledged { IfSome result.1 (λ left. IsHonest (D.disk result.0)

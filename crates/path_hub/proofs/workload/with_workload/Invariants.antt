@@ -10,9 +10,9 @@ ghosts-named_workload-N-LogName g a = record { table = a.name.log.table }
 abbrev pub ghosts-named_workload-N-StateName : goal.ghosts-named_workload-N-StateName
 ghosts-named_workload-N-StateName g a = record { opening = value_of_store a.store; start = a.store.disk }
 
--- by the history of what is shown
+-- by the history of what is shown; any seat may be let not in
 abbrev pub ghosts-named_workload-N-ReaderName : goal.ghosts-named_workload-N-ReaderName
-ghosts-named_workload-N-ReaderName g a = record { shown = a.name.shown.book }
+ghosts-named_workload-N-ReaderName g a = record { shown = a.name.shown.book; shut = true }
 
 -- and by the history that its queue begins with, and the table of its senders; any command may be
 -- refused
