@@ -35,6 +35,10 @@ IsOfAsking fault = (fault ≡ Declined) ⊎ (fault ≡ Memory) ⊎ (fault ≡ Ou
 abbrev pub HasStore : Disk → Type 0
 HasStore disk = IsHonest disk → has_title disk ≡ true
 
+-- Why no copy is made on a device: sector 0 was not read, or a store is there.
+abbrev pub IsTaken : Fault → Disk → Type 0
+IsTaken fault disk = (fault ≡ Open opening.Device) ⊎ ((fault ≡ Taken) × HasStore disk)
+
 -- Why the store that is there is kept: sector 0 was not read, or a store is there, and the options
 -- keep it, or a person was to be asked and did not agree.
 abbrev pub KeepsStore : Fault → Wishes → Disk → Type 0

@@ -1,10 +1,11 @@
 //! Asking before a store is lost.
 
-ghost use Rattle.std.specs.Prelude.{◌≡◌, true, codes, OnOk, IfErr};
+ghost use Rattle.std.specs.Prelude.{◌≡◌, false, true, codes, OnOk, IfErr};
 ghost use Rattle.std.specs.Io.KnownBytes.{Consumes};
 ghost use Rattle.sector_dev.specs.Calls.{one_more};
 ghost use Rattle.sector_dev.specs.Disk.{IsHonest};
-ghost use Rattle.cli_store.specs.Asking.{consent_of, IsOfAsking, KeepsStore, MayFormat};
+ghost use Rattle.store_open.specs.Titles.{has_title};
+ghost use Rattle.cli_store.specs.Asking.{consent_of, IsOfAsking, IsTaken, KeepsStore, MayFormat};
 ghost use Rattle.cli_store.specs.Devices.{LeavesDevice};
 
 use crate::error::Fault;
@@ -89,6 +90,25 @@ pub fn ask<D: Device, R: Read, W: Write>(
             Consent::Asked => ask_person(alloc, path, device, reader, writer),
             _ => Err(Fault::Taken),
         },
+        Err(_) => Err(Fault::Open(OpenError::Device)),
+    }
+}
+
+/// Whether a device has no store, so that a copy may be made on it, whatever the options say. The
+/// device is only read. Where sector 0 has the name of a store the error is `Taken`, and where it
+/// cannot be read `Open(OpenError::Device)`.
+pub fn vacant<D: Device>(device: &mut D) -> Result<(), Fault>
+    ensures leaves { LeavesDevice (D.disk device.old) (D.disk device.new) }
+    ensures vacant { OnOk result (IsHonest (D.disk device.old) → has_title (D.disk device.old) ≡ false) }
+    ensures taken { IfErr result (λ fault. IsTaken fault (D.disk device.old)) }
+
+    // The fault of the device is returned only where a call of it failed.
+    ensures fault { IfErr result (λ fault. fault ≡ Fault.Open OpenError.Device
+        → (D.disk device.new).faults ≡ one_more (D.disk device.old).faults) }
+{
+    match has_title(device) {
+        Ok(false) => Ok(()),
+        Ok(true) => Err(Fault::Taken),
         Err(_) => Err(Fault::Open(OpenError::Device)),
     }
 }
