@@ -7,7 +7,7 @@ use cli_once::{SessionFault, once, once_in_hex};
 use cli_words::{HEX, NOW};
 use seg_check::{TrustAll, Verifier};
 use seg_lookup::Roster;
-use session_core::MOST_READS;
+use session_core::{MOST_READS, Replies};
 use std::alloc::Global;
 use std::io::{BufWriter, Read, Write};
 
@@ -37,13 +37,14 @@ fn answer_checked<I: Read, O: Write, V: Verifier>(
     checker: &V,
 ) -> Result<(), SessionFault> {
     let now = options.get_one::<u64>(NOW).unwrap_or(0);
-    if options.get_flag(HEX) {
-        once_in_hex(alloc, input, output, cores, checker, now, MOST_READS)?;
-        return Ok(());
-    }
-    let Ok(mut output) = BufWriter::new(alloc, output) else {
+    let Ok(output) = BufWriter::new(alloc, output) else {
         return Err(SessionFault::Memory);
     };
-    once(alloc, input, &mut output, cores, checker, now, MOST_READS)?;
+    let mut replies = Replies::of(output);
+    if options.get_flag(HEX) {
+        once_in_hex(alloc, input, &mut replies, cores, checker, now, MOST_READS)?;
+    } else {
+        once(alloc, input, &mut replies, cores, checker, now, MOST_READS)?;
+    }
     Ok(())
 }

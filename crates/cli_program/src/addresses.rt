@@ -34,11 +34,10 @@ pub(crate) fn listen<'a, R: Net<Listener = TcpListener, Stream = TcpStream>>(
     let sessions = address_of(LISTEN, words.get_str(LISTEN).unwrap_or(""))?;
     let lookups = optional_address(words, LOOKUPS)?;
     let status = optional_address(words, STATUS_LISTEN)?;
-    Ok(Listeners {
-        sessions: bind(rt, sessions)?,
-        lookups: bind_optional(rt, lookups)?,
-        status: bind_optional(rt, status)?,
-    })
+    let sessions = bind(rt, sessions)?;
+    let lookups = bind_optional(rt, lookups)?;
+    let status = bind_optional(rt, status)?;
+    Ok(Listeners::new(sessions, lookups, status))
 }
 
 /// Listens at an address, if there is one.

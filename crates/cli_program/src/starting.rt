@@ -99,28 +99,24 @@ pub(crate) fn say_addresses<R: Host, D: Device>(
     store: &Store<D>,
     listeners: &Listeners<TcpListener>,
 ) {
-    notices.say(serves_line(alloc, path, store, &listeners.sessions));
-    if let Some(listener) = &listeners.lookups
-        && let Ok(address) = listener.local_addr()
-    {
+    notices.say(serves_line(alloc, path, store, listeners));
+    if let Some(address) = listeners.lookups_at() {
         notices.say(format!(in alloc; "lookups at {address}"));
     }
-    if let Some(listener) = &listeners.status
-        && let Ok(address) = listener.local_addr()
-    {
+    if let Some(address) = listeners.status_at() {
         notices.say(format!(in alloc; "status at {address}"));
     }
 }
 
-/// The line of what is served at a listener.
+/// The line of what is served at the listener for sessions.
 fn serves_line<D: Device>(
     alloc: Global,
     path: &str,
     store: &Store<D>,
-    listener: &TcpListener,
+    listeners: &Listeners<TcpListener>,
 ) -> Result<String, AllocError> {
     let (version, place, rows) = (store.version(), store.place(), store.db().len());
-    match listener.local_addr() {
+    match listeners.sessions_at() {
         Ok(address) => format!(in alloc;
             "serves {path} at {address}: version {version}, place {place}, {rows} rows"
         ),

@@ -12,6 +12,7 @@ use Rattle.session_core.specs.HandedIn.{HandsInFromSource}
 use Rattle.session_core.specs.Reply.{ReplyView}
 use Rattle.session_core.specs.Session.{IsServed, IsSentFor}
 use Rattle.session_core.proofs.AtOnce.{ends_at_once, fails_at_once}
+use Rattle.session_core.proofs.HandedInLemmas.{hands_in_at_once}
 use Rattle.paced_stream.specs.Connection.{IsConnectionServed}
 
 -- ---- before the first read
@@ -27,13 +28,30 @@ module _ {S T : Type 0} {kinds : Kinds} (answers : S → MessageView → ReplyVi
     sent = sent;
   }
 
+  -- and it leaves the connection as it was
+  left_as_it_was : (s : S) (input input_left output output_left : T) (e : FrameError) → input_left ≡ input → output_left ≡ output
+      → IsConnectionServed kinds answers given taken is_at_end s s input input output output (Err e) → IsConnectionServed kinds answers given taken is_at_end s s input input_left output output_left (Err e)
+  left_as_it_was s input input_left output output_left e i o served =
+      subst (λ (u : T). IsConnectionServed kinds answers given taken is_at_end s s input u output output_left (Err e)) (sym i)
+      (subst (λ (u : T). IsConnectionServed kinds answers given taken is_at_end s s input input output u (Err e)) (sym o) served)
+
   -- the connection could not be set up
-  pub not_set_up : (s : S) (input output : T) → IsConnectionServed kinds answers given taken is_at_end s s input input output output (Err error.Read)
-  not_set_up s input output = connected s input output error.Read (fails_at_once answers _ MOST_READS s input (is_at_end input) (Some (taken output))) refl
+  pub not_set_up : (s : S) (input input_left output output_left : T) → input_left ≡ input → output_left ≡ output
+      → IsConnectionServed kinds answers given taken is_at_end s s input input_left output output_left (Err error.Read)
+  not_set_up s input input_left output output_left i o =
+      left_as_it_was s input input_left output output_left error.Read i o (connected s input output error.Read (fails_at_once answers _ MOST_READS s input (is_at_end input) (Some (taken output))) refl)
 
   -- there is no memory for the buffer
-  pub without_buffer : (s : S) (input output : T) → IsConnectionServed kinds answers given taken is_at_end s s input input output output (Err error.NoMemory)
-  without_buffer s input output = connected s input output error.NoMemory (ends_at_once answers _ MOST_READS s input (is_at_end input) (Some (taken output)) error.NoMemory refl) refl
+  pub without_buffer : (s : S) (input input_left output output_left : T) → input_left ≡ input → output_left ≡ output
+      → IsConnectionServed kinds answers given taken is_at_end s s input input_left output output_left (Err error.NoMemory)
+  without_buffer s input input_left output output_left i o =
+      left_as_it_was s input input_left output output_left error.NoMemory i o (connected s input output error.NoMemory (ends_at_once answers _ MOST_READS s input (is_at_end input) (Some (taken output)) error.NoMemory refl) refl)
+
+-- nothing was handed in from a connection that is left as it was
+pub hands_in_nothing : {X T : Type 0} (kinds : Kinds) (hands_in : X → MessageView → X → Type 0) (gives : T → List ℕ → T → Type 0) (input input_left : T) (x : X)
+    → input_left ≡ input → HandsInFromSource kinds hands_in gives MOST_READS input input_left x x
+hands_in_nothing kinds hands_in gives input input_left x i =
+    subst (λ (u : _). HandsInFromSource kinds hands_in gives MOST_READS input u x x) (sym i) (hands_in_at_once hands_in gives MOST_READS input x)
 
 -- ---- a whole session
 

@@ -7,8 +7,9 @@ ghost use Rattle.paced_stream.specs.Connection.{IsConnectionServed};
 
 use crate::buffered::{BUFFER, Buffered};
 use crate::paced::Paced;
+use crate::sealed::{Closed, Sealed};
 use crate::stream_calls::StreamCalls;
-use session_core::{FrameError, Kinds, MOST_READS, Service, serve};
+use session_core::{FrameError, Kinds, MOST_READS, Service, serve_over};
 use std::alloc::Global;
 use std::io;
 use std::time::{Clock, Duration};
@@ -21,9 +22,9 @@ pub struct Ended<T> {
     /// Whether a read or a write failed because its time was over.
     pub is_late: bool,
     /// The connection for reads.
-    pub input: T,
+    pub input: Closed<T>,
     /// The connection for writes.
-    pub output: T,
+    pub output: Closed<T>,
 }
 
 /// Answers the messages of a connection, which are of these kinds, and returns the number of
@@ -33,13 +34,13 @@ pub struct Ended<T> {
 /// that waits for it, or where what is sent is not taken within it. The time in which messages are
 /// answered is in none of these.
 ///
-/// The connection is given for reads and for writes. The error is `Read` too where it cannot be set
-/// up.
+/// The connection is given for reads and for writes, sealed: nothing is written to it but replies.
+/// The error is `Read` too where it cannot be set up.
 pub fn serve_connection<C: Clock, T: StreamCalls, S: Service>(
     clock: &C,
     alloc: Global,
-    input: T,
-    output: T,
+    input: Sealed<T>,
+    output: Sealed<T>,
     service: &mut S,
     kinds: Kinds,
     idle: Option<Duration>,
@@ -49,31 +50,31 @@ pub fn serve_connection<C: Clock, T: StreamCalls, S: Service>(
     ensures handed_in { HandsInFromSource kinds S.hands_in (λ old bytes new. T.given new ≡ T.given old ++ bytes) MOST_READS input result.input
         (S.sent service.old) (S.sent service.new) }
 {
-    if set_up(&input, &output, idle).is_err() {
+    if set_up(input.stream(), output.stream(), idle).is_err() {
         return Ended {
             replies: Err(FrameError::Read),
             is_late: false,
-            input,
-            output,
+            input: input.close(),
+            output: output.close(),
         };
     }
     let Ok(held) = Vec::with_capacity(alloc, BUFFER) else {
         return Ended {
             replies: Err(FrameError::NoMemory),
             is_late: false,
-            input,
-            output,
+            input: input.close(),
+            output: output.close(),
         };
     };
-    let mut input = Paced::new(clock, input, idle);
-    let mut output = Buffered::new(Paced::new(clock, output, idle), held);
-    let replies = serve(alloc, &mut input, &mut output, service, kinds, MOST_READS);
+    let mut input = Paced::new(clock, input.into_stream(), idle);
+    let buffered = Buffered::new(Paced::new(clock, output.into_stream(), idle), held);
+    let (replies, output) = serve_over(alloc, &mut input, buffered, service, kinds, MOST_READS);
     let output = output.into_paced();
     Ended {
         replies,
         is_late: input.is_late() || output.is_late(),
-        input: input.into_stream(),
-        output: output.into_stream(),
+        input: Closed::of(input.into_stream()),
+        output: Closed::of(output.into_stream()),
     }
 }
 

@@ -27,7 +27,7 @@ pub struct ReadAhead {
 
 /// What came of one read ahead.
 #[derive(Clone, Copy, Debug, PartialEq, Eq)]
-pub enum ReadOn {
+pub(crate) enum ReadOn {
     /// Bytes were read, and are kept.
     Kept,
     /// The peer has ended its side.
@@ -60,7 +60,7 @@ impl ReadAhead {
 
     /// Reads once, and keeps what was read. The read waits for its first byte, so a caller asks
     /// first whether there is input.
-    pub fn read_on(&self, stream: &TcpStream) -> ReadOn {
+    pub(crate) fn read_on(&self, stream: &TcpStream) -> ReadOn {
         let Ok(mut bytes) = self.bytes.try_borrow_mut() else {
             return ReadOn::Full;
         };

@@ -23,7 +23,7 @@ pub struct SystemStream<'a> {
 
 impl<'a> SystemStream<'a> {
     /// A connection by which nothing has been read and written yet, and what is read ahead of it.
-    pub fn new(stream: &'a TcpStream, ahead: &'a ReadAhead) -> SystemStream<'a>
+    pub(crate) fn new(stream: &'a TcpStream, ahead: &'a ReadAhead) -> SystemStream<'a>
         ensures given { result.given.value ≡ [] }
         ensures taken { result.taken.value ≡ [] }
     {

@@ -3,9 +3,10 @@
 use crate::reports::{Report, Reports};
 use crate::server::Server;
 use crate::task::Seat;
+use paced_stream::AcceptedStream;
 use seg_check::Verifier;
 use server_front::{Arrival, Listener, NoSeat, Peer, Role, turn_away};
-use std::net::{SocketAddr, TcpStream};
+use std::net::SocketAddr;
 use std::sync::{Arc, Wait};
 use std::time::Clock;
 
@@ -40,7 +41,7 @@ impl<L: Listener + Drop, V: Verifier, O: Reports> Server<'_, L, V, O> {
         &self,
         rt: &R,
         role: Role,
-        stream: TcpStream,
+        stream: AcceptedStream,
         address: SocketAddr,
     ) -> Option<Seat> {
         let stream = match Arc::new(self.alloc, stream) {

@@ -1,6 +1,6 @@
 //! The session of one peer of a server.
 
-ghost use Rattle.std.specs.Prelude.{◌≡◌, false, [], IfSome, is_some};
+ghost use Rattle.std.specs.Prelude.{◌≡◌, false, [], is_some};
 ghost use Rattle.server_front.specs.Roles.{takes_commands};
 ghost use Rattle.path_server.specs.Attending.{IsHubServed, shares_room};
 
@@ -10,8 +10,10 @@ use crate::reports::{Report, Reports};
 use crate::server::Server;
 use crate::task::Seat;
 use hub_claims::{HubName, Waiter};
-use hub_readers::Look;
-use paced_stream::{Ended, ReadAhead, StreamCalls, SystemStream, serve_connection};
+use hub_readers::{HubReader, Look};
+use paced_stream::{
+    AcceptedStream, Ended, ReadAhead, Sealed, StreamCalls, SystemStream, serve_connection,
+};
 use path_hub::{Hub, LoggedList, Sender};
 use path_session::{HubService, SystemNow};
 use sector_dev::Device;
@@ -19,7 +21,7 @@ use seg_check::Verifier;
 use server_front::{Circumstances, Listener, Role, cause_of, turn_away};
 use session_limits::Limited;
 use status_server::Counted;
-use std::net::{SocketAddr, TcpStream};
+use std::net::SocketAddr;
 use std::sync::Wait;
 use std::sync::atomic::Ordering;
 use std::time::Clock;
@@ -43,47 +45,48 @@ impl<L: Listener + Drop, V: Verifier, O: Reports> Server<'_, L, V, O> {
             seats.leave(rt, number);
             return;
         };
+        let Ok(reader) = hub.reader() else {
+            seats.leave(rt, number);
+            turn_away(&peer.stream);
+            return;
+        };
         let ahead = ReadAhead::new(self.alloc);
-        let input = SystemStream::new(&peer.stream, &ahead);
-        let output = SystemStream::new(&peer.stream, &ahead);
+        let Some((input, output)) = peer.stream.begin(&ahead) else {
+            hub.give_back(reader);
+            seats.leave(rt, number);
+            return;
+        };
         let limits = Limits {
             leave: self.options.leave,
             idle: self.options.idle,
         };
         let waiter = PeerSocket::new(rt, &peer.stream, &ahead, limits);
-        match self.serve(hub, sender, role, waiter, input, output) {
-            Some((ended, claims, look)) => {
-                hub.keep_acknowledged(claims);
-                hub.keep_look(look);
-                seats.leave(rt, number);
-                self.note_end(rt, &peer.stream, peer.address, &ended);
-            }
-            None => {
-                seats.leave(rt, number);
-                turn_away(&peer.stream);
-            }
-        }
+        let (ended, claims, look) = self.serve(hub, reader, sender, role, waiter, input, output);
+        hub.keep_acknowledged(claims);
+        hub.keep_look(look);
+        seats.leave(rt, number);
+        self.note_end(rt, &peer.stream, peer.address, &ended);
     }
 
     /// Serves a peer by a reader of the hub, as its role allows, and returns with the end the
     /// claims of all commands that were acknowledged, and all commands after which the last lookup
-    /// or list was answered. The result is `None` where there is no reader.
+    /// or list was answered.
     fn serve<D: Device, N: HubName, R: Wait + Clock, P: Waiter + Drop, T: StreamCalls + Drop>(
         &self,
         hub: &Hub<D, N, R>,
+        reader: HubReader<N>,
         sender: Sender<N>,
         role: Role,
         peer: P,
-        input: T,
-        output: T,
-    ) -> Option<(Ended<T>, LoggedList<N>, Look<N>)>
-        ensures served { IfSome result (λ served. IsHubServed self.now.options.now.kinds N.opening N.refused T.given T.taken T.is_at_end
+        input: Sealed<T>,
+        output: Sealed<T>,
+    ) -> (Ended<T>, LoggedList<N>, Look<N>)
+        ensures served { IsHubServed self.now.options.now.kinds N.opening N.refused T.given T.taken T.is_at_end
             self.now.options.now.future (shares_room role (is_some self.now.rooms)) (takes_commands role)
             self.now.options.now.cores (V.verifies self.now.verifier.now) (P.has_left peer)
-            input served.0.input output served.0.output served.0.replies served.1 served.2) }
-        ensures nothing { takes_commands role ≡ false → IfSome result (λ served. served.1 ≡ []) }
+            input result.0.input output result.0.output result.0.replies result.1 result.2 }
+        ensures nothing { takes_commands role ≡ false → result.1 ≡ [] }
     {
-        let reader = hub.reader().ok()?;
         let rt = hub.handle();
         let clock = SystemNow::new(rt);
         let cores = &self.options.cores;
@@ -96,7 +99,7 @@ impl<L: Listener + Drop, V: Verifier, O: Reports> Server<'_, L, V, O> {
         let ended = serve_connection(rt, self.alloc, input, output, &mut counted, kinds, idle);
         let (reader, acknowledged, look) = counted.into_service().into_service().into_parts();
         hub.give_back(reader);
-        Some((ended, acknowledged, look))
+        (ended, acknowledged, look)
     }
 
     /// Counts the end of a session, reports it if it ended by a fault and a report is due, and
@@ -104,7 +107,7 @@ impl<L: Listener + Drop, V: Verifier, O: Reports> Server<'_, L, V, O> {
     fn note_end<R: Wait + Clock>(
         &self,
         rt: &R,
-        stream: &TcpStream,
+        stream: &AcceptedStream,
         peer: SocketAddr,
         ended: &Ended<SystemStream>,
     ) {
@@ -131,7 +134,7 @@ impl<L: Listener + Drop, V: Verifier, O: Reports> Server<'_, L, V, O> {
 
     /// Drops what arrives of a connection for a while, unless this is being done for as many
     /// connections as it may be.
-    fn drain<R: Clock>(&self, rt: &R, stream: &TcpStream) {
+    fn drain<R: Clock>(&self, rt: &R, stream: &AcceptedStream) {
         if self.drains.fetch_add(1, Ordering::SeqCst) < MOST_DRAINS {
             end_early(rt, stream);
         }

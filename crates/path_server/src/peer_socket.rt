@@ -3,11 +3,7 @@
 ghost use Rattle.std.specs.Prelude.{◌≡◌, false, None};
 
 use hub_claims::Waiter;
-use libc::net::{POLLERR, POLLHUP, POLLIN, POLLNVAL, POLLRDHUP, poll};
-use libc::types::pollfd;
-use paced_stream::{Deadline, ReadAhead, ReadOn};
-use std::net::TcpStream;
-use std::os::fd::AsRawFd;
+use paced_stream::{AcceptedStream, Deadline, ReadAhead, Side};
 use std::time::{Clock, Duration};
 
 /// How long a session awaits commits for a peer that may have left.
@@ -31,7 +27,7 @@ pub(crate) struct Limits {
 #[derive(Drop)]
 pub(crate) struct PeerSocket<'a, K: Clock> {
     clock: &'a K,
-    stream: &'a TcpStream,
+    stream: &'a AcceptedStream,
     ahead: &'a ReadAhead,
     limits: Limits,
     /// When the peer is taken to have left, unless a command of it is answered before.
@@ -39,24 +35,11 @@ pub(crate) struct PeerSocket<'a, K: Clock> {
     has_left: bool,
 }
 
-/// What the socket of a peer shows.
-#[derive(Clone, Copy, PartialEq, Eq)]
-enum Side {
-    /// The peer may send more.
-    Open,
-    /// The peer has ended its side.
-    Ended,
-    /// The peer has sent more than is read ahead.
-    Full,
-    /// The connection is reset, or ended on both sides.
-    Gone,
-}
-
 impl<'a, K: Clock> PeerSocket<'a, K> {
     /// The peer of a connection, who has not left.
     pub(crate) fn new(
         clock: &'a K,
-        stream: &'a TcpStream,
+        stream: &'a AcceptedStream,
         ahead: &'a ReadAhead,
         limits: Limits,
     ) -> PeerSocket<'a, K>
@@ -75,7 +58,7 @@ impl<'a, K: Clock> PeerSocket<'a, K> {
 
     /// Whether the peer has left, by a look at its socket. No clause can say what a socket shows.
     fn looks_gone(&mut self) -> bool {
-        match side_of(self.stream, self.ahead) {
+        match self.stream.side(self.ahead) {
             Side::Open => false,
             Side::Ended => self.is_late(self.limits.leave),
             Side::Full => self.is_late(self.limits.idle),
@@ -118,38 +101,5 @@ impl<K: Clock> Waiter for PeerSocket<'_, K> {
 
     fn note_answer(&mut self) {
         self.deadline = None;
-    }
-}
-
-/// What the socket of a peer shows now. Where it has input, a piece of it is read ahead. A call of
-/// `poll` that fails shows nothing.
-fn side_of(stream: &TcpStream, ahead: &ReadAhead) -> Side {
-    let mut fds = [pollfd {
-        fd: stream.as_raw_fd(),
-        events: POLLIN | POLLRDHUP,
-        revents: 0,
-    }];
-    if poll(&mut fds, 0) <= 0 {
-        return Side::Open;
-    }
-    let shown = fds[0].revents;
-    if shown & (POLLERR | POLLHUP | POLLNVAL) != 0 {
-        Side::Gone
-    } else if shown & POLLRDHUP != 0 {
-        Side::Ended
-    } else if shown & POLLIN != 0 {
-        side_after(ahead.read_on(stream))
-    } else {
-        Side::Open
-    }
-}
-
-/// What a read ahead shows.
-fn side_after(read: ReadOn) -> Side {
-    match read {
-        ReadOn::Kept => Side::Open,
-        ReadOn::Ended => Side::Ended,
-        ReadOn::Full => Side::Full,
-        ReadOn::Failed => Side::Gone,
     }
 }

@@ -18,8 +18,8 @@ use path_session::SystemNow;
 use sector_dev::Device;
 use seg_check::Verifier;
 use server_front::{
-    Door, Ends, Entrances, LEAST_COMMAND_SEATS, Listener, Listeners, MOST_SESSIONS, Role, Seats,
-    Seldom, StatusListener, Stopwatch, Waiting, shares_of,
+    Door, Ends, LEAST_COMMAND_SEATS, Listener, Listeners, MOST_SESSIONS, Role, Seats, Seldom,
+    StatusListener, Stopwatch, Waiting, shares_of,
 };
 use session_clock::SteadyNow;
 use session_core::MOST_AHEAD;
@@ -111,15 +111,11 @@ impl<'a, L: Listener + Drop, V: Verifier, O: Reports> Server<'a, L, V, O> {
         verifier: &'a V,
         reports: &'a O,
     ) -> Server<'a, L, V, O> {
-        let Listeners {
-            sessions,
-            lookups,
-            status,
-        } = listeners;
-        let (seats, lookup_seats) = shares_of(lookups.is_some(), options.lookup_seats);
+        let (entrances, status) = listeners.into_parts();
+        let (seats, lookup_seats) = shares_of(entrances.has_lookups(), options.lookup_seats);
         Server {
             alloc,
-            door: Door::new(Entrances { sessions, lookups }, options.sessions),
+            door: Door::new(entrances, options.sessions),
             seats: Seats::new(alloc, seats, options.peer_sessions),
             lookup_seats: Seats::new(alloc, lookup_seats, options.peer_sessions),
             rooms: rooms_beside(seats, options.spare),

@@ -16,7 +16,7 @@ pub use service::HubService;
 pub use session_clock::{Now, SystemNow};
 pub use session_core::{
     Ack, Acknowledges, Code, CommandKind, Fed, Form, FrameError, Framer, ListRequest, Listing,
-    MOST_AHEAD, MOST_LENGTH, MOST_PIECE, MOST_REPLY, MOST_SEGMENTS, Message, Outcome, Reply,
-    Service, Source, laws, read_all, serve, serve_in_lines,
+    MOST_AHEAD, MOST_LENGTH, MOST_PIECE, MOST_REPLY, MOST_SEGMENTS, Message, Outcome, Replies,
+    Reply, Service, Source, laws, read_all, serve, serve_in_lines,
 };
 pub use under_way::HubUnderWay;

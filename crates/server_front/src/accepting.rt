@@ -6,6 +6,7 @@ ghost use Rattle.server_front.specs.Accepting.{failure_of, failure_after, next_p
 
 use crate::descriptors::raised;
 use libc::{EAGAIN, EBADF, EINVAL, ENOTSOCK};
+use paced_stream::AcceptedStream;
 use std::io;
 use std::net::{OpenListener, SocketAddr, TcpStream};
 use std::sync::Wait;
@@ -35,13 +36,24 @@ pub enum AcceptFailure {
 
 /// What comes of waiting for a peer.
 #[derive(Drop)]
-pub enum Arrival {
+pub enum Arrival<S> {
     /// A peer has come.
-    Peer(TcpStream, SocketAddr),
+    Peer(S, SocketAddr),
     /// No peers are awaited any more.
     Over,
     /// The listener is broken.
     Broken,
+}
+
+impl Arrival<TcpStream> {
+    /// The same, with the connection sealed.
+    pub(crate) fn sealed(self) -> Arrival<AcceptedStream> {
+        match self {
+            Arrival::Peer(stream, address) => Arrival::Peer(AcceptedStream::of(stream), address),
+            Arrival::Over => Arrival::Over,
+            Arrival::Broken => Arrival::Broken,
+        }
+    }
 }
 
 /// Waits for the next peer of a listener. After each accept `goes_on` is asked whether peers are
@@ -53,7 +65,7 @@ pub(crate) fn next_arrival<
     L: OpenListener<Stream = TcpStream>,
     G: Fn() -> bool + Drop,
     F: Fn(i32, u64) + Drop,
->(rt: &R, listener: &L, goes_on: G, fail: F) -> Arrival
+>(rt: &R, listener: &L, goes_on: G, fail: F) -> Arrival<TcpStream>
     requires goes_on { G.IsAlwaysCallable goes_on }
     requires fail { F.IsAlwaysCallable fail }
 {

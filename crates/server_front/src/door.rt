@@ -7,6 +7,7 @@ use crate::accepting::{Arrival, next_arrival};
 use crate::listeners::Listener;
 use crate::role::Role;
 use crate::two_listeners::{Entrances, next_of_two};
+use paced_stream::AcceptedStream;
 use std::sync::atomic::{AtomicBool, AtomicU64, Ordering};
 use std::sync::{Mutex, Wait};
 use std::time::Clock;
@@ -65,7 +66,7 @@ impl<L: Listener + Drop> Door<L> {
         *entrances = None;
     }
 
-    /// Waits for the next peer, with the role of its session. None is awaited where the door is
+    /// Waits for the next peer, with the role of its session. Its connection is sealed. None is awaited where the door is
     /// closed. After each accept `goes_on` is asked whether peers are still awaited. After an
     /// accept that failed `fail` gets the system's number of its error, or 0 where it has none, and
     /// the pause in milliseconds until the next accept. No clause says which peer comes.
@@ -74,7 +75,7 @@ impl<L: Listener + Drop> Door<L> {
         rt: &R,
         goes_on: G,
         fail: F,
-    ) -> (Role, Arrival)
+    ) -> (Role, Arrival<AcceptedStream>)
         requires goes_on { G.IsAlwaysCallable goes_on }
         requires fail { F.IsAlwaysCallable fail }
     {
@@ -83,12 +84,15 @@ impl<L: Listener + Drop> Door<L> {
             return (Role::All, Arrival::Over);
         };
         let Some(lookups) = lookups else {
-            return (Role::All, next_arrival(rt, sessions, goes_on, fail));
+            return (
+                Role::All,
+                next_arrival(rt, sessions, goes_on, fail).sealed(),
+            );
         };
-        let came = next_of_two(rt, sessions, lookups, self.favoured(), goes_on, fail);
+        let (role, came) = next_of_two(rt, sessions, lookups, self.favoured(), goes_on, fail);
         self.is_lookup_last
-            .store(came.0 == Role::Lookups, Ordering::SeqCst);
-        came
+            .store(role == Role::Lookups, Ordering::SeqCst);
+        (role, came.sealed())
     }
 
     /// The role whose peer comes next, where both listeners have one.

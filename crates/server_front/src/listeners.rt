@@ -1,7 +1,8 @@
 //! The listeners of a server.
 
+use crate::two_listeners::Entrances;
 use std::io;
-use std::net::{OpenListener, TcpListener, TcpStream};
+use std::net::{OpenListener, SocketAddr, TcpListener, TcpStream};
 use std::os::fd::{AsRawFd, OwnedFd};
 use std::time::Duration;
 
@@ -23,35 +24,65 @@ impl Listener for TcpListener {
     }
 }
 
-/// The listeners of a server.
+/// The listeners of a server. Those of sessions are sealed: a `Door` alone accepts by them, and
+/// seals each connection.
 #[derive(Drop)]
 pub struct Listeners<L> {
-    /// The listener for sessions. An accept has to fail soon where no peer comes, as after
-    /// `set_accept_timeout`, if the server may be asked to end: it checks only then whether it was.
-    pub sessions: L,
-    /// The listener for sessions that only look up, if there is one: each of their commands is
-    /// refused. Its accepts, too, have to fail soon where no peer comes.
-    pub lookups: Option<L>,
-    /// The listener for requests of the server's numbers, if they are answered. An accept has to
-    /// fail soon where no peer comes, as after `set_accept_timeout`, since the server checks only
-    /// then whether it is at its end.
-    pub status: Option<L>,
+    entrances: Entrances<L>,
+    status: Option<L>,
 }
 
 impl<L> Listeners<L> {
     ghost use Rattle.std.specs.Prelude.{◌≡◌, None};
 
-    /// A listener for sessions alone.
-    pub fn of_sessions(sessions: L) -> Listeners<L>
-        ensures sessions { result.sessions ≡ sessions }
-        ensures lookups { result.lookups ≡ None }
-        ensures status { result.status ≡ None }
+    /// The listener for sessions, that for sessions that only look up, each of whose commands is
+    /// refused, if there is one, and that for requests of the server's numbers, if they are
+    /// answered. Accepts have to fail soon where no peer comes, as after `set_accept_timeout`: the
+    /// server checks only then whether it is to end.
+    pub fn new(sessions: L, lookups: Option<L>, status: Option<L>) -> Listeners<L>
+        ensures sessions { result.entrances.sessions ≡ sessions }
+        ensures lookups { result.entrances.lookups ≡ lookups }
+        ensures status { result.status ≡ status }
     {
         Listeners {
-            sessions,
-            lookups: None,
-            status: None,
+            entrances: Entrances { sessions, lookups },
+            status,
         }
+    }
+
+    /// A listener for sessions alone.
+    pub fn of_sessions(sessions: L) -> Listeners<L>
+        ensures sessions { result.entrances.sessions ≡ sessions }
+        ensures lookups { result.entrances.lookups ≡ None }
+        ensures status { result.status ≡ None }
+    {
+        Listeners::new(sessions, None, None)
+    }
+
+    /// The listeners of sessions, and the listener for requests of the numbers.
+    pub fn into_parts(self) -> (Entrances<L>, Option<L>)
+        ensures entrances { result.0 ≡ self.entrances }
+        ensures status { result.1 ≡ self.status }
+    {
+        let Listeners { entrances, status } = self;
+        (entrances, status)
+    }
+}
+
+impl Listeners<TcpListener> {
+    /// The address of the listener for sessions.
+    pub fn sessions_at(&self) -> io::Result<SocketAddr> {
+        self.entrances.sessions.local_addr()
+    }
+
+    /// The address of the listener for lookups, if there is one.
+    pub fn lookups_at(&self) -> Option<SocketAddr> {
+        self.entrances.lookups.as_ref()?.local_addr().ok()
+    }
+
+    /// The address of the listener for requests of the numbers, if there is one.
+    pub fn status_at(&self) -> Option<SocketAddr> {
+        self.status.as_ref()?.local_addr().ok()
     }
 }
 

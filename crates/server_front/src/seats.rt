@@ -4,8 +4,9 @@ ghost use Rattle.std.specs.Prelude.{◌≡◌, ◌+◌, ◌≤◌, ◌<◌, ◌-
 ghost use Rattle.server_front.specs.Seating.{count_of, limit_of, refusal_of, has_host, held_by};
 ghost use Rattle.server_front.specs.declared.seats.NoSeat.TheVariants.{AddressFull, NoMemory};
 
+use paced_stream::AcceptedStream;
 use std::alloc::{AllocError, Global};
-use std::net::{Shutdown, SocketAddr, TcpStream};
+use std::net::SocketAddr;
 use std::sync::atomic::{AtomicU64, Ordering};
 use std::sync::{Arc, Mutex, Wait};
 
@@ -47,7 +48,7 @@ fn lookup_share(has_lookups: bool, wanted: u64) -> u64
 /// A connection that was accepted, and the address of its peer.
 #[derive(Drop)]
 pub struct Peer {
-    pub stream: Arc<TcpStream, Global>,
+    pub stream: Arc<AcceptedStream, Global>,
     pub address: SocketAddr,
 }
 
@@ -131,7 +132,7 @@ impl Seats {
         let seats = self.seats.lock(rt);
         for seat in seats.as_slice() {
             if let Some(peer) = seat {
-                let _shut = peer.stream.shutdown(Shutdown::Both);
+                peer.stream.shut();
             }
         }
     }

@@ -8,16 +8,24 @@ use crate::listeners::{ACCEPT, Listener};
 use crate::role::Role;
 use libc::net::{POLLIN, poll};
 use libc::types::pollfd;
+use std::net::TcpStream;
 use std::sync::Wait;
 use std::time::Clock;
 
-/// The listeners of a server's sessions.
+/// The listeners of a server's sessions. No call gives them out.
 #[derive(Drop)]
 pub struct Entrances<L> {
     /// That of the sessions that may have commands.
-    pub sessions: L,
+    pub(crate) sessions: L,
     /// That of the sessions that only look up, if there is one.
-    pub lookups: Option<L>,
+    pub(crate) lookups: Option<L>,
+}
+
+impl<L> Entrances<L> {
+    /// Whether there is a listener for lookups.
+    pub fn has_lookups(&self) -> bool {
+        self.lookups.is_some()
+    }
 }
 
 /// Waits for the next peer of two listeners, as `next_arrival` does of one. Where both have peers,
@@ -27,7 +35,14 @@ pub(crate) fn next_of_two<
     L: Listener,
     G: Fn() -> bool + Drop,
     F: Fn(i32, u64) + Drop,
->(rt: &R, sessions: &L, lookups: &L, mut favoured: Role, goes_on: G, fail: F) -> (Role, Arrival)
+>(
+    rt: &R,
+    sessions: &L,
+    lookups: &L,
+    mut favoured: Role,
+    goes_on: G,
+    fail: F,
+) -> (Role, Arrival<TcpStream>)
     requires goes_on { G.IsAlwaysCallable goes_on }
     requires fail { F.IsAlwaysCallable fail }
 {

@@ -14,3 +14,5 @@ mod InboxLemmas
 mod Behind
 pub mod FramerLemmas
 mod Pieces
+mod ToldLemmas
+mod ToldFrames

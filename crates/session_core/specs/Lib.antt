@@ -11,3 +11,4 @@ pub mod Session
 pub mod Answered
 pub mod Framer
 pub mod Lines
+pub mod Told

@@ -19,21 +19,20 @@ use whole_writes::WriteFailed;
 /// of what a connection gathers.
 const LONG: usize = 4_096;
 
-/// Writes a reply. It is taken by value, so that no acknowledgement is written twice. Where memory
-/// is refused, nothing of the reply is written.
-pub(crate) fn write_reply<W: Sink, A: Acknowledges + Drop>(
+/// Writes a reply. Where memory is refused, nothing of the reply is written.
+pub(crate) fn write_reply<W: Sink, A: Acknowledges>(
     alloc: Global,
     writer: &mut W,
-    reply: Reply<A>,
+    reply: &Reply<A>,
     form: Form,
 ) -> Result<(), FrameError>
-    requires { HasReplySize (reply_view A.says reply) }
-    ensures ok { OnOk result (Appends (W.contents writer.old) (W.contents writer.new) (told_as form (reply_view A.says reply))) }
-    ensures err { IfErr result (FailsToWrite (W.contents writer.old) (W.contents writer.new) (told_as form (reply_view A.says reply))) }
+    requires { HasReplySize (reply_view A.says reply.now) }
+    ensures ok { OnOk result (Appends (W.contents writer.old) (W.contents writer.new) (told_as form (reply_view A.says reply.now))) }
+    ensures err { IfErr result (FailsToWrite (W.contents writer.old) (W.contents writer.new) (told_as form (reply_view A.says reply.now))) }
 {
     match form {
-        Form::Frames => write_frame(alloc, writer, &reply),
-        Form::Lines => write_line(alloc, writer, &reply),
+        Form::Frames => write_frame(alloc, writer, reply),
+        Form::Lines => write_line(alloc, writer, reply),
     }
 }
 

@@ -7,7 +7,6 @@
 #![tactic(auto)]
 
 mod answers;
-mod connection;
 mod counted;
 mod lookup_times;
 mod outcomes;
@@ -18,7 +17,6 @@ mod visit;
 mod visits;
 
 pub use answers::answer;
-pub use connection::part;
 pub use counted::{Counted, CountedCommand};
 pub use replies::Replies;
 pub use reply_kind::ReplyKind;

@@ -6,7 +6,6 @@ ghost use Rattle.status_server.specs.Requests.{IsPieceTaken};
 ghost use Rattle.status_server.specs.VisitSteps.{IfAsks, IsReadOn, IsSentOn, IsWhole};
 ghost use Rattle.status_server.specs.declared.visit.Stage.TheVariants.{Reading, Sending, Parting};
 
-use crate::connection::PIECE;
 use libc::net::{POLLIN, POLLOUT};
 use libc::types::pollfd;
 use paced_stream::Deadline;
@@ -17,6 +16,9 @@ use std::io::{ErrorKind, Read, Write};
 use std::net::{Shutdown, TcpStream};
 use std::os::fd::AsRawFd;
 use std::time::{Clock, Duration};
+
+/// The most bytes of one read of a request.
+const PIECE: usize = 1_024;
 
 /// The most bytes of the head of a request, rounded up to a whole read.
 const MOST_HEAD: usize = 4_096;

@@ -99,7 +99,7 @@ fn a_broken_listener_ends_the_server(rt: HostRuntime) {
 #[test]
 fn the_other_listener_is_asked_after_one_without_peers(rt: HostRuntime) {
     let alloc = rt.alloc();
-    let mut listeners = Listeners::of_sessions(Script::new([11, 11, 11, 11], 9));
-    listeners.lookups = Some(Script::new([11, 11, 11, 11], 11));
+    let lookups = Script::new([11, 11, 11, 11], 11);
+    let listeners = Listeners::new(Script::new([11, 11, 11, 11], 9), Some(lookups), None);
     assert_ends(&rt, alloc, listeners);
 }

@@ -64,11 +64,7 @@ fn was_ready(rt: &impl Abort, served: Result<u64, RunError>, counts: &Counts) ->
 /// were given.
 fn has_threads<R: World>(rt: R, alloc: Global, status: Option<Broken>) -> bool {
     let device = formatted(&rt, alloc, LEAST);
-    let listeners = Listeners {
-        sessions: Broken,
-        lookups: None,
-        status,
-    };
+    let listeners = Listeners::new(Broken, None, status);
     let counts = Counts::new();
     let (device, served) = serve(rt, alloc, listeners, device, &no_cores(alloc), &counts);
     let _device = assert_opens_to(&rt, alloc, device, 0, 0);

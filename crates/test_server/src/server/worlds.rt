@@ -289,7 +289,9 @@ pub(crate) fn serve_at<R: World, S: System + Abort, D: Device + Drop + Send, C: 
     clients: &C,
     counts: &Counts,
 ) -> Met<D, C::Seen> {
-    let to = address_of(&rt, &listeners.sessions);
+    let to = listeners
+        .sessions_at()
+        .expect(&rt, "the listener has an address");
     let ((device, served), seen) = thread::join(
         &rt,
         || serve(system, alloc, listeners, device, options, counts),
@@ -346,11 +348,7 @@ pub(crate) fn serve_by<R: World, S: System + Abort, D: Device + Drop + Send, C: 
         clients,
         stop: second_handle(&rt, &sessions),
     };
-    let listeners = Listeners {
-        sessions,
-        lookups,
-        status,
-    };
+    let listeners = Listeners::new(sessions, lookups, status);
     serve_at(
         rt, system, alloc, device, listeners, options, &clients, counts,
     )

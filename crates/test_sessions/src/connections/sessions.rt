@@ -3,7 +3,7 @@
 use crate::checks::assert_same;
 use crate::connections::memory::{MemStream, connection};
 use cli_once::{OnceService, cores_of};
-use paced_stream::{Ended, serve_connection};
+use paced_stream::{Ended, Sealed, serve_connection};
 use seg_check::TrustAll;
 use seg_lookup::Roster;
 use session_core::{FrameError, Kinds};
@@ -44,6 +44,7 @@ fn served<'a, R: Abort + Clock>(
 ) -> Ended<MemStream<'a>> {
     let cores = Roster::new(cores_of(alloc, "1-ff00:0:110").expect(rt, "no list of ASes"));
     let mut service = OnceService::new(alloc, &cores, &TrustAll, 0).expect(rt, "no memory");
+    let (input, output) = (Sealed::of(input), Sealed::of(output));
     let ended = serve_connection(rt, alloc, input, output, &mut service, Kinds::Base, idle);
     service.end();
     ended
@@ -59,7 +60,7 @@ fn assert_ended<C: Debug>(
 ) {
     assert_same(rt, &ended.replies, &replies, &("replies", case));
     assert_same(rt, &ended.is_late, &is_late, &("late", case));
-    let taken = ended.output.taken.as_slice();
+    let taken = ended.output.stream().taken.as_slice();
     assert_same(rt, &taken, &written, &("written", case));
 }
 
@@ -77,7 +78,12 @@ fn assert_interrupted<R: Abort + Clock>(
     output.interrupts = 3;
     let ended = served(rt, alloc, input, output, None);
     assert_ended(rt, &ended, (Ok(2), false), replies, &piece);
-    assert_same(rt, &ended.input.given.as_slice(), &asked, &("given", piece));
+    assert_same(
+        rt,
+        &ended.input.stream().given.as_slice(),
+        &asked,
+        &("given", piece),
+    );
 }
 
 // Reads and writes that move a few bytes, and of which each second one is interrupted.
@@ -136,5 +142,5 @@ fn not_set_up(rt: HostRuntime) {
     let ended = served(&rt, alloc, input, connection(alloc, &[], 5), idle());
     let wanted = (Err(FrameError::Read), false);
     assert_ended(&rt, &ended, wanted, &[], &"not set up");
-    assert_same(&rt, &ended.input.given.len(), &0, &"given");
+    assert_same(&rt, &ended.input.stream().given.len(), &0, &"given");
 }

@@ -6,7 +6,7 @@ use crate::connections::busy::Busy;
 use crate::connections::clock::MovedClock;
 use crate::connections::memory::{MemStream, connection};
 use cli_once::{OnceService, cores_of};
-use paced_stream::{Ended, serve_connection};
+use paced_stream::{Ended, Sealed, serve_connection};
 use seg_check::TrustAll;
 use seg_lookup::Roster;
 use session_core::{FrameError, Kinds};
@@ -59,6 +59,7 @@ fn served<'a>(
         clock,
         takes,
     };
+    let (input, output) = (Sealed::of(input), Sealed::of(output));
     let ended = serve_connection(clock, alloc, input, output, &mut busy, Kinds::Base, idle);
     let Busy {
         service,
@@ -129,7 +130,7 @@ fn assert_answered(rt: &impl Abort, alloc: Global, case: &Case, idle: Option<Dur
     assert_same(rt, &ended.replies, &Ok(301), case);
     assert_same(
         rt,
-        &ended.output.taken.as_slice(),
+        &ended.output.stream().taken.as_slice(),
         &replies.as_slice(),
         case,
     );
@@ -216,7 +217,7 @@ fn replies_not_taken_in_time(rt: HostRuntime) {
         let ended = case.served(&rt, alloc, &clock, &asked, idle());
         let wanted = (Err(FrameError::Write), true);
         assert_same(&rt, &(ended.replies, ended.is_late), &wanted, &case);
-        assert_same(&rt, &ended.output.taken.len(), &taken, &case);
+        assert_same(&rt, &ended.output.stream().taken.len(), &taken, &case);
         assert_same(&rt, &clock.passed(), &at, &case);
     }
 }
@@ -309,7 +310,7 @@ fn frames_not_sent_in_time(rt: HostRuntime) {
         let ended = case.served(&rt, alloc, &clock, &asked, idle());
         let wanted = (Err(FrameError::Read), true);
         assert_same(&rt, &(ended.replies, ended.is_late), &wanted, &case);
-        assert_same(&rt, &ended.input.given.len(), &given, &case);
+        assert_same(&rt, &ended.input.stream().given.len(), &given, &case);
         assert_same(&rt, &clock.passed(), &at, &case);
     }
 }
@@ -329,7 +330,7 @@ fn half_a_frame_after_a_whole_one(rt: HostRuntime) {
     let ended = case.served(&rt, alloc, &clock, &asked, idle());
     let wanted = (Err(FrameError::Read), true);
     assert_same(&rt, &(ended.replies, ended.is_late), &wanted, &"ended");
-    assert_same(&rt, &ended.output.taken.len(), &29, &"taken");
+    assert_same(&rt, &ended.output.stream().taken.len(), &29, &"taken");
     assert_same(&rt, &clock.passed(), &(3 * IDLE), &"passed");
 }
 
@@ -347,7 +348,7 @@ fn no_clock(rt: HostRuntime) {
         let ended = case.served(&rt, alloc, &clock, &asked, idle());
         let wanted = (Err(FrameError::Read), false);
         assert_same(&rt, &(ended.replies, ended.is_late), &wanted, &readings);
-        assert_same(&rt, &ended.input.given.len(), &given, &readings);
+        assert_same(&rt, &ended.input.stream().given.len(), &given, &readings);
     }
 }
 
@@ -357,6 +358,6 @@ fn sent_at_once(rt: HostRuntime) {
     let alloc = rt.alloc();
     let clock = MovedClock::new(u64::MAX);
     let ended = PROMPT.served(&rt, alloc, &clock, &[], idle());
-    let is_prompt = ended.output.is_prompt.load(Ordering::SeqCst);
+    let is_prompt = ended.output.stream().is_prompt.load(Ordering::SeqCst);
     assert_same(&rt, &is_prompt, &true, &"set_nodelay");
 }

@@ -6,7 +6,7 @@ use crate::once::worked::*;
 use cli_once::{SessionFault, once_in_hex};
 use seg_check::TrustAll;
 use seg_lookup::Roster;
-use session_core::{FrameError, Source};
+use session_core::{FrameError, Replies, Source};
 use std::alloc::Global;
 use std::io::Write;
 use std::process::Abort;
@@ -19,7 +19,8 @@ fn in_hex<R: Source, W: Write>(
     cores: &Roster,
     turns: u64,
 ) -> Result<u64, SessionFault> {
-    once_in_hex(alloc, reader, writer, cores, &TrustAll, 0, turns)
+    let mut replies = Replies::of(writer);
+    once_in_hex(alloc, reader, &mut replies, cores, &TrustAll, 0, turns)
 }
 
 /// Sees what a session of this text ends with where its third read fails.

@@ -5,7 +5,7 @@ use crate::once::streams::in_pieces;
 use cli_once::{cores_of, once};
 use seg_check::TrustAll;
 use seg_lookup::Roster;
-use session_core::{FrameError, Source};
+use session_core::{FrameError, Replies, Source};
 use std::alloc::Global;
 use std::io::Write;
 use std::process::Abort;
@@ -65,7 +65,8 @@ pub fn session<R: Source, W: Write>(
     cores: &Roster,
     turns: u64,
 ) -> Result<u64, FrameError> {
-    once(alloc, reader, writer, cores, &TrustAll, 0, turns)
+    let mut replies = Replies::of(writer);
+    once(alloc, reader, &mut replies, cores, &TrustAll, 0, turns)
 }
 
 /// Asserts what a session ended with, in the case of this name and number.

@@ -9,7 +9,7 @@ use crate::service::stores::{assert_opens_to, cores, new_store};
 use crate::service::tasks::{TURNS, Talk, session, talked};
 use hub_claims::{HubName, Patient};
 use path_hub::{Hub, Senders};
-use path_session::{HubService, Service, serve};
+use path_session::{HubService, Replies, Service, serve};
 use sector_dev::Device;
 use seg_check::TrustAll;
 use seg_lookup::Roster;
@@ -141,7 +141,8 @@ fn seventeen_segments(rt: HostRuntime) {
 /// Serves a session of one frame. The result says whether it was replied to.
 fn served<S: Service>(alloc: Global, frame: &[u8], replies: &mut Vec<u8>, service: &mut S) -> bool {
     let mut input = frame;
-    serve(alloc, &mut input, replies, service, Kinds::Base, TURNS) == Ok(1)
+    let mut replies = Replies::of(replies);
+    serve(alloc, &mut input, &mut replies, service, Kinds::Base, TURNS) == Ok(1)
 }
 
 /// Serves a registration by the one service, a lookup and a removal by the other, and a lookup by

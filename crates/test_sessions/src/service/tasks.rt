@@ -6,7 +6,7 @@ use crate::service::clocks::Counts;
 use crate::service::stores::opened;
 use hub_claims::{HubError, HubName, Patient};
 use path_hub::{Hub, Reserved, Senders, Workload, with_workload};
-use path_session::{FrameError, HubService, Service, serve};
+use path_session::{FrameError, HubService, Replies, Service, serve};
 use sector_dev::Device;
 use seg_check::TrustAll;
 use seg_lookup::Roster;
@@ -132,7 +132,8 @@ pub(crate) fn served<S: Service, I: Read, W: Write>(
     input: &mut I,
     writer: &mut W,
 ) -> Result<u64, FrameError> {
-    serve(alloc, input, writer, service, Kinds::WithLists, TURNS)
+    let mut replies = Replies::of(writer);
+    serve(alloc, input, &mut replies, service, Kinds::WithLists, TURNS)
 }
 
 /// Serves the frames of an input, and adds what is written to `replies`. The result says whether

@@ -6,7 +6,7 @@ use crate::sessions::numbers::Numbers;
 use seg_core::{SegType, Segment};
 use session_core::{
     Ack, Code, CommandKind, FrameError, Kinds, ListRequest, Listing, MOST_AHEAD, Message, Outcome,
-    Service, serve, serve_in_lines,
+    Replies, Service, serve, serve_in_lines,
 };
 use std::alloc::Global;
 use std::io;
@@ -212,11 +212,12 @@ fn assert_served(
     wanted: &Wanted<'_>,
 ) {
     let mut desk = Desk::new(alloc, takes);
-    let mut writer = Room {
+    let mut replies = Replies::of(Room {
         taken: Vec::new(alloc),
         room,
-    };
-    let ended = serve(alloc, &mut input, &mut writer, &mut desk, Kinds::Base, 9);
+    });
+    let ended = serve(alloc, &mut input, &mut replies, &mut desk, Kinds::Base, 9);
+    let writer = replies.into_writer();
     assert_same(rt, &ended, &wanted.ended, &wanted.calls);
     assert_same(rt, &desk.calls.as_slice(), &wanted.calls, &wanted.calls);
     assert_same(rt, &writer.taken.as_slice(), &wanted.written, &wanted.calls);
@@ -349,8 +350,9 @@ fn one_at_a_time(rt: HostRuntime) {
 fn commands_in_lines(rt: HostRuntime) {
     let input = joined(&rt, rt.alloc(), &[&removal(), &removal(), &LOOKUP]);
     let mut desk = Desk::new(rt.alloc(), true);
-    let mut written = Vec::new(rt.alloc());
-    let ended = serve_in_lines(rt.alloc(), input, &mut written, &mut desk, Kinds::Base);
+    let mut replies = Replies::of(Vec::new(rt.alloc()));
+    let ended = serve_in_lines(rt.alloc(), input, &mut replies, &mut desk, Kinds::Base);
+    let written = replies.into_writer();
     assert_same(&rt, &ended, &Ok(3), &"lines");
     assert_same(&rt, &desk.calls.as_slice(), &b"hhssl".as_slice(), &"lines");
     let wanted = b"00000002ff29\n00000002ff29\n00000002ff26\n";

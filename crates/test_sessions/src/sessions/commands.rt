@@ -5,7 +5,7 @@ use crate::checks::assert_same;
 use crate::sessions::numbers::Numbers;
 use seg_core::{SegType, Segment};
 use session_core::{
-    Ack, Code, FrameError, Kinds, ListRequest, Listing, Message, Outcome, Service, serve,
+    Ack, Code, FrameError, Kinds, ListRequest, Listing, Message, Outcome, Replies, Service, serve,
 };
 use std::alloc::Global;
 use std::io::Read;
@@ -140,7 +140,8 @@ fn served(
 ) -> Result<u64, FrameError> {
     let mut service = Counter { place: 0 };
     let mut input = front.chain(rest);
-    serve(alloc, &mut input, output, &mut service, Kinds::Base, 9)
+    let mut sink = Replies::of(output);
+    serve(alloc, &mut input, &mut sink, &mut service, Kinds::Base, 9)
 }
 
 /// Checks the replies to an input that comes in two parts.

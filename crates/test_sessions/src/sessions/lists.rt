@@ -9,7 +9,7 @@ use crate::checks::assert_same;
 use crate::sessions::numbers::Numbers;
 use seg_core::{SegType, Segment, read_segment};
 use session_core::{
-    Code, FrameError, Framer, Kinds, ListRequest, Listing, Message, Service, serve,
+    Code, FrameError, Framer, Kinds, ListRequest, Listing, Message, Replies, Service, serve,
 };
 use std::alloc::Global;
 use std::process::Abort;
@@ -173,7 +173,8 @@ fn served(
     output: &mut Vec<u8>,
 ) -> Result<u64, FrameError> {
     let mut reader = input;
-    serve(alloc, &mut reader, output, &mut Shelf, kinds, 9)
+    let mut replies = Replies::of(output);
+    serve(alloc, &mut reader, &mut replies, &mut Shelf, kinds, 9)
 }
 
 /// The reply with the worked segment, that without one, and the refusal of a type. The first one

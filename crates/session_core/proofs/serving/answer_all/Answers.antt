@@ -15,13 +15,13 @@ loop-reply-init g c = record {
   handed_in = hands_nothing g.S.Service.hands_in _ _ _ _ (ap (λ (hs : _). drop (frames_len hs) c.args.session.now.inbox) c.requires) refl;
 }
 
-pub returns-in_err-write_reply-clause-fronts : goal.returns-in_err-write_reply-clause-fronts
-returns-in_err-write_reply-clause-fronts g c =
+pub returns-in_err-write-clause-fronts : goal.returns-in_err-write-clause-fronts
+returns-in_err-write-clause-fronts g c =
     let first = rw (c.in-Some.is, c.loop-reply.invariant.kinds) at c.in_ok-reply.ensures.next in
     let few = rw c.in-Some.is at c.in_ok-reply.ensures.few in
     let ahead = are_ahead c.args.session.now.kinds g.S.Service.is_for _ _ _ (rw c.loop-reply.invariant.kinds at c.in_ok-reply.ensures.ahead) few in
-    let p = err_from_is_err_and c.from_residual-in_err-write_reply.result c.from_residual-in_err-write_reply.ensures.1 in
-    rw (p.1, p.2) (stops_at_write _ _ _ _ _ _ _ _ _ _ _ _ _ c.loop-reply.invariant.answered first _ _ _ _ ahead c.in_err-write_reply.ensures.err)
+    let p = err_from_is_err_and c.from_residual-in_err-write.result c.from_residual-in_err-write.ensures.1 in
+    rw (p.1, p.2) (stops_at_write _ _ _ _ _ _ _ _ _ _ _ _ _ c.loop-reply.invariant.answered first _ _ _ _ ahead c.in_err-write.ensures.err)
 
 pub returns-in_err-reply-clause-fronts : goal.returns-in_err-reply-clause-fronts
 returns-in_err-reply-clause-fronts g c =
@@ -34,7 +34,7 @@ loop-reply-preserved g c =
     let few = rw c.in-Some.is at c.in_ok-reply.ensures.few in
     record {
       kinds = c.in_ok-reply.ensures.kinds ∙ c.loop-reply.invariant.kinds;
-      answered = answered_next _ _ _ _ _ _ _ _ _ _ _ _ _ c.loop-reply.invariant.answered first _ _ c.in_ok-write_reply.ensures.ok c.saturating_add-sum.ensures;
+      answered = answered_next _ _ _ _ _ _ _ _ _ _ _ _ _ c.loop-reply.invariant.answered first _ _ c.in_ok-write.ensures.ok c.saturating_add-sum.ensures;
       ahead = rw c.loop-reply.invariant.kinds at c.in_ok-reply.ensures.ahead;
       few = omega (arith, few);
       handed_in = hands_then g.S.Service.hands_in _ _ _ _ _ _ c.loop-reply.invariant.handed_in (rw c.loop-reply.invariant.kinds at c.in_ok-reply.ensures.handed_in);
@@ -43,8 +43,8 @@ loop-reply-preserved g c =
 pub returns-in_err-reply-clause-handed_in : goal.returns-in_err-reply-clause-handed_in
 returns-in_err-reply-clause-handed_in g c = hands_then g.S.Service.hands_in _ _ _ _ _ _ c.loop-reply.invariant.handed_in (rw c.loop-reply.invariant.kinds at c.next_reply.ensures.handed_in)
 
-pub returns-in_err-write_reply-clause-handed_in : goal.returns-in_err-write_reply-clause-handed_in
-returns-in_err-write_reply-clause-handed_in g c = hands_then g.S.Service.hands_in _ _ _ _ _ _ c.loop-reply.invariant.handed_in (rw c.loop-reply.invariant.kinds at c.next_reply.ensures.handed_in)
+pub returns-in_err-write-clause-handed_in : goal.returns-in_err-write-clause-handed_in
+returns-in_err-write-clause-handed_in g c = hands_then g.S.Service.hands_in _ _ _ _ _ _ c.loop-reply.invariant.handed_in (rw c.loop-reply.invariant.kinds at c.next_reply.ensures.handed_in)
 
 pub returns-clause-handed_in : goal.returns-clause-handed_in
 returns-clause-handed_in g c = hands_then g.S.Service.hands_in _ _ _ _ _ _ c.loop-reply.invariant.handed_in (rw c.loop-reply.invariant.kinds at c.next_reply.ensures.handed_in)

@@ -9,7 +9,7 @@ abbrev pub invariant-loop-reply : goal.invariant-loop-reply
 invariant-loop-reply g l = record {
   kinds : l.session.kinds ≡ l.fn.session.kinds;
   answered : HasAnswered l.fn.session.kinds l.form g.S.Service.answers (g.S.Service.state l.fn.session.service) l.fn.session.inbox (g.S.Service.state l.session.service) l.session.inbox
-      (g.W.Sink.contents l.fn.writer) (g.W.Sink.contents l.writer) l.count l.sum;
+      (g.W.Sink.contents l.fn.replies.writer) (g.W.Sink.contents l.replies.writer) l.count l.sum;
   ahead : AreHandedIn l.fn.session.kinds g.S.Service.is_for (g.S.Service.state l.session.service) l.session.ahead.queue.items l.session.inbox;
   few : length l.session.ahead.queue.items ≤ MOST_AHEAD;
   handed_in : HandsInFrontOf l.fn.session.kinds g.S.Service.hands_in l.fn.session.inbox (drop (frames_len l.session.ahead.queue.items) l.session.inbox)

@@ -47,7 +47,7 @@ pub returns-clause-served : goal.returns-clause-served
 returns-clause-served g c =
     let all : c.loop-turn._turn ≡ c.args.turns = omega arith in
     subst (λ (turns : ℕ). IsServed c.args.session.now.kinds g.S.Service.answers g.R.Source.gives turns (g.S.Service.state c.args.session.now.service) (g.S.Service.state c.loop-turn.session.service) c.args.reader.now c.loop-turn.reader (g.R.Source.is_at_end c.loop-turn.reader)
-    (g.W.Sink.contents c.args.writer.now) (g.W.Sink.contents c.loop-turn.writer) (Err error.Turns)) all
+    (g.W.Sink.contents c.args.replies.now.writer) (g.W.Sink.contents c.loop-turn.replies.writer) (Err error.Turns)) all
     (ends_at_turns _ _ _ _ _ _ _ _ _ _ _ c.loop-turn.invariant.so_far _)
 
 pub returns-in_err-read_from-clause-handed_in : goal.returns-in_err-read_from-clause-handed_in

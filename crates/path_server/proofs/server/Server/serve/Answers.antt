@@ -21,7 +21,7 @@ returns-clause-served g c =
     let begins = ap (λ service. limited state service) c.new-counted.ensures ∙ c.new-limited.ensures.view ∙ begins_so _ _ _ _ _ _ _ _ c.limits-limits.ensures.future c.limits-limits.ensures.rooms c.limits-limits.ensures.commands c.new-service.ensures.begins in
     let connection = subst (λ (start : LimitedView Serving). IsConnectionServed c.args.self.now.options.now.kinds (LimitedAnswers (HubAnswers opening refused)) g.T.StreamCalls.given g.T.StreamCalls.taken g.T.StreamCalls.is_at_end
     start last c.args.input ended.result.input c.args.output ended.result.output ended.result.replies) begins ended.ensures.served in record {
-      reader = c.in_ok-reader.reader;
+      reader = c.args.reader;
       last = last;
       connection = connection;
       acknowledged = subst (AreClaimed opening connection.served.exchanges)

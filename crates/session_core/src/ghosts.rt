@@ -1,0 +1,3 @@
+//! What exists in proofs alone.
+
+pub(crate) mod telling_note;
