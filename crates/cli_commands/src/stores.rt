@@ -13,7 +13,7 @@ use crate::progress::{MEBIBYTE, Progress};
 use clap::ArgMatches;
 use cli_store::{
     Consent, Fault, Wishes, ask, copy, decide, format, show, show_layout, sizes_for, status,
-    upgrade,
+    upgrade, vacant,
 };
 use cli_words::{CHECKPOINT, DEVICE, FORCE, JOURNAL, JSON, LAYOUT, NEW, RESERVE, ROWS, TARGET};
 use device_files::{LockedFile, Room, open, open_to_read};
@@ -26,7 +26,7 @@ use std::io::{BufWriter, Error, ErrorKind, Read, Write};
 use std::os::unix::fs::MetadataExt;
 use std::rt::Files;
 use std::time::Clock;
-use store_open::{Geometry, OpenError, has_title, read_geometry};
+use store_open::{Geometry, OpenError, read_geometry};
 
 /// The least length of a file that is announced, in bytes: zeros for a shorter one are written
 /// within a second or so.
@@ -211,11 +211,7 @@ fn empty_device<'a, R: AllocGlobal + Files<File = File> + Eprint>(
         no_target(rt, old, path, error),
     ))?;
     let (mut device, site) = device_over(path, file.as_found(rt.alloc()))?;
-    match has_title(&mut device) {
-        Ok(false) => {}
-        Ok(true) => return Err(site.failure(Fault::Taken)),
-        Err(_) => return Err(site.failure(Fault::Open(OpenError::Device))),
-    }
+    site.said_of(vacant(&mut device))?;
     zeros_for(rt, path, file, geometry, room)
 }
 
