@@ -1,4 +1,6 @@
 //! What a server begins with, and the opening of its store.
+//!
+//! Only this file has a device that code can write, and no function of it may wait.
 
 ghost use Rattle.std.specs.Prelude.{IfOk};
 ghost use Rattle.sector_dev.specs.Disk.{IsHonest, reads_of};
@@ -8,15 +10,17 @@ ghost use Rattle.sector_dev.specs.Stretch.{Stretch};
 ghost use Rattle.store_open.specs.Open.{IsOpened, OpensAlike};
 
 use crate::addresses::listen;
-use crate::system::{Host, System};
 use clap::ArgMatches;
 use cli_commands::Failure;
 use cli_words::DEVICE;
 use path_hub::Reserved;
 use sector_dev::{FileDevice, LastFault, PositionedFile, SystemFile};
 use server_front::Listeners;
-use std::net::TcpListener;
+use std::fs::File;
+use std::net::{Net, TcpListener, TcpStream};
+use std::rt::Files;
 use std::sync::Arc;
+use std::thread::Threads;
 use store_open::open_in_threads;
 
 /// What a server begins with, over a file of any kind.
@@ -37,10 +41,9 @@ pub(crate) type ListenersOr<'a> = Result<Listeners<TcpListener>, Failure<'a>>;
 
 impl<'a> Site<'a, SystemFile> {
     /// Opens the file of the words, and listens at their addresses.
-    pub(crate) fn of_words<R: System>(
-        rt: &R,
-        words: &ArgMatches<'a>,
-    ) -> Result<Site<'a, SystemFile>, Failure<'a>> {
+    pub(crate) fn of_words<
+        R: AllocGlobal + Files<File = File> + Net<Listener = TcpListener, Stream = TcpStream>,
+    >(rt: &R, words: &ArgMatches<'a>) -> Result<Site<'a, SystemFile>, Failure<'a>> {
         let path = words.get_str(DEVICE).unwrap_or("");
         let no_file = |error| Failure::File(path, error);
         let file = device_files::open(rt, path).map_err(no_file)?;
@@ -60,7 +63,7 @@ impl<'a> Site<'a, SystemFile> {
 impl<'a, F: PositionedFile + Drop> Site<'a, F> {
     /// Opens the store of the device, whose rows are read in threads, and reserves it: from then on
     /// its state alone has the device. Returns it with the listeners.
-    pub(crate) fn open<R: Host>(
+    pub(crate) fn open<R: AllocGlobal + Threads + Sync>(
         self,
         rt: &R,
     ) -> Result<(Reserved<FileDevice<F>>, ListenersOr<'a>), Failure<'a>>
