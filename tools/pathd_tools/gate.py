@@ -71,7 +71,7 @@ def prove(folder: Path) -> int:
     """Runs `rt ci` in a folder, and answers its status; 1 where a function may wait that has to return."""
     returning, crate, waiting = with_below([RETURNS]), "", []
     environment = {"RT_JOBS": JOBS, **os.environ, "PYTHONPATH": str(HOOK)}
-    with subprocess.Popen(["rt", "ci"], cwd=folder, env=environment, stdout=subprocess.PIPE, stderr=subprocess.STDOUT, text=True) as run:
+    with subprocess.Popen(["rt", "ci"], cwd=folder, env=environment, stdout=subprocess.PIPE, stderr=subprocess.STDOUT, text=True, errors="replace") as run:
         for line in run.stdout or ():
             print(line, end="", flush=True)
             if line.startswith("== "):
