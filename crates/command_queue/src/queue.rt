@@ -52,7 +52,6 @@ pub struct CommandQueue<J: QueueName, T> {
 }
 
 /// A new queue, with what belongs to it alone.
-#[derive(Drop)]
 pub struct NewQueue<J: QueueName, T> {
     /// The queue.
     pub queue: CommandQueue<J, T>,

@@ -43,15 +43,14 @@ impl<J: QueueName> Sender<J> {
     }
 }
 
-/// A sender that has ended.
-#[derive(Drop)]
+/// A sender that has ended. It is not `Drop`: who has one hands it in.
 pub struct EndedSender<J: QueueName> {
     sender: Sender<J>,
 }
 
 /// What senders that have ended had handed in: for each that has handed something in, its number
-/// and its commands, in their order. Each queue has one, which begins no sender.
-#[derive(Drop)]
+/// and its commands, in their order. Each queue has one, which begins no sender. It is not `Drop`:
+/// it ends with its queue.
 pub struct EndedSenders<J: QueueName> {
     table: Arc<QueueTable, Global>,
     pass: QueuePass,

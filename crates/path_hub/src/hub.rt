@@ -105,14 +105,13 @@ impl<D: Device, N: HubName, R: Wait + Clock> Hub<D, N, R> {
     }
 
     /// Takes what a session was shown last. When the hub ends, that is a front of its log. A look
-    /// cannot be dropped, so who has one hands it in. No clause says that the hub keeps it: the
-    /// looks are under a lock.
+    /// cannot be dropped, so who has one hands it in, and the hub keeps it.
     pub fn keep_look(&self, look: Look<N>) {
         self.looks.lock(&self.rt).add(look);
     }
 
     /// Takes a sender that has ended. When the hub ends, what it handed in is all that was handed
-    /// in of it. No clause says that the hub keeps it: what was handed in is under a lock.
+    /// in of it. What has ended cannot be dropped, so the hub keeps it.
     pub fn keep_sender(&self, sender: EndedSender<N>) {
         self.ended.lock(&self.rt).take_in(sender);
     }
