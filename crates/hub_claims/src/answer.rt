@@ -1,14 +1,16 @@
 //! The answers to commands that were handed in.
 
-ghost use Rattle.std.specs.Prelude.{◌≡◌, ◌+◌, true, Ok, Err, IfSome, IfOk, IfErr};
+ghost use Rattle.std.specs.Prelude.{◌≡◌, ◌+◌, true, Some, None, Ok, Err, IfSome, IfOk, IfErr};
 ghost use Rattle.std.specs.Result.{ForOk, ForErr};
 ghost use Rattle.hub_claims.specs.Committed.{ReceiptShows, is_above, reason_in};
+ghost use Rattle.hub_claims.specs.declared.answer.NotCommitted.TheVariants.{Stopped, Refused};
 
 use crate::error::HubError;
 use crate::name::HubName;
-use command_queue::Claim;
+use command_queue::{Claim, Numbered};
 use group_core::SubmitError;
 use hub_readers::HubReceipt;
+use logged_state::Lost;
 use std::sync::{Mutex, Wait};
 
 /// Why a command that was handed in has no receipt.
@@ -59,16 +61,32 @@ impl<N: HubName> Answer<N> {
         }
     }
 
-    /// The command of the claim has no receipt. Only a command that was taken out of the queue is
-    /// refused so, for the reason that is said of it.
-    pub fn refused(claim: Claim<N>, why: NotCommitted) -> Answer<N>
-        requires { N.refused claim.command.value (reason_in why) ≡ true }
+    /// The command of the claim is not accepted, for this reason. What it would be submitted by is
+    /// given up, so it is not submitted.
+    pub fn refused(claim: Claim<N>, numbered: Numbered<N>, why: SubmitError) -> Answer<N>
+        requires number { numbered.number ≡ claim.number }
+        requires why { N.refused claim.command.value (Some why) ≡ true }
         ensures claim { result.claim ≡ claim }
-        ensures outcome { result.outcome ≡ Err why }
+        ensures outcome { result.outcome ≡ Err (Refused why) }
+    {
+        drop(numbered);
+        Answer {
+            claim,
+            outcome: Err(NotCommitted::Refused(why)),
+        }
+    }
+
+    /// The state has stopped before the command of the claim was committed. The command's claim of
+    /// the state's log is given up, so it has no receipt.
+    pub fn stopped(claim: Claim<N>, lost: Lost<N>) -> Answer<N>
+        requires command { lost.accepted.command ≡ claim.command.value }
+        requires why { N.refused claim.command.value None ≡ true }
+        ensures claim { result.claim ≡ claim }
+        ensures outcome { result.outcome ≡ Err (Stopped lost.place) }
     {
         Answer {
             claim,
-            outcome: Err(why),
+            outcome: Err(NotCommitted::Stopped(lost.place())),
         }
     }
 

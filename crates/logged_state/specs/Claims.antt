@@ -34,12 +34,12 @@ receipt_in receipt = record {
 abbrev pub redeemed_in : {B N : Type 0} → LoggedRedeemed B N → Redeemed N
 redeemed_in (Committed receipt) = state.Committed (receipt_in receipt)
 redeemed_in (Waiting ticket claim) = state.Waiting ticket
-redeemed_in (Unknown place) = state.Unknown place
+redeemed_in (Unknown lost) = state.Unknown lost.place
 redeemed_in (Stranger ticket claim) = state.Stranger ticket
 
 -- The claim is that of the receipt, or is returned with the ticket.
 abbrev pub HasClaim : {B N : Type 0} → Claim → LoggedRedeemed B N → Type 0
 HasClaim claim (Committed receipt) = receipt.logged ≡ claim
 HasClaim claim (Waiting ticket back) = back ≡ claim
-HasClaim claim (Unknown place) = Unit {0}
+HasClaim claim (Unknown lost) = lost.accepted ≡ claim
 HasClaim claim (Stranger ticket back) = back ≡ claim

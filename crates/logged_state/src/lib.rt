@@ -33,6 +33,6 @@ pub use command_log::{
 pub use ghosts::fronts::{Fronts, FrontsNote, no_fronts};
 pub use ghosts::name::StateName;
 pub use left::Left;
-pub use receipt::{LoggedReceipt, LoggedRedeemed};
+pub use receipt::{LoggedReceipt, LoggedRedeemed, Lost};
 pub use reserved::{Ended, Release, Reserved};
 pub use state::LoggedState;

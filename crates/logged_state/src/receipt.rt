@@ -102,15 +102,39 @@ impl<B: StateName, N> LoggedReceipt<B, N> {
     }
 }
 
+/// That a state has stopped, and that the accepted command of this claim was not committed before
+/// as far as is known. Only a state that has stopped gives one, in exchange for the claim: a
+/// command has a receipt or one of these, and not both.
+#[derive(Drop)]
+pub struct Lost<B: StateName> {
+    place: u64,
+    accepted: Accepted<B>,
+}
+
+impl<B: StateName> Lost<B> {
+    /// The claim of a command at a place, at a state that has stopped.
+    pub(crate) fn of(place: u64, accepted: Accepted<B>) -> Lost<B>
+        ensures { (result.place ≡ place) × (result.accepted ≡ accepted) }
+    {
+        Lost { place, accepted }
+    }
+
+    /// The place of the command. It is not known whether a stop of the device keeps the command.
+    pub fn place(&self) -> u64
+        ensures { result ≡ self.now.place }
+    {
+        self.place
+    }
+}
+
 /// What a ticket was redeemed for.
 pub enum LoggedRedeemed<B: StateName, N> {
     /// The command is committed.
     Committed(LoggedReceipt<B, N>),
     /// Not committed; the ticket is returned, with its claim.
     Waiting(Ticket, Accepted<B>),
-    /// The state has stopped before the command of this place was committed. It is not known
-    /// whether a stop of the device keeps the command.
-    Unknown(u64),
+    /// The state has stopped before the command was committed, with its claim.
+    Unknown(Lost<B>),
     /// Not this state's, or already redeemed; returned, with its claim.
     Stranger(Ticket, Accepted<B>),
 }

@@ -6,7 +6,7 @@ ghost use Rattle.group_core.specs.Redeeming.{Redeems};
 ghost use Rattle.logged_state.specs.Claims.{redeemed_in, IsClaimOf, HasClaim};
 
 use crate::ghosts::name::StateName;
-use crate::receipt::{LoggedReceipt, LoggedRedeemed};
+use crate::receipt::{LoggedReceipt, LoggedRedeemed, Lost};
 use crate::state::LoggedState;
 use command_log::Accepted;
 use group_core::{Redeemed, Showcase, Ticket};
@@ -41,7 +41,7 @@ impl<D: Device, S: Showcase, B: StateName> LoggedState<D, S, B> {
                 LoggedRedeemed::Committed(LoggedReceipt::of(receipt, logged))
             }
             Redeemed::Waiting(ticket) => LoggedRedeemed::Waiting(ticket, claim),
-            Redeemed::Unknown(place) => LoggedRedeemed::Unknown(place),
+            Redeemed::Unknown(place) => LoggedRedeemed::Unknown(Lost::of(place, claim)),
             Redeemed::Stranger(ticket) => LoggedRedeemed::Stranger(ticket, claim),
         }
     }

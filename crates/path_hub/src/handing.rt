@@ -10,7 +10,7 @@ use crate::guarded::{HubState, Locked};
 use crate::hub::Hub;
 use command_queue::{Claim, HandedIn, MOST_WAITING, NotQueued, Sender};
 use group_core::{SubmitError, Ticket};
-use hub_claims::{Answer, HubName, NotCommitted, Slot};
+use hub_claims::{Answer, HubName, Slot};
 use hub_waits::Done;
 use logged_state::{Accepted, LoggedRedeemed};
 use path_db::Command;
@@ -107,10 +107,7 @@ impl<D: Device, N: HubName, R: Wait + Clock> Hub<D, N, R> {
                 });
             }
             Err((_command, refusal)) => {
-                self.put(
-                    &slot,
-                    Answer::refused(claim, NotCommitted::Refused(refusal)),
-                );
+                self.put(&slot, Answer::refused(claim, numbered, refusal));
             }
         }
     }
@@ -211,15 +208,13 @@ impl<D: Device, N: HubName, R: Wait + Clock> Hub<D, N, R> {
         } = first;
         let answer = match state.redeem_logged(ticket, accepted) {
             LoggedRedeemed::Committed(receipt) => Answer::committed(claim, receipt),
-            LoggedRedeemed::Unknown(place) => Answer::refused(claim, NotCommitted::Stopped(place)),
+            LoggedRedeemed::Unknown(lost) => Answer::stopped(claim, lost),
             // The state has given the ticket, and its outcome is known: only a defect of the
             // program leads here.
-            LoggedRedeemed::Waiting(ticket, _accepted)
-            | LoggedRedeemed::Stranger(ticket, _accepted) => {
-                let place = ticket.place();
+            LoggedRedeemed::Waiting(ticket, accepted)
+            | LoggedRedeemed::Stranger(ticket, accepted) => {
                 self.has_stranger.store(true, Ordering::SeqCst);
-                state.give_up_ticket(ticket);
-                Answer::refused(claim, NotCommitted::Stopped(place))
+                Answer::stopped(claim, state.give_up_ticket(ticket, accepted))
             }
         };
         self.put(&slot, answer);
@@ -241,11 +236,11 @@ impl<D: Device, N: HubName, R: Wait + Clock> Hub<D, N, R> {
     fn refuse(&self, handed: HandedIn<N, Arc<Slot<N>, Global>>, why: SubmitError) {
         let HandedIn {
             claim,
-            numbered: _numbered,
+            numbered,
             command: _command,
             reply_to: slot,
         } = handed;
-        self.put(&slot, Answer::refused(claim, NotCommitted::Refused(why)));
+        self.put(&slot, Answer::refused(claim, numbered, why));
     }
 
     /// Puts an answer where it goes, and notes that its condition variable must be notified.
@@ -278,10 +273,10 @@ pub(crate) fn give_up_all<D: Device, N: HubName, R: Wait>(
         let UnderWay {
             ticket,
             claim: _claim,
-            accepted: _accepted,
+            accepted,
             slot: _slot,
         } = first;
-        state.give_up_ticket(ticket);
+        let _lost = state.give_up_ticket(ticket, accepted);
     }
     under_way.destroy_empty();
 }
