@@ -18,10 +18,10 @@ judging_keeps : (old : LimitedView Serving) (moment : Option ℕ) → (after_jud
 judging_keeps old (Some moment) = refl
 judging_keeps old None = refl
 
-pub limited_keeps : (opening : StoreValue (List RowView)) (refused : Command → Option SubmitError → Bool) (old : LimitedView Serving) (message : MessageView) (reply : ReplyView) (new : LimitedView Serving)
-    → LimitedAnswers (HubAnswers opening refused) old message reply new → Keeps opening old.inner.acknowledged message (ack_in reply) new.inner.acknowledged
-limited_keeps opening refused old message reply new (inl a) = answer_keeps opening refused old.inner message reply new.inner a.answered
-limited_keeps opening refused old message reply new (inr a) =
+pub limited_keeps : (opening : StoreValue (List RowView)) (refused : Command → Option SubmitError → Bool) (shut : Bool) (old : LimitedView Serving) (message : MessageView) (reply : ReplyView) (new : LimitedView Serving)
+    → LimitedAnswers (HubAnswers opening refused shut) old message reply new → Keeps opening old.inner.acknowledged message (ack_in reply) new.inner.acknowledged
+limited_keeps opening refused shut old message reply new (inl a) = answer_keeps opening refused shut old.inner message reply new.inner a.answered
+limited_keeps opening refused shut old message reply new (inr a) =
     let same : new.inner.acknowledged ≡ old.inner.acknowledged = ap (λ (s : LimitedView Serving). s.inner.acknowledged) a.kept ∙ judging_keeps old a.moment in
     subst (λ (r : ReplyView). Keeps opening old.inner.acknowledged message (ack_in r) new.inner.acknowledged) (sym a.replied) same
 

@@ -1,4 +1,5 @@
 mod Claimed
+mod HandedIn
 mod NoCommands
 mod Paces
 mod Purged

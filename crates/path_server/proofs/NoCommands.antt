@@ -27,7 +27,7 @@ judging_claims : (old : LimitedView Serving) (moment : Option ℕ) → (after_ju
 judging_claims old (Some moment) = refl
 judging_claims old None = refl
 
-module _ (opening : StoreValue (List RowView)) (refused : Command → Option SubmitError → Bool) where
+module _ (opening : StoreValue (List RowView)) (refused : Command → Option SubmitError → Bool) (shut : Bool) where
   -- what is no command is not acknowledged
   no_claim : (asked : MessageView) (before : List Claim) (ack : Option Ack) (after : List Claim) → command_kind asked ≡ None → Keeps opening before asked ack after → after ≡ before
   no_claim asked before None after none kept = kept
@@ -39,10 +39,10 @@ module _ (opening : StoreValue (List RowView)) (refused : Command → Option Sub
 
   -- one message
   one_message : (old : LimitedView Serving) (asked : MessageView) (reply : ReplyView) (new : LimitedView Serving) → old.commands ≡ false
-      → LimitedAnswers (HubAnswers opening refused) old asked reply new → (new.commands ≡ false) × (new.inner.acknowledged ≡ old.inner.acknowledged)
+      → LimitedAnswers (HubAnswers opening refused shut) old asked reply new → (new.commands ≡ false) × (new.inner.acknowledged ≡ old.inner.acknowledged)
   one_message old asked reply new off (inl a) = (
     ap (λ (s : LimitedView Serving). s.commands) a.kept ∙ judging_takes old a.moment ∙ off,
-    no_claim asked old.inner.acknowledged (ack_in reply) new.inner.acknowledged (a.admission.1 off) (answer_keeps opening refused old.inner asked reply new.inner a.answered),
+    no_claim asked old.inner.acknowledged (ack_in reply) new.inner.acknowledged (a.admission.1 off) (answer_keeps opening refused shut old.inner asked reply new.inner a.answered),
   )
   one_message old asked reply new off (inr a) = (
     ap (λ (s : LimitedView Serving). s.commands) a.kept ∙ judging_takes old a.moment ∙ off,
@@ -51,7 +51,7 @@ module _ (opening : StoreValue (List RowView)) (refused : Command → Option Sub
 
   -- all messages of a session
   pub claims_stay : (old : LimitedView Serving) (exchanges : List Exchange) (new : LimitedView Serving) → old.commands ≡ false
-      → AreAnswered (LimitedAnswers (HubAnswers opening refused)) old exchanges new → new.inner.acknowledged ≡ old.inner.acknowledged
+      → AreAnswered (LimitedAnswers (HubAnswers opening refused shut)) old exchanges new → new.inner.acknowledged ≡ old.inner.acknowledged
   claims_stay old [] new off done = sym (ap (λ (s : LimitedView Serving). s.inner.acknowledged) done)
   claims_stay old (exchange ∷ exchanges) new off a =
       let first = one_message old exchange.message exchange.reply a.0 off a.1 in

@@ -1,3 +1,4 @@
 pub mod Attending
 pub mod Pacing
 pub mod Trusting
+pub mod Verifying

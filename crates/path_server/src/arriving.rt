@@ -4,13 +4,12 @@ use crate::reports::{Report, Reports};
 use crate::server::Server;
 use crate::task::Seat;
 use paced_stream::AcceptedStream;
-use seg_check::Verifier;
 use server_front::{Arrival, Listener, NoSeat, Peer, Role, turn_away};
 use std::net::SocketAddr;
 use std::sync::{Arc, Wait};
 use std::time::Clock;
 
-impl<L: Listener + Drop, V: Verifier, O: Reports> Server<'_, L, V, O> {
+impl<L: Listener + Drop, O: Reports> Server<'_, L, O> {
     /// The seat of the next peer for whom there is one. Peers without one are turned away. The
     /// result is `None` where the server is to end, or a listener of sessions broke.
     pub(crate) fn next_seated<R: Wait + Clock>(&self, rt: &R) -> Option<Seat> {

@@ -3,7 +3,6 @@
 use crate::reports::Reports;
 use crate::server::Server;
 use paced_stream::Deadline;
-use seg_check::Verifier;
 use server_front::Listener;
 use std::sync::Wait;
 use std::sync::atomic::Ordering;
@@ -13,7 +12,7 @@ use std::time::{Clock, Duration};
 /// The time in milliseconds after which it is asked again whether sessions are open.
 const NAP: u64 = 20;
 
-impl<L: Listener + Drop, V: Verifier, O: Reports> Server<'_, L, V, O> {
+impl<L: Listener + Drop, O: Reports> Server<'_, L, O> {
     /// Waits until no session is open. Once the server is to end, the sessions that are open have
     /// the grace of the options to end by themselves. Then their connections are shut down, which
     /// ends each session at its next read or write.

@@ -1,6 +1,7 @@
 //! How a server runs.
 
-use seg_check::Keyed;
+use isd_as::IsdAs;
+use seg_check::{Keyed, TrustAll, Verifier};
 use seg_lookup::Roster;
 use session_core::Kinds;
 use std::time::Duration;
@@ -43,4 +44,18 @@ pub struct Options {
     pub purge_grace: u64,
     /// How long the sessions that are open may go on once the server is to end.
     pub grace: Duration,
+}
+
+/// Signatures are checked by the key. Without a key, all are good.
+impl Verifier for Options {
+    ghost use Rattle.path_server.specs.Verifying.{verdicts_of};
+
+    ghost verifies = { λ options. verdicts_of options.key };
+
+    fn verify(&self, ia: IsdAs, signed: &[u8], signature: &[u8], associated: &[&[u8]]) -> bool {
+        match &self.key {
+            Some(key) => key.verify(ia, signed, signature, associated),
+            None => TrustAll.verify(ia, signed, signature, associated),
+        }
+    }
 }

@@ -12,7 +12,6 @@ use hub_claims::{HubError, HubName, Waiter};
 use paced_stream::Deadline;
 use path_hub::Hub;
 use sector_dev::Device;
-use seg_check::Verifier;
 use server_front::Listener;
 use session_clock::Now;
 use std::sync::Wait;
@@ -28,12 +27,12 @@ const LEAST_REPORTED: u64 = 2;
 
 /// Waits for a commit until a server is at its end.
 #[derive(Drop)]
-struct UntilEnd<'a, 'b, L, V, O> {
-    server: &'a Server<'b, L, V, O>,
+struct UntilEnd<'a, 'b, L, O> {
+    server: &'a Server<'b, L, O>,
     has_left: bool,
 }
 
-impl<L: Listener + Drop, V: Verifier, O: Reports> Waiter for UntilEnd<'_, '_, L, V, O> {
+impl<L: Listener + Drop, O: Reports> Waiter for UntilEnd<'_, '_, L, O> {
     ghost has_left = { λ waiter. waiter.has_left };
 
     fn has_left(&mut self) -> bool {
@@ -48,7 +47,7 @@ impl<L: Listener + Drop, V: Verifier, O: Reports> Waiter for UntilEnd<'_, '_, L,
     fn note_answer(&mut self) {}
 }
 
-impl<L: Listener + Drop, V: Verifier, O: Reports> Server<'_, L, V, O> {
+impl<L: Listener + Drop, O: Reports> Server<'_, L, O> {
     /// Purges what has expired after each rest, by the clock where it is trusted, until the server
     /// is at its end. A rest is the period, or shorter while purges drop many rows. There is no
     /// sender here but the purger's, so nothing else is handed in.

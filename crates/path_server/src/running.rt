@@ -15,7 +15,6 @@ use crate::reports::Reports;
 use crate::server::Server;
 use path_hub::{Ended, HubLeft, Reserved, with_workload};
 use sector_dev::Device;
-use seg_check::{TrustAll, Verifier};
 use server_front::{Listener, Listeners};
 use std::alloc::Global;
 use std::sync::Wait;
@@ -68,48 +67,9 @@ pub fn serve_store<R: System, L: Listener + Drop + Send, D: Device + Send, O: Re
     ensures unmade { IfNone result.1 (D.disk result.0 ≡ store.disk) }
     ensures made { OnOk result.2 (IsSome result.1) }
 {
-    match &options.key {
-        Some(key) => serve_checked(rt, alloc, listeners, store, options, key, reports),
-        None => serve_checked(rt, alloc, listeners, store, options, &TrustAll, reports),
-    }
-}
-
-/// Serves sessions whose signatures are judged by a verifier.
-fn serve_checked<
-    R: System,
-    L: Listener + Drop + Send,
-    D: Device + Send,
-    V: Verifier + Sync,
-    O: Reports + Sync,
->(
-    rt: R,
-    alloc: Global,
-    listeners: Listeners<L>,
-    store: Reserved<D>,
-    options: &Options,
-    verifier: &V,
-    reports: &O,
-) -> (Ended<D>, Option<HubLeft>, Result<u64, RunError>)
-    ensures left { IfSome result.1 (λ left. IsHonest (D.disk result.0)
-        → EveryImage (D.disk result.0).history.now (OpensToLog (value_of_store store) left.log)) }
-    ensures acknowledged { IfSome result.1 (λ left. IsHonest (D.disk result.0)
-        → EveryImage (D.disk result.0).history.now (OpensWithAll (value_of_store store) left.acknowledged)) }
-    ensures moments { IfSome result.1 (λ left.
-        Stretch store.disk (D.disk result.0) (OpensToFrontOf (value_of_store store) left.log.commands 0)) }
-    ensures since { IfSome result.1 (λ left. IsHonest store.disk
-        → AllClaimsKept (value_of_store store) left.log (D.disk result.0).history left.acknowledged) }
-    ensures looked { IfSome result.1 (λ left. IsHonest store.disk
-        → AllShownKept (value_of_store store) left.log (D.disk result.0).history left.looked) }
-    ensures queued { IfSome result.1 (λ left. IsWithin left.log.commands (commands_of left.queued)) }
-    ensures sent { IfSome result.1 (λ left. AreAllOf left.queued left.senders) }
-    ensures unmade { IfNone result.1 (D.disk result.0 ≡ store.disk) }
-    ensures made { OnOk result.2 (IsSome result.1) }
-{
     let begun = Instant::now(&rt).ok();
     let begun_at = seconds_since_1970(&rt);
-    let server = Server::new(
-        alloc, listeners, begun, begun_at, options, verifier, reports,
-    );
+    let server = Server::new(alloc, listeners, begun, begun_at, options, reports);
     let (device, left, attended) = with_workload(rt, alloc, store, HOME, &server);
     match attended {
         Ok(_) => (device, left, server.served()),

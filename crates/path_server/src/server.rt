@@ -16,7 +16,6 @@ use hub_readers::READERS;
 use path_hub::{Hub, Notice, Senders, Workload};
 use path_session::SystemNow;
 use sector_dev::Device;
-use seg_check::Verifier;
 use server_front::{
     Door, Ends, LEAST_COMMAND_SEATS, Listener, Listeners, MOST_SESSIONS, Role, Seats, Seldom,
     StatusListener, Stopwatch, Waiting, shares_of,
@@ -44,7 +43,7 @@ const _: () = prove!(MOST_AHEAD == 128);
 /// A server: where its peers arrive, the seats that they take, what each session is answered by,
 /// and what is counted of it.
 #[derive(Drop)]
-pub(crate) struct Server<'a, L, V, O> {
+pub(crate) struct Server<'a, L, O> {
     pub(crate) alloc: Global,
     pub(crate) door: Door<L>,
     /// The seats for the sessions that may have commands.
@@ -55,7 +54,6 @@ pub(crate) struct Server<'a, L, V, O> {
     rooms: Option<Rooms>,
     pub(crate) status: StatusListener<L>,
     pub(crate) options: &'a Options,
-    pub(crate) verifier: &'a V,
     pub(crate) reports: &'a O,
     /// Peers that were turned away because all seats were taken.
     pub(crate) turned_away: Seldom,
@@ -100,7 +98,7 @@ pub(crate) struct Server<'a, L, V, O> {
     pub(crate) shut: AtomicBool,
 }
 
-impl<'a, L: Listener + Drop, V: Verifier, O: Reports> Server<'a, L, V, O> {
+impl<'a, L: Listener + Drop, O: Reports> Server<'a, L, O> {
     /// A server that no peer has come to.
     pub(crate) fn new(
         alloc: Global,
@@ -108,9 +106,8 @@ impl<'a, L: Listener + Drop, V: Verifier, O: Reports> Server<'a, L, V, O> {
         begun: Option<Instant>,
         begun_at: u64,
         options: &'a Options,
-        verifier: &'a V,
         reports: &'a O,
-    ) -> Server<'a, L, V, O> {
+    ) -> Server<'a, L, O> {
         let (entrances, status) = listeners.into_parts();
         let (seats, lookup_seats) = shares_of(entrances.has_lookups(), options.lookup_seats);
         Server {
@@ -121,7 +118,6 @@ impl<'a, L: Listener + Drop, V: Verifier, O: Reports> Server<'a, L, V, O> {
             rooms: rooms_beside(seats, options.spare),
             status: StatusListener::new(status),
             options,
-            verifier,
             reports,
             turned_away: Seldom::new(),
             lookups_turned_away: Seldom::new(),
@@ -234,8 +230,8 @@ impl<'a, L: Listener + Drop, V: Verifier, O: Reports> Server<'a, L, V, O> {
     }
 }
 
-impl<D: Device, R: Wait + Clock, L: Listener + Drop + Send, V: Verifier, O: Reports> Workload<D, R>
-    for Server<'_, L, V, O> {
+impl<D: Device, R: Wait + Clock, L: Listener + Drop + Send, O: Reports> Workload<D, R>
+    for Server<'_, L, O> {
     type Task = Task;
 
     fn next<N: HubName>(&self, hub: &Hub<D, N, R>) -> Option<Task> {

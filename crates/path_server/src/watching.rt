@@ -8,7 +8,6 @@ use crate::server::Server;
 use hub_claims::HubName;
 use path_hub::{Completed, Hub};
 use sector_dev::Device;
-use seg_check::Verifier;
 use server_front::{Cause, Listener, MOST_SESSIONS, Visitor, next_visitor};
 use status_page::{Asked, CallTime, Counts, EndCounts, RefusedCounts};
 use status_server::{ReplyKind, Visits, answer};
@@ -17,7 +16,7 @@ use std::sync::Wait;
 use std::sync::atomic::Ordering;
 use std::time::Clock;
 
-impl<L: Listener + Drop, V: Verifier, O: Reports> Server<'_, L, V, O> {
+impl<L: Listener + Drop, O: Reports> Server<'_, L, O> {
     /// Answers the peers of a listener, until the server is at its end or the listener is broken,
     /// and the visits that are under way then are over.
     pub(crate) fn watch<D: Device, N: HubName, R: Wait + Clock>(

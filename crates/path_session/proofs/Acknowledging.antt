@@ -34,7 +34,7 @@ module _ (opening : StoreValue (List RowView)) where
   Keeps before message None after = after ≡ before
   Keeps before message (Some ack) after = (claim : Claim) × (after ≡ before ++ claim ∷ []) × Acknowledges opening message ack claim
 
-module _ (opening : StoreValue (List RowView)) (refused : Command → Option SubmitError → Bool) where
+module _ (opening : StoreValue (List RowView)) (refused : Command → Option SubmitError → Bool) (shut : Bool) where
   refusal_keeps : (code : ℕ) (old : Serving) (message : MessageView) (reply : ReplyView) (new : Serving) → IsRefusedWithCode code old reply new → Keeps opening old.acknowledged message (ack_in reply) new.acknowledged
   refusal_keeps code old message reply new r = subst (λ (x : ReplyView). Keeps opening old.acknowledged message (ack_in x) new.acknowledged) (sym r.0) (ap (λ (s : Serving). s.acknowledged) r.1)
 
@@ -70,25 +70,25 @@ module _ (opening : StoreValue (List RowView)) (refused : Command → Option Sub
       command_keeps (λ ack. Removed ack) (λ _. refl) (Remove number id) old (command.Remove kind id) reply new (record { kind = kind; read = is; is = refl }) a
   removal_keeps number id old (Err e) is reply new a = refusal_keeps (seg_code e) old (Remove number id) reply new a
 
-  looking_keeps : (body : List ℕ) (old : Serving) (query : QueryView) (reply : ReplyView) (new : Serving) → LooksUp opening old query reply new → Keeps opening old.acknowledged (Lookup body) (ack_in reply) new.acknowledged
+  looking_keeps : (body : List ℕ) (old : Serving) (query : QueryView) (reply : ReplyView) (new : Serving) → LooksUp opening shut old query reply new → Keeps opening old.acknowledged (Lookup body) (ack_in reply) new.acknowledged
   looking_keeps body old query reply new (inl a) = subst (λ (x : ReplyView). Keeps opening old.acknowledged (Lookup body) (ack_in x) new.acknowledged) (sym a.replied) (ap (λ (s : Serving). s.acknowledged) a.looked.kept)
   looking_keeps body old query reply new (inr (inl a)) = subst (λ (x : ReplyView). Keeps opening old.acknowledged (Lookup body) (ack_in x) new.acknowledged) (sym a.refused) (ap (λ (s : Serving). s.acknowledged) a.looked.kept)
   looking_keeps body old query reply new (inr (inr a)) = subst (λ (x : ReplyView). Keeps opening old.acknowledged (Lookup body) (ack_in x) new.acknowledged) (sym a.refused) (ap (λ (s : Serving). s.acknowledged) a.kept)
 
-  query_keeps : (body : List ℕ) (old : Serving) (query : Result QueryView LookupError) (reply : ReplyView) (new : Serving) → AnswersQuery opening old query reply new → Keeps opening old.acknowledged (Lookup body) (ack_in reply) new.acknowledged
+  query_keeps : (body : List ℕ) (old : Serving) (query : Result QueryView LookupError) (reply : ReplyView) (new : Serving) → AnswersQuery opening shut old query reply new → Keeps opening old.acknowledged (Lookup body) (ack_in reply) new.acknowledged
   query_keeps body old (Ok query) reply new a = looking_keeps body (at_moment old new.moment) query reply new a
   query_keeps body old (Err e) reply new a = refusal_keeps (lookup_code e) old (Lookup body) reply new a
 
-  lookup_keeps : (body : List ℕ) (old : Serving) (read : Result (ℕ × ℕ) SegError) (reply : ReplyView) (new : Serving) → AnswersLookup opening old read reply new → Keeps opening old.acknowledged (Lookup body) (ack_in reply) new.acknowledged
+  lookup_keeps : (body : List ℕ) (old : Serving) (read : Result (ℕ × ℕ) SegError) (reply : ReplyView) (new : Serving) → AnswersLookup opening shut old read reply new → Keeps opening old.acknowledged (Lookup body) (ack_in reply) new.acknowledged
   lookup_keeps body old (Ok ends) reply new a = query_keeps body old (query_of old.roster ends.0 ends.1) reply new a
   lookup_keeps body old (Err e) reply new a = refusal_keeps (seg_code e) old (Lookup body) reply new a
 
-  page_keeps : (request : ListRequest) (old : Serving) (query : QueryView) (after : Option (List ℕ)) (reply : ReplyView) (new : Serving) → ShowsPage opening old query after reply new → Keeps opening old.acknowledged (message.List request) (ack_in reply) new.acknowledged
+  page_keeps : (request : ListRequest) (old : Serving) (query : QueryView) (after : Option (List ℕ)) (reply : ReplyView) (new : Serving) → ShowsPage opening shut old query after reply new → Keeps opening old.acknowledged (message.List request) (ack_in reply) new.acknowledged
   page_keeps request old query after reply new (inl a) = subst (λ (x : ReplyView). Keeps opening old.acknowledged (message.List request) (ack_in x) new.acknowledged) (sym a.replied) (ap (λ (s : Serving). s.acknowledged) a.looked.kept)
   page_keeps request old query after reply new (inr (inl a)) = subst (λ (x : ReplyView). Keeps opening old.acknowledged (message.List request) (ack_in x) new.acknowledged) (sym a.refused) (ap (λ (s : Serving). s.acknowledged) a.looked.kept)
   page_keeps request old query after reply new (inr (inr a)) = subst (λ (x : ReplyView). Keeps opening old.acknowledged (message.List request) (ack_in x) new.acknowledged) (sym a.refused) (ap (λ (s : Serving). s.acknowledged) a.kept)
 
-  list_keeps : (request : ListRequest) (old : Serving) (read : Result SegType SegError) (reply : ReplyView) (new : Serving) → AnswersList opening old request read reply new → Keeps opening old.acknowledged (message.List request) (ack_in reply) new.acknowledged
+  list_keeps : (request : ListRequest) (old : Serving) (read : Result SegType SegError) (reply : ReplyView) (new : Serving) → AnswersList opening shut old request read reply new → Keeps opening old.acknowledged (message.List request) (ack_in reply) new.acknowledged
   list_keeps request old (Ok kind) reply new a = page_keeps request (at_moment old new.moment) (record { kind = kind; start = request.start; end = request.end }) request.after reply new a
   list_keeps request old (Err e) reply new a = refusal_keeps (seg_code e) old (message.List request) reply new a
 
@@ -100,7 +100,7 @@ module _ (opening : StoreValue (List RowView)) (refused : Command → Option Sub
   memory_keeps old (message.List request) reply new a = absurd a
 
   -- one message
-  pub answer_keeps : (old : Serving) (message : MessageView) (reply : ReplyView) (new : Serving) → HubAnswers opening refused old message reply new → Keeps opening old.acknowledged message (ack_in reply) new.acknowledged
+  pub answer_keeps : (old : Serving) (message : MessageView) (reply : ReplyView) (new : Serving) → HubAnswers opening refused shut old message reply new → Keeps opening old.acknowledged message (ack_in reply) new.acknowledged
   unfolding IsAnswered
   answer_keeps old message reply new (inl a) = memory_keeps old message reply new a
   answer_keeps old (Register body) reply new (inr a) = registration_keeps body old (registration_decoding body) refl reply new a

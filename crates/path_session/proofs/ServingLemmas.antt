@@ -102,11 +102,11 @@ is_memory seg.Entries = inr (λ is. (cc))
 is_memory seg.BadType = inr (λ is. (cc))
 is_memory seg.TooLarge = inr (λ is. (cc))
 
-module _ (opening : StoreValue (List RowView)) (refused : Command → Option SubmitError → Bool) (old : Serving) where
+module _ (opening : StoreValue (List RowView)) (refused : Command → Option SubmitError → Bool) (shut : Bool) (old : Serving) where
   registration_answered : (body : List ℕ) (rows : List RowView) (moment : ℕ) (result : Result Ack Refusal) (new : Serving)
       → registration_decoding body ≡ Ok rows → first_refusal old.verifies moment rows ≡ None
       → IsCommandAnswered opening refused (at_moment old moment) (command.Register rows) result new
-      → HubAnswers opening refused old (Register body) (reply_to_command (λ ack. Registered ack) result) new
+      → HubAnswers opening refused shut old (Register body) (reply_to_command (λ ack. Registered ack) result) new
   unfolding IsAnswered
   registration_answered body rows moment result new is accepted took =
       let reply = reply_to_command (λ (ack : Ack). Registered ack) result in
@@ -118,7 +118,7 @@ module _ (opening : StoreValue (List RowView)) (refused : Command → Option Sub
 
   removal_answered : (kind : ℕ) (id : List ℕ) (of_type : SegType) (result : Result Ack Refusal) (new : Serving)
       → type_of kind ≡ Ok of_type → IsCommandAnswered opening refused old (command.Remove of_type id) result new
-      → HubAnswers opening refused old (Remove kind id) (reply_to_command (λ ack. Removed ack) result) new
+      → HubAnswers opening refused shut old (Remove kind id) (reply_to_command (λ ack. Removed ack) result) new
   unfolding IsAnswered
   removal_answered kind id of_type result new is took =
       let reply = reply_to_command (λ (ack : Ack). Removed ack) result in
@@ -126,7 +126,7 @@ module _ (opening : StoreValue (List RowView)) (refused : Command → Option Sub
       inr (subst (λ (read : Result SegType SegError). AnswersRemoval opening refused old id read reply new) (sym is) answered)
 
   purge_answered : (moment : ℕ) (result : Result Ack Refusal) (new : Serving)
-      → IsCommandAnswered opening refused old (command.Purge moment) result new → HubAnswers opening refused old (Purge moment) (reply_to_command (λ ack. Purged ack) result) new
+      → IsCommandAnswered opening refused old (command.Purge moment) result new → HubAnswers opening refused shut old (Purge moment) (reply_to_command (λ ack. Purged ack) result) new
   unfolding IsAnswered
   purge_answered moment result new took = inr (command_answered opening refused (λ ack. Purged ack) old (command.Purge moment) result new took)
 
@@ -134,11 +134,11 @@ module _ (opening : StoreValue (List RowView)) (refused : Command → Option Sub
 
   -- the reply is a refusal
   abbrev HasRefused : (Ack → ReplyView) → MessageView → Refusal → Serving → Type 0
-  HasRefused taken message refusal new = HubAnswers opening refused old message (reply_to_command taken (Err refusal)) new
+  HasRefused taken message refusal new = HubAnswers opening refused shut old message (reply_to_command taken (Err refusal)) new
 
   -- the segments of a registration were judged so at the moment
   judged_so : (body : List ℕ) (rows : List RowView) (moment : ℕ) (judged : Option CheckError) (reply : ReplyView) → registration_decoding body ≡ Ok rows → first_refusal old.verifies moment rows ≡ judged
-      → AnswersChecked opening refused (at_moment old moment) rows judged reply (at_moment old moment) → HubAnswers opening refused old (Register body) reply (at_moment old moment)
+      → AnswersChecked opening refused (at_moment old moment) rows judged reply (at_moment old moment) → HubAnswers opening refused shut old (Register body) reply (at_moment old moment)
   unfolding IsAnswered
   judged_so body rows moment judged reply is so answered =
       let checked = subst (λ (j : Option CheckError). AnswersChecked opening refused (at_moment old moment) rows j reply (at_moment old moment)) (sym so) answered in
@@ -190,7 +190,7 @@ module _ (opening : StoreValue (List RowView)) (refused : Command → Option Sub
   purge_refused until refusal.NoCommands known = absurd known
 
   -- the type of a removal was read
-  read_so : (number : ℕ) (id : List ℕ) (read : Result SegType SegError) (reply : ReplyView) → type_of number ≡ read → AnswersRemoval opening refused old id read reply old → HubAnswers opening refused old (Remove number id) reply old
+  read_so : (number : ℕ) (id : List ℕ) (read : Result SegType SegError) (reply : ReplyView) → type_of number ≡ read → AnswersRemoval opening refused old id read reply old → HubAnswers opening refused shut old (Remove number id) reply old
   unfolding IsAnswered
   read_so number id read reply is answered = inr (subst (λ (r : Result SegType SegError). AnswersRemoval opening refused old id r reply old) (sym is) answered)
 
@@ -211,13 +211,13 @@ module _ (opening : StoreValue (List RowView)) (refused : Command → Option Sub
 
   -- a refusal is answered as it is
   as_it_is : (taken : Ack → ReplyView) (message : MessageView) (refusal : Refusal) (from new : Serving) (result : Result Ack Refusal) → HasRefused taken message refusal from → (result ≡ Err refusal) × (new ≡ from)
-      → HubAnswers opening refused old message (reply_to_command taken result) new
+      → HubAnswers opening refused shut old message (reply_to_command taken result) new
   as_it_is taken message refusal from new result before answered =
-      let told = subst (λ (r : Result Ack Refusal). HubAnswers opening refused old message (reply_to_command taken r) from) (sym answered.0) before in
-      subst (λ (s : Serving). HubAnswers opening refused old message (reply_to_command taken result) s) (sym answered.1) told
+      let told = subst (λ (r : Result Ack Refusal). HubAnswers opening refused shut old message (reply_to_command taken r) from) (sym answered.0) before in
+      subst (λ (s : Serving). HubAnswers opening refused shut old message (reply_to_command taken result) s) (sym answered.1) told
 
   registration_settled : (body : List ℕ) (moment : Option ℕ) (handed : Result Command Refusal) (result : Result Ack Refusal) (new : Serving) → IsForRegistration refused old.verifies body moment handed
-      → AnswersTaken opening refused (after_check old moment) handed result new → HubAnswers opening refused old (Register body) (reply_to_command (λ ack. Registered ack) result) new
+      → AnswersTaken opening refused (after_check old moment) handed result new → HubAnswers opening refused shut old (Register body) (reply_to_command (λ ack. Registered ack) result) new
   registration_settled body (Some moment) (Ok c) result new known answered =
       registration_answered body known.rows moment result new known.read known.checked.0 (subst (λ (d : Command). IsCommandAnswered opening refused (at_moment old moment) d result new) known.checked.1 answered)
   registration_settled body (Some moment) (Err refusal) result new known answered =
@@ -227,12 +227,12 @@ module _ (opening : StoreValue (List RowView)) (refused : Command → Option Sub
       as_it_is (λ ack. Registered ack) (Register body) refusal old new result (unread_refused body refusal known) answered
 
   purge_settled : (until : ℕ) (handed : Result Command Refusal) (result : Result Ack Refusal) (new : Serving) → IsForPurge refused until handed
-      → AnswersTaken opening refused old handed result new → HubAnswers opening refused old (Purge until) (reply_to_command (λ ack. Purged ack) result) new
+      → AnswersTaken opening refused old handed result new → HubAnswers opening refused shut old (Purge until) (reply_to_command (λ ack. Purged ack) result) new
   purge_settled until (Ok c) result new known answered = purge_answered until result new (subst (λ (d : Command). IsCommandAnswered opening refused old d result new) known answered)
   purge_settled until (Err refusal) result new known answered = as_it_is (λ ack. Purged ack) (Purge until) refusal old new result (purge_refused until refusal known) answered
 
   removal_settled : (number : ℕ) (id : List ℕ) (handed : Result Command Refusal) (result : Result Ack Refusal) (new : Serving) → IsForRemoval refused number id handed
-      → AnswersTaken opening refused old handed result new → HubAnswers opening refused old (Remove number id) (reply_to_command (λ ack. Removed ack) result) new
+      → AnswersTaken opening refused old handed result new → HubAnswers opening refused shut old (Remove number id) (reply_to_command (λ ack. Removed ack) result) new
   removal_settled number id (Ok c) result new known answered =
       removal_answered number id known.0 result new known.1 (subst (λ (d : Command). IsCommandAnswered opening refused old d result new) known.2 answered)
   removal_settled number id (Err refusal) result new known answered = as_it_is (λ ack. Removed ack) (Remove number id) refusal old new result (removal_refused number id refusal known) answered
@@ -240,7 +240,7 @@ module _ (opening : StoreValue (List RowView)) (refused : Command → Option Sub
   -- what was taken is answered as its message
   settled : {N : Type 0} → (under_way : HubUnderWay N) (message : MessageView) (result : Result Ack Refusal) (new : Serving) → IsFor refused old.verifies under_way message
       → AnswersTaken opening refused (after_check old under_way.moment) under_way.handed result new
-      → (kind : CommandKind) → command_kind message ≡ Some kind → HubAnswers opening refused old message (reply_to_command (reply_with kind) result) new
+      → (kind : CommandKind) → command_kind message ≡ Some kind → HubAnswers opening refused shut old message (reply_to_command (reply_with kind) result) new
   settled under_way (Register body) result new known answered kind.Register is = registration_settled body under_way.moment under_way.handed result new known answered
   settled under_way (Register body) result new known answered kind.Purge is = absurd (cc)
   settled under_way (Register body) result new known answered kind.Remove is = absurd (cc)
@@ -259,9 +259,9 @@ module _ (opening : StoreValue (List RowView)) (refused : Command → Option Sub
   pub settled_coded : {N : Type 0} → (under_way : HubUnderWay N) (message : MessageView) (kind : CommandKind) (result : Result Ack Refusal) (coded : Result Ack Code) (new : Serving)
       → IsFor refused old.verifies under_way message → command_kind message ≡ Some kind
       → AnswersTaken opening refused (after_check old under_way.moment) under_way.handed result new
-      → reply_to_kind (λ (ack : Ack). ack) kind coded ≡ reply_to_command (reply_with kind) result → HubAnswers opening refused old message (reply_to_kind (λ (ack : Ack). ack) kind coded) new
+      → reply_to_kind (λ (ack : Ack). ack) kind coded ≡ reply_to_command (reply_with kind) result → HubAnswers opening refused shut old message (reply_to_kind (λ (ack : Ack). ack) kind coded) new
   settled_coded under_way message k result coded new known of_kind answered is =
-      subst (λ (reply : ReplyView). HubAnswers opening refused old message reply new) (sym is) (settled under_way message result new known answered k of_kind)
+      subst (λ (reply : ReplyView). HubAnswers opening refused shut old message reply new) (sym is) (settled under_way message result new known answered k of_kind)
 
 -- the verdicts do not change
 pub verdicts_stay : (opening : StoreValue (List RowView)) (refused : Command → Option SubmitError → Bool) (old new : Serving) (handed : Result Command Refusal) (result : Result Ack Refusal) (moment : Option ℕ) → AnswersTaken opening refused (after_check old moment) handed result new → new.verifies ≡ old.verifies

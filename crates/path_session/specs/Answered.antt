@@ -146,15 +146,20 @@ module _ (opening : StoreValue (List RowView)) where
     pub some : 1 ≤ length (found_after new.groups query new.moment)
     pub refused : reply ≡ Refused memory_code
 
-  -- The reader was shown nothing.
+-- At a hub that opened with this value. Where `shut` is true, it is known that a reader's seat was not
+-- let in to what is published.
+module _ (opening : StoreValue (List RowView)) (shut : Bool) where
+  -- The reader was shown nothing: its seat was not let in, or what is published is older than what
+  -- the service has seen.
   pub record LacksReader (old : Serving) (reply : ReplyView) (new : Serving) : Type 0 where
     pub kept : new ≡ record old { groups = new.groups }
     pub later : IsPrefix old.groups new.groups
+    pub unshown : ((shut ≡ true) × (new.groups ≡ old.groups)) ⊎ (place_after opening new.groups < old.seen)
     pub refused : reply ≡ Refused reader_code
 
   -- A lookup is answered with segments, or refused for memory or for a reader.
   abbrev pub LooksUp : Serving → QueryView → ReplyView → Serving → Type 0
-  LooksUp old query reply new = RepliesWithSegments old query reply new ⊎ (LacksMemory old query reply new ⊎ LacksReader old reply new)
+  LooksUp old query reply new = RepliesWithSegments opening old query reply new ⊎ (LacksMemory opening old query reply new ⊎ LacksReader old reply new)
 
   -- The clock is asked for a lookup that was classified, and the lookup is answered at the moment
   -- that the clock gave.
@@ -191,9 +196,10 @@ module _ (opening : StoreValue (List RowView)) where
     pub some : 1 ≤ length (page_of new.groups query after new.moment)
     pub refused : reply ≡ Refused memory_code
 
+module _ (opening : StoreValue (List RowView)) (shut : Bool) where
   -- A query is answered with a page, or refused for memory or for a reader.
   abbrev pub ShowsPage : Serving → QueryView → Option (List ℕ) → ReplyView → Serving → Type 0
-  ShowsPage old query after reply new = RepliesWithPage old query after reply new ⊎ (LacksPageMemory old query after reply new ⊎ LacksReader opening old reply new)
+  ShowsPage old query after reply new = RepliesWithPage opening old query after reply new ⊎ (LacksPageMemory opening old query after reply new ⊎ LacksReader opening shut old reply new)
 
   -- The clock is asked for a list whose type was read, and the list is answered at the moment that
   -- the clock gave.
@@ -209,17 +215,17 @@ abbrev pub RegistrationLacksMemory : Serving → MessageView → ReplyView → S
 RegistrationLacksMemory old (Register body) reply new = IsRefusedWithCode memory_code old reply new × IsOk (registration_outline body)
 RegistrationLacksMemory old _ reply new = ⊥
 
--- At a hub that opened with this value, and of whose commands it is known for which reasons they
--- were refused.
-module _ (opening : StoreValue (List RowView)) (refused : Command → Option SubmitError → Bool) where
+-- At a hub that opened with this value. It is known for which reasons its commands were refused, and
+-- whether a reader's seat was not let in.
+module _ (opening : StoreValue (List RowView)) (refused : Command → Option SubmitError → Bool) (shut : Bool) where
   -- One message is read, checked or classified, and passed to the hub. The first refusal is the
   -- reply.
   unfoldable pub IsAnswered : Serving → MessageView → ReplyView → Serving → Type 0
   IsAnswered old (Register body) reply new = AnswersRegistration opening refused old (registration_decoding body) reply new
-  IsAnswered old (Lookup body) reply new = AnswersLookup opening old (request_decoding body) reply new
+  IsAnswered old (Lookup body) reply new = AnswersLookup opening shut old (request_decoding body) reply new
   IsAnswered old (Purge moment) reply new = AnswersCommand opening refused Purged old (command.Purge moment) reply new
   IsAnswered old (Remove kind id) reply new = AnswersRemoval opening refused old id (type_of kind) reply new
-  IsAnswered old (message.List request) reply new = AnswersList opening old request (type_of request.kind) reply new
+  IsAnswered old (message.List request) reply new = AnswersList opening shut old request (type_of request.kind) reply new
 
   -- What a service over the hub may answer to a message, and what the service is then.
   abbrev pub HubAnswers : Serving → MessageView → ReplyView → Serving → Type 0

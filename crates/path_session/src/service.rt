@@ -27,7 +27,7 @@ use hub_claims::{HubClaim, HubName, Waiter};
 use hub_readers::{HubReader, Look};
 use isd_as::IsdAs;
 use path_db::{Command, Registration};
-use path_hub::{Hub, LoggedList, Sender};
+use path_hub::{EndedSender, Hub, LoggedList, Sender};
 use reply_codes::Refusal;
 use sector_dev::Device;
 use seg_check::{Verifier, check_all};
@@ -101,7 +101,7 @@ impl<'a, D: Device, N: HubName, R: Wait + Clock, V: Verifier, C: Now, P: Waiter>
     }
 
     /// Ends the service, and returns its reader. The claims of the commands that were acknowledged,
-    /// and what was shown last, are handed in to the hub.
+    /// what was shown last, and who has handed in the commands, are handed in to the hub.
     pub fn into_reader(self) -> HubReader<N>
     where
         C: Drop,
@@ -110,16 +110,17 @@ impl<'a, D: Device, N: HubName, R: Wait + Clock, V: Verifier, C: Now, P: Waiter>
         ensures seen { result.seen ≡ (serving V.verifies P.has_left self.entry).seen }
     {
         let hub = self.hub;
-        let (reader, claims, look) = self.into_parts();
+        let (reader, claims, look, sender) = self.into_parts();
         hub.keep_acknowledged(claims);
+        hub.keep_sender(sender);
         hub.keep_look(look);
         reader
     }
 
     /// Ends the service, and returns its reader, the claims of all commands that were acknowledged,
-    /// and all commands after which the last lookup or list was answered. Who handed in its
-    /// commands is given back to the hub.
-    pub fn into_parts(self) -> (HubReader<N>, LoggedList<N>, Look<N>)
+    /// all commands after which the last lookup or list was answered, and who has handed in its
+    /// commands.
+    pub fn into_parts(self) -> (HubReader<N>, LoggedList<N>, Look<N>, EndedSender<N>)
     where
         C: Drop,
         P: Drop,
@@ -127,9 +128,10 @@ impl<'a, D: Device, N: HubName, R: Wait + Clock, V: Verifier, C: Now, P: Waiter>
         ensures seen { result.0.seen ≡ (serving V.verifies P.has_left self.entry).seen }
         ensures acknowledged { result.1 ≡ (serving V.verifies P.has_left self.entry).acknowledged }
         ensures looked { result.2 ≡ all_of (serving V.verifies P.has_left self.entry).groups }
+        ensures sent { result.3.sender ≡ self.entry.sender }
     {
         let HubService {
-            hub,
+            hub: _,
             reader,
             verifier: _,
             clock: _clock,
@@ -139,9 +141,8 @@ impl<'a, D: Device, N: HubName, R: Wait + Clock, V: Verifier, C: Now, P: Waiter>
             acknowledged,
             sender,
         } = self;
-        hub.keep_sender(sender.end());
         let look = reader.last_look();
-        (reader, acknowledged, look)
+        (reader, acknowledged, look, sender.end())
     }
 
     // ---- taking messages
@@ -272,7 +273,7 @@ impl<'a, D: Device, N: HubName, R: Wait + Clock, V: Verifier, C: Now, P: Waiter>
     /// The segments that a request asks for, of one type.
     #[tactic(auto, unfolding(crate::specs::Answered::IsAnswered))]
     fn find(&mut self, message: &[u8]) -> Result<(SegType, Vec<Segment>), Refusal>
-        ensures answers { HubAnswers N.opening N.refused (serving V.verifies P.has_left self.old)
+        ensures answers { HubAnswers N.opening N.refused N.shut (serving V.verifies P.has_left self.old)
             (Lookup message.now) (reply_to_query result) (serving V.verifies P.has_left self.new) }
         ensures few { IfOk result (λ found. length found.1.items ≤ MOST_SEGMENTS) }
         ensures whole { IfOk result (λ found. AllByRecursion IsSegment found.1.items) }
@@ -290,7 +291,7 @@ impl<'a, D: Device, N: HubName, R: Wait + Clock, V: Verifier, C: Now, P: Waiter>
     /// The page that a list asks for, of segments of one type.
     #[tactic(auto, unfolding(crate::specs::Answered::IsAnswered))]
     fn find_page(&mut self, request: &ListRequest) -> Result<Listing, Refusal>
-        ensures answers { HubAnswers N.opening N.refused (serving V.verifies P.has_left self.old)
+        ensures answers { HubAnswers N.opening N.refused N.shut (serving V.verifies P.has_left self.old)
             (List request.now) (reply_to_page result) (serving V.verifies P.has_left self.new) }
         ensures few { IfOk result (λ listing. length listing.segments.items ≤ MOST_SEGMENTS) }
         ensures whole { IfOk result (λ listing. AllByRecursion IsSegment listing.segments.items) }
@@ -336,7 +337,7 @@ impl<D: Device, N: HubName, R: Wait + Clock, V: Verifier, C: Now, P: Waiter> Ser
 
     ghost state = { serving V.verifies P.has_left };
 
-    ghost answers = { HubAnswers N.opening N.refused };
+    ghost answers = { HubAnswers N.opening N.refused N.shut };
 
     ghost is_for = { λ service under_way message. IsFor N.refused service.verifies under_way message };
 
@@ -347,7 +348,7 @@ impl<D: Device, N: HubName, R: Wait + Clock, V: Verifier, C: Now, P: Waiter> Ser
     ghost hands_in = { λ old message new. HandsInAtMost message old new };
 
     fn register(&mut self, alloc: Global, message: &[u8]) -> Result<HubAck<N>, Code>
-        ensures answers { HubAnswers N.opening N.refused (serving V.verifies P.has_left self.old)
+        ensures answers { HubAnswers N.opening N.refused N.shut (serving V.verifies P.has_left self.old)
             (Register message.now) (reply_to_register (λ ack. ack) result) (serving V.verifies P.has_left self.new) }
         ensures sent { HandsInAtMost (Register message.now) self.old.sender self.new.sender }
     {
@@ -356,7 +357,7 @@ impl<D: Device, N: HubName, R: Wait + Clock, V: Verifier, C: Now, P: Waiter> Ser
     }
 
     fn lookup(&mut self, _alloc: Global, message: &[u8]) -> Result<(SegType, Vec<Segment>), Code>
-        ensures answers { HubAnswers N.opening N.refused (serving V.verifies P.has_left self.old)
+        ensures answers { HubAnswers N.opening N.refused N.shut (serving V.verifies P.has_left self.old)
             (Lookup message.now) (reply_to_lookup result) (serving V.verifies P.has_left self.new) }
         ensures few { IfOk result (λ found. length found.1.items ≤ MOST_SEGMENTS) }
         ensures whole { IfOk result (λ found. AllByRecursion IsSegment found.1.items) }
@@ -367,7 +368,7 @@ impl<D: Device, N: HubName, R: Wait + Clock, V: Verifier, C: Now, P: Waiter> Ser
     }
 
     fn list(&mut self, _alloc: Global, request: &ListRequest) -> Result<Listing, Code>
-        ensures answers { HubAnswers N.opening N.refused (serving V.verifies P.has_left self.old)
+        ensures answers { HubAnswers N.opening N.refused N.shut (serving V.verifies P.has_left self.old)
             (List request.now) (reply_to_list result) (serving V.verifies P.has_left self.new) }
         ensures few { IfOk result (λ listing. length listing.segments.items ≤ MOST_SEGMENTS) }
         ensures whole { IfOk result (λ listing. AllByRecursion IsSegment listing.segments.items) }
@@ -378,7 +379,7 @@ impl<D: Device, N: HubName, R: Wait + Clock, V: Verifier, C: Now, P: Waiter> Ser
     }
 
     fn purge(&mut self, moment: u64) -> Result<HubAck<N>, Code>
-        ensures answers { HubAnswers N.opening N.refused (serving V.verifies P.has_left self.old)
+        ensures answers { HubAnswers N.opening N.refused N.shut (serving V.verifies P.has_left self.old)
             (Purge moment) (reply_to_purge (λ ack. ack) result) (serving V.verifies P.has_left self.new) }
         ensures sent { HandsInAtMost (Purge moment) self.old.sender self.new.sender }
     {
@@ -387,7 +388,7 @@ impl<D: Device, N: HubName, R: Wait + Clock, V: Verifier, C: Now, P: Waiter> Ser
     }
 
     fn remove(&mut self, kind: u8, id: &[u8; 32]) -> Result<HubAck<N>, Code>
-        ensures answers { HubAnswers N.opening N.refused (serving V.verifies P.has_left self.old)
+        ensures answers { HubAnswers N.opening N.refused N.shut (serving V.verifies P.has_left self.old)
             (Remove kind id.now) (reply_to_remove (λ ack. ack) result) (serving V.verifies P.has_left self.new) }
         ensures sent { HandsInAtMost (Remove kind id.now) self.old.sender self.new.sender }
     {
@@ -416,7 +417,7 @@ impl<D: Device, N: HubName, R: Wait + Clock, V: Verifier, C: Now, P: Waiter> Ser
     fn settle(&mut self, under_way: HubUnderWay<N>) -> Result<HubAck<N>, Code>
         ensures answers { (message : MessageView) (kind : CommandKind) → IsFor N.refused (serving V.verifies P.has_left self.old).verifies under_way message
             → command_kind message ≡ Some kind
-            → HubAnswers N.opening N.refused (serving V.verifies P.has_left self.old)
+            → HubAnswers N.opening N.refused N.shut (serving V.verifies P.has_left self.old)
             message (reply_to_kind (λ ack. ack) kind result) (serving V.verifies P.has_left self.new) }
         ensures others { (other : UnderWayValue N) (message : MessageView) → IsFor N.refused (serving V.verifies P.has_left self.old).verifies other message
             → IsFor N.refused (serving V.verifies P.has_left self.new).verifies other message }

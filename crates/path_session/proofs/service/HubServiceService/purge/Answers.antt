@@ -17,6 +17,6 @@ returns g c =
     let new = serving g.V.Verifier.verifies g.P.Waiter.has_left c.settle.new.self in
     let handed = purge_sent g.N.QueueName.refused c.args.self.now.sender c.take_purge-under_way.new.self.sender c.args.moment c.take_purge-under_way.result.handed taken.known taken.sent in
     record {
-      answers = subst (λ (old : Serving). HubAnswers g.N.StateName.opening g.N.QueueName.refused old (Purge c.args.moment) (reply_to_purge (λ (ack : Ack). ack) c.settle.result) new) taken.same (c.settle.ensures.answers (Purge c.args.moment) kind.Purge (taken.moment, taken.known) refl);
+      answers = subst (λ (old : Serving). HubAnswers g.N.StateName.opening g.N.QueueName.refused g.N.ReaderName.shut old (Purge c.args.moment) (reply_to_purge (λ (ack : Ack). ack) c.settle.result) new) taken.same (c.settle.ensures.answers (Purge c.args.moment) kind.Purge (taken.moment, taken.known) refl);
       sent = subst (λ (s : Handed). HandsInAtMost (Purge c.args.moment) c.args.self.now.sender s) (sym c.settle.ensures.sent) handed;
     }

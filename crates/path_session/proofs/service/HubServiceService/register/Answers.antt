@@ -19,7 +19,7 @@ returns g c =
     let under_way = c.take_registration-under_way.result in
     let handed = registration_sent g.N.QueueName.refused c.args.self.now.sender after.sender (g.V.Verifier.verifies after.verifier.now) c.args.message.now under_way.moment under_way.handed taken.known taken.sent in
     record {
-      answers = subst (λ (old : Serving). HubAnswers g.N.StateName.opening g.N.QueueName.refused old (Register c.args.message.now) (reply_to_register (λ (ack : Ack). ack) c.settle.result) new) taken.same
+      answers = subst (λ (old : Serving). HubAnswers g.N.StateName.opening g.N.QueueName.refused g.N.ReaderName.shut old (Register c.args.message.now) (reply_to_register (λ (ack : Ack). ack) c.settle.result) new) taken.same
           (c.settle.ensures.answers (Register c.args.message.now) kind.Register taken.known refl);
       sent = subst (λ (s : Handed). HandsInAtMost (Register c.args.message.now) c.args.self.now.sender s) (sym c.settle.ensures.sent) handed;
     }

@@ -17,7 +17,7 @@ returns g c =
     let new = serving g.V.Verifier.verifies g.P.Waiter.has_left c.settle.new.self in
     let handed = removal_sent g.N.QueueName.refused c.args.self.now.sender c.take_removal-under_way.new.self.sender c.args.kind c.args.id.now c.take_removal-under_way.result.handed taken.known taken.sent in
     record {
-      answers = subst (λ (old : Serving). HubAnswers g.N.StateName.opening g.N.QueueName.refused old (Remove c.args.kind c.args.id.now) (reply_to_remove (λ (ack : Ack). ack) c.settle.result) new) taken.same
+      answers = subst (λ (old : Serving). HubAnswers g.N.StateName.opening g.N.QueueName.refused g.N.ReaderName.shut old (Remove c.args.kind c.args.id.now) (reply_to_remove (λ (ack : Ack). ack) c.settle.result) new) taken.same
           (c.settle.ensures.answers (Remove c.args.kind c.args.id.now) kind.Remove (taken.moment, taken.known) refl);
       sent = subst (λ (s : Handed). HandsInAtMost (Remove c.args.kind c.args.id.now) c.args.self.now.sender s) (sym c.settle.ensures.sent) handed;
     }

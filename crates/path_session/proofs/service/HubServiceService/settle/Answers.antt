@@ -11,7 +11,7 @@ returns g c =
     let new = serving g.V.Verifier.verifies g.P.Waiter.has_left c.answer.new.self in
     let taken = c.args.under_way in
     record {
-      answers = λ message kind known of_kind. settled_coded g.N.StateName.opening g.N.QueueName.refused old taken message kind c.answer.result c.coded.result new known of_kind c.answer.ensures.answered (c.coded.ensures kind);
+      answers = λ message kind known of_kind. settled_coded g.N.StateName.opening g.N.QueueName.refused g.N.ReaderName.shut old taken message kind c.answer.result c.coded.result new known of_kind c.answer.ensures.answered (c.coded.ensures kind);
       others = λ other message known. subst (λ (verifies : Verdicts). IsFor g.N.QueueName.refused verifies other message) (sym (verdicts_stay g.N.StateName.opening g.N.QueueName.refused old new taken.handed c.answer.result taken.moment c.answer.ensures.answered)) known;
       sent = c.answer.ensures.sent;
     }
