@@ -17,6 +17,7 @@ search proves that goal or isn't asked; and a `requires` of a callee.
 """
 from __future__ import annotations
 
+import fcntl
 import hashlib
 import importlib.machinery
 import importlib.util
@@ -371,7 +372,10 @@ def without_answers(crate, texts: dict, misfits: list[Refusal]) -> dict:
     made = dict(texts)
     for it in misfits:
         path = f"proofs/{it.function.replace('::', '/')}/Answers.antt"
-        made[path] = without(made.get(path) or (Path(crate.folder) / path).read_text(), it.goal)
+        kept = Path(crate.folder) / path
+        # A function that the edit adds has no answers.
+        if path in made or kept.is_file():
+            made[path] = without(made.get(path) or kept.read_text(), it.goal)
     return made
 
 
@@ -523,5 +527,13 @@ def main(words: list[str]) -> int:
     if asked.judge:
         chosen = [it for it in chosen if kept_at(it).is_file()]
         return not all([show(it, judge(it, ran), ran) for it in chosen for ran in [json.loads(kept_at(it).read_text())]])
+    # Two runs that lay out the libraries of one checkout at a time would lose what is kept of them.
+    with (TOP / "crates.txt").open() as own:
+        fcntl.flock(own, fcntl.LOCK_EX)
+        return try_all(chosen)
+
+
+def try_all(chosen: list[Edit]) -> int:
+    """Tries edits, those of one crate after those of another."""
     rt = load_rt()
     return not all([try_edits(rt, [it for it in chosen if it.crate == name]) for name in dict.fromkeys(it.crate for it in chosen)])
