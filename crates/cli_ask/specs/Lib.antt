@@ -3,4 +3,7 @@ pub mod Lines
 pub mod Faults
 pub mod Steps
 pub mod Registering
+pub mod Talk
 pub mod Pages
+pub mod Purging
+pub mod Said

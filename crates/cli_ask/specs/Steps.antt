@@ -1,5 +1,5 @@
 -- The steps of a purge: whether there are any, how far each one goes, and what all of them did.
-use Rattle.std.specs.Prelude.{◌≡◌, ℕ, ◌+◌, ◌*◌, ◌-◌, ◌/◌, ◌^◌, ◌≤◌, ◌⊎◌, Option, None, Some, if◌then◌else◌, nat_lt, min, max}
+use Rattle.std.specs.Prelude.{ℕ, ◌+◌, ◌*◌, ◌-◌, ◌/◌, ◌^◌, ◌≤◌, ◌⊎◌, Option, None, Some, if◌then◌else◌, nat_lt, min, max}
 use Rattle.session_core.specs.declared.service.Ack.{Ack}
 use Rattle.cli_ask.specs.declared.question.Question.{Question}
 use Rattle.cli_ask.specs.declared.question.Question.TheVariants as question
@@ -39,12 +39,6 @@ total_of before last = record {
 abbrev pub total_with : Option Ack → Ack → Ack
 total_with None last = last
 total_with (Some before) last = total_of before last
-
--- The acknowledgement of a step, which has dropped this many, was added to the total.
-pub record HasAdded (old new : Option Ack) (dropped : ℕ) : Type 0 where
-  pub last : Ack
-  pub total : new ≡ Some (total_with old last)
-  pub purged : dropped ≡ last.outcome.purged
 
 -- One of the sums has more than 32 bits.
 abbrev pub TooMany : Ack → Ack → Type 0

@@ -1,5 +1,16 @@
 //! Questions, and what is printed of their answers.
 
+ghost use Rattle.std.specs.Prelude.{◌≡◌, None, Some, IfErr, IfOk, OnOk};
+ghost use Rattle.isd_as.specs.IsdAs.{isd_as_number};
+ghost use Rattle.seg_core.specs.Registration.{type_number};
+ghost use Rattle.session_core.specs.Front.{message_at};
+ghost use Rattle.session_core.specs.Reply.{Removed};
+ghost use Rattle.session_core.specs.ReplyViews.{reply_view};
+ghost use Rattle.session_core.specs.declared.message.Message.TheVariants as message;
+ghost use Rattle.cli_ask.specs.Requests.{request_encoding};
+ghost use Rattle.cli_ask.specs.Said.{HasAcknowledged, HasFound, IsAnswered, refusal_of};
+ghost use Rattle.cli_ask.specs.Talk.{Passes, exchange_of};
+
 use crate::answers::next_reply;
 use crate::error::AskError;
 use crate::lines::{print_ack, print_found};
@@ -7,7 +18,7 @@ use crate::link::Link;
 use crate::listing::list;
 use crate::purging::{purge, purge_at_once};
 use crate::question::Question;
-use crate::request::{frame_of, lookup_body};
+use crate::request::{byte_of, frame_of, lookup_body};
 use isd_as::IsdAs;
 use row_lines::RowForm;
 use seg_core::SegType;
@@ -33,7 +44,9 @@ pub fn ask<L: Link, W: Write>(
     now: u64,
     form: RowForm,
     writer: &mut W,
-) -> Result<Answer, AskError> {
+) -> Result<Answer, AskError>
+    ensures { IfOk result (λ answer. IsAnswered (L.talk link.old) (L.talk link.new) (W.contents writer.old) (W.contents writer.new) form now question.now answer) }
+{
     match question {
         Question::Lookup(source, destination) => {
             return look_up(alloc, link, *source, *destination, form, writer);
@@ -59,11 +72,24 @@ pub(crate) fn exchange<L: Link>(
     alloc: Global,
     link: &mut L,
     request: &Message<&[u8]>,
-) -> Result<Reply<Ack>, AskError> {
+) -> Result<Reply<Ack>, AskError>
+    ensures reply { IfOk result (λ reply. Passes (L.talk link.old) (L.talk link.new) (exchange_of (message_at request.now) (reply_view (λ ack. ack) reply))) }
+    ensures taken { IfOk result (λ reply. refusal_of reply ≡ None) }
+{
     let frame = frame_of(alloc, request)?;
     link.begin()?;
     link.send(frame.as_slice())?;
-    match next_reply(alloc, link)? {
+    let reply = next_reply(alloc, link)?;
+    taken(reply)
+}
+
+/// A reply, unless it is a refusal.
+fn taken(reply: Reply<Ack>) -> Result<Reply<Ack>, AskError>
+    ensures same { IfOk result (λ taken. taken ≡ reply) }
+    ensures taken { IfOk result (λ taken. refusal_of taken ≡ None) }
+    ensures refused { IfErr result (λ e. refusal_of reply ≡ Some e) }
+{
+    match reply {
         Reply::Refused(code) => Err(AskError::Refused(code.0)),
         reply => Ok(reply),
     }
@@ -77,7 +103,9 @@ fn look_up<L: Link, W: Write>(
     destination: IsdAs,
     form: RowForm,
     writer: &mut W,
-) -> Result<Answer, AskError> {
+) -> Result<Answer, AskError>
+    ensures { IfOk result (λ answer. HasFound (L.talk link.old) (L.talk link.new) (W.contents writer.old) (W.contents writer.new) form (message.Lookup (request_encoding (isd_as_number source) (isd_as_number destination))) answer) }
+{
     let body = lookup_body(alloc, source, destination)?;
     match exchange(alloc, link, &Message::Lookup(body.as_slice()))? {
         Reply::Found(kind, segments) => {
@@ -95,8 +123,10 @@ fn remove<L: Link, W: Write>(
     id: [u8; 32],
     form: RowForm,
     writer: &mut W,
-) -> Result<(), AskError> {
-    match exchange(alloc, link, &Message::Remove(kind.number() as u8, id))? {
+) -> Result<(), AskError>
+    ensures { OnOk result (HasAcknowledged (L.talk link.old) (L.talk link.new) (W.contents writer.old) (W.contents writer.new) form (message.Remove (type_number kind) id) Removed) }
+{
+    match exchange(alloc, link, &Message::Remove(byte_of(kind), id))? {
         Reply::Removed(ack) => print_ack(alloc, form, &ack, writer),
         _ => Err(AskError::Unasked),
     }

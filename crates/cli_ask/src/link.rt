@@ -1,6 +1,7 @@
 //! The way to a server: bytes that are sent to it, and bytes that come from it within a time.
 
-ghost use Rattle.std.specs.Prelude.{IfOk, ◌≤◌, length};
+ghost use Rattle.std.specs.Prelude.{◌≡◌, ◌≤◌, List, None, Option, IfOk, OnOk, length, take};
+ghost use Rattle.cli_ask.specs.Talk.{Byte, Passes, came, sent};
 
 use crate::error::AskError;
 use std::io;
@@ -10,15 +11,21 @@ use std::time::{Clock, Duration, Instant};
 
 /// The way to a server.
 pub trait Link {
+    /// The bytes that were sent and that came, in their order, where they are known.
+    ghost talk: { Self → Option (List Byte) } = { λ _. None };
+
     /// The time begins that the next send or reply may take.
-    fn begin(&mut self) -> Result<(), AskError>;
+    fn begin(&mut self) -> Result<(), AskError>
+        ensures { talk self.new ≡ talk self.old };
 
     /// Sends all of the bytes.
-    fn send(&mut self, bytes: &[u8]) -> Result<(), AskError>;
+    fn send(&mut self, bytes: &[u8]) -> Result<(), AskError>
+        ensures { OnOk result (Passes (talk self.old) (talk self.new) (sent bytes.now)) };
 
     /// Reads once, and returns how many bytes came. The number is 0 at the end of the connection.
     fn receive(&mut self, into: &mut [u8]) -> Result<usize, AskError>
-        ensures { IfOk result (λ n. n ≤ length into.new) };
+        ensures most { IfOk result (λ n. n ≤ length into.new) }
+        ensures came { IfOk result (λ n. Passes (talk self.old) (talk self.new) (came (take n into.new))) };
 }
 
 /// A connection over TCP.

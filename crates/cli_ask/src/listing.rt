@@ -2,12 +2,14 @@
 
 ghost use Rattle.std.specs.Prelude.{◌≡◌, ◌≢◌, Some, false, IfErr, IfOk, IfSome, IsTrue, OnOk};
 ghost use Rattle.cli_ask.specs.declared.error.AskError.TheVariants as error;
-ghost use Rattle.cli_ask.specs.Pages.{IsOfType, is_above, last_id, unlisted};
+ghost use Rattle.cli_ask.specs.Pages.{HasListed, HasListedAll, IsOfType, first_request, is_above, kinds_of, last_id, page_talk, unlisted};
+ghost use Rattle.cli_ask.specs.Talk.{Passes};
 
 use crate::asking::exchange;
 use crate::error::AskError;
 use crate::lines::print_segments;
 use crate::link::Link;
+use crate::request::byte_of;
 use isd_as::IsdAs;
 use row_lines::RowForm;
 use seg_check::seg_id;
@@ -22,16 +24,18 @@ pub(crate) fn list<L: Link, W: Write>(
     alloc: Global,
     link: &mut L,
     kind: Option<SegType>,
-    (start, end): (IsdAs, IsdAs),
+    ends: (IsdAs, IsdAs),
     form: RowForm,
     writer: &mut W,
-) -> Result<(), AskError> {
+) -> Result<(), AskError>
+    ensures { OnOk result (HasListedAll (L.talk link.old) (L.talk link.new) (W.contents writer.old) (W.contents writer.new) form ends (kinds_of kind)) }
+{
     if let Some(kind) = kind {
-        return list_type(alloc, link, kind, (start, end), form, writer);
+        return list_type(alloc, link, kind, ends, form, writer);
     }
-    list_type(alloc, link, SegType::Up, (start, end), form, writer)?;
-    list_type(alloc, link, SegType::Down, (start, end), form, writer)?;
-    list_type(alloc, link, SegType::Core, (start, end), form, writer)
+    list_type(alloc, link, SegType::Up, ends, form, writer)?;
+    list_type(alloc, link, SegType::Down, ends, form, writer)?;
+    list_type(alloc, link, SegType::Core, ends, form, writer)
 }
 
 /// Prints all segments of a type. Each page begins after the last id of the page before it.
@@ -39,26 +43,35 @@ fn list_type<L: Link, W: Write>(
     alloc: Global,
     link: &mut L,
     kind: SegType,
-    (start, end): (IsdAs, IsdAs),
+    ends: (IsdAs, IsdAs),
     form: RowForm,
     writer: &mut W,
-) -> Result<(), AskError> {
-    let mut after = None;
-    for _ in 0..u64::MAX {
-        let request = ListRequest {
-            kind: kind.number() as u8,
-            start: start.to_u64(),
-            end: end.to_u64(),
-            after,
-        };
+) -> Result<(), AskError>
+    ensures { OnOk result (HasListed (L.talk link.old) (L.talk link.new) (W.contents writer.old) (W.contents writer.new) form kind (first_request kind ends)) }
+{
+    let mut request = first_request(kind, ends);
+    for _turn in 0..u64::MAX {
         let page = page_of(alloc, link, kind, request)?;
         print_segments(alloc, form, kind, page.segments.as_slice(), writer)?;
         if !page.more {
             return Ok(());
         }
-        after = Some(next_after(&page, after)?);
+        let id = next_after(&page, request.after)?;
+        request.after = Some(id);
     }
     Err(AskError::Faulty)
+}
+
+/// The request of the first page of a type.
+fn first_request(kind: SegType, ends: (IsdAs, IsdAs)) -> ListRequest
+    ensures { result ≡ first_request kind ends }
+{
+    ListRequest {
+        kind: byte_of(kind),
+        start: ends.0.to_u64(),
+        end: ends.1.to_u64(),
+        after: None,
+    }
 }
 
 /// A page of segments of a type.
@@ -67,7 +80,10 @@ fn page_of<L: Link>(
     link: &mut L,
     kind: SegType,
     request: ListRequest,
-) -> Result<Listing, AskError> {
+) -> Result<Listing, AskError>
+    ensures page { IfOk result (λ page. Passes (L.talk link.old) (L.talk link.new) (page_talk request page)) }
+    ensures kind { IfOk result (λ page. IsOfType kind page) }
+{
     match exchange(alloc, link, &Message::List(request)) {
         Ok(Reply::Listed(page)) => of_type(kind, page),
         Ok(_) => Err(AskError::Unasked),

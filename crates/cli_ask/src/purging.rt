@@ -1,7 +1,11 @@
 //! Purging, in steps or at once.
 
-ghost use Rattle.std.specs.Prelude.{◌≡◌, IfOk, OnErr};
-ghost use Rattle.cli_ask.specs.Steps.{HasAdded};
+ghost use Rattle.std.specs.Prelude.{◌≡◌, IfOk, OnErr, OnOk};
+ghost use Rattle.session_core.specs.Reply.{Purged};
+ghost use Rattle.session_core.specs.declared.message.Message.TheVariants as message;
+ghost use Rattle.cli_ask.specs.Purging.{HasAdded, HasDropped, HasPurged, first_step};
+ghost use Rattle.cli_ask.specs.Said.{HasAcknowledged};
+ghost use Rattle.cli_ask.specs.Talk.{Passes, exchange_of};
 
 use crate::asking::exchange;
 use crate::error::AskError;
@@ -21,7 +25,9 @@ pub(crate) fn purge<L: Link, W: Write>(
     moment: u64,
     form: RowForm,
     writer: &mut W,
-) -> Result<(), AskError> {
+) -> Result<(), AskError>
+    ensures { OnOk result (HasPurged (L.talk link.old) (L.talk link.new) (W.contents writer.old) (W.contents writer.new) form moment) }
+{
     let mut total = None;
     let came = drop_in_steps(alloc, link, moment, &mut total);
     if let Some(ack) = total {
@@ -37,7 +43,9 @@ pub(crate) fn purge_at_once<L: Link, W: Write>(
     moment: u64,
     form: RowForm,
     writer: &mut W,
-) -> Result<(), AskError> {
+) -> Result<(), AskError>
+    ensures { OnOk result (HasAcknowledged (L.talk link.old) (L.talk link.new) (W.contents writer.old) (W.contents writer.new) form (message.Purge moment) Purged) }
+{
     let ack = drop_by(alloc, link, moment)?;
     print_ack(alloc, form, &ack, writer)
 }
@@ -49,13 +57,15 @@ fn drop_in_steps<L: Link>(
     link: &mut L,
     moment: u64,
     total: &mut Option<Ack>,
-) -> Result<(), AskError> {
+) -> Result<(), AskError>
+    ensures { OnOk result (HasDropped (L.talk link.old) (L.talk link.new) moment (first_step moment) total.old total.new) }
+{
     let mut step = Step::first(moment);
-    let mut dropped = drop_more(alloc, link, step.moment, total)?;
     while step.moment < moment {
+        let dropped = drop_more(alloc, link, step.moment, total)?;
         step = step.next(dropped, moment);
-        dropped = drop_more(alloc, link, step.moment, total)?;
     }
+    drop_more(alloc, link, step.moment, total)?;
     Ok(())
 }
 
@@ -67,7 +77,7 @@ fn drop_more<L: Link>(
     moment: u64,
     total: &mut Option<Ack>,
 ) -> Result<u32, AskError>
-    ensures added { IfOk result (λ dropped. HasAdded total.old total.new dropped) }
+    ensures added { IfOk result (λ dropped. HasAdded (L.talk link.old) (L.talk link.new) moment total.old total.new dropped) }
     ensures same { OnErr result (total.new ≡ total.old) }
 {
     let ack = drop_by(alloc, link, moment)?;
@@ -79,9 +89,11 @@ fn drop_more<L: Link>(
 }
 
 /// Drops what expires at a moment or before, by one command.
-fn drop_by<L: Link>(alloc: Global, link: &mut L, moment: u64) -> Result<Ack, AskError> {
-    match exchange(alloc, link, &Message::Purge(moment))? {
-        Reply::Purged(ack) => Ok(ack),
-        _ => Err(AskError::Unasked),
-    }
+fn drop_by<L: Link>(alloc: Global, link: &mut L, moment: u64) -> Result<Ack, AskError>
+    ensures { IfOk result (λ ack. Passes (L.talk link.old) (L.talk link.new) (exchange_of (message.Purge moment) (Purged ack))) }
+{
+    let Reply::Purged(ack) = exchange(alloc, link, &Message::Purge(moment))? else {
+        return Err(AskError::Unasked);
+    };
+    Ok(ack)
 }

@@ -4,6 +4,7 @@ ghost use Rattle.std.specs.Prelude.{◌≡◌, ◌<◌, ◌≤◌, ◌^◌, ◌�
 ghost use Rattle.std.specs.Int.{w32, w64, to_be_bytes};
 ghost use Rattle.isd_as.specs.IsdAs.{isd_as_number};
 ghost use Rattle.seg_core.specs.Encoding.{response_encoding};
+ghost use Rattle.seg_core.specs.Registration.{type_number};
 ghost use Rattle.session_core.specs.Frames.{message_frame, frame_encoding, list_body};
 ghost use Rattle.session_core.specs.Front.{message_at};
 ghost use Rattle.cli_ask.specs.Requests.{side_encoding, request_encoding};
@@ -41,6 +42,13 @@ fn put_side(body: &mut Vec<u8>, field_number: u32, side: IsdAs) -> Result<(), Al
         return Ok(());
     }
     put_varint_field(body, field_number, number)
+}
+
+/// The byte of a type.
+pub(crate) fn byte_of(kind: SegType) -> u8
+    ensures { result ≡ type_number kind }
+{
+    kind.number() as u8
 }
 
 /// The body of a registration of one segment. A registration of segments is encoded as a response

@@ -2,6 +2,7 @@
 
 ghost use Rattle.std.specs.Prelude.{◌≡◌, ◌<◌, ◌≤◌, ◌+◌, ◌-◌, ◌^◌, IfOk, IfErr};
 ghost use Rattle.cli_ask.specs.declared.error.AskError.TheVariants as error;
+ghost use Rattle.cli_ask.specs.Purging.{step_after};
 ghost use Rattle.cli_ask.specs.Steps.{width_for, next_width, total_of, TooMany};
 
 use crate::error::AskError;
@@ -49,8 +50,7 @@ impl Step {
     /// moment of the purge.
     pub(crate) fn next(&self, dropped: u32, last: u64) -> Step
         requires { self.now.moment < last }
-        ensures width { result.width ≡ next_width dropped self.now.width (last - self.now.moment) }
-        ensures moment { result.moment ≡ self.now.moment + result.width }
+        ensures step { result ≡ step_after self.now dropped last }
         ensures rises { self.now.moment < result.moment }
         ensures most { result.moment ≤ last }
     {
