@@ -1,5 +1,5 @@
 -- What serving leaves of the file of a store: for `serve_site`.
-use Rattle.std.proofs.Common.{◌≡◌, ℕ, List, Bool, IsTrue, Option, Some, IfSome, sym, subst}
+use Rattle.std.proofs.Common.{◌≡◌, ℕ, List, Bool, IsTrue, Option, None, Some, IfSome, sym, subst}
 use Rattle.sector_dev.specs.Disk.{Disk, IsHonest, reads_of}
 use Rattle.sector_dev.specs.FileDevice.{front, CoversImages}
 use Rattle.sector_dev.specs.Image.{EveryImage, IsFromImage}
@@ -47,9 +47,8 @@ serves_file start store left file end opened alike moments since looked queued s
   leaves = λ honest content is. now (subst (λ (b : Bool). IsTrue b) (sym same) honest) (front end.sectors content) (covers honest content is);
 }
 
--- the same, where something is left
-pub serves_some : (start : Disk) (store : StoreView) (found : Option HubLeftView) (left : HubLeftView) (file : FileState) (end : Disk)
-    → found ≡ Some left
+-- the same, if something is left
+pub serves_if : (start : Disk) (store : StoreView) (found : Option HubLeftView) (file : FileState) (end : Disk)
     → (IsHonest start → IsOpened (reads_of start) store)
     → Stretch start store.disk (IsFromImage start.history.now OpensAlike)
     → IfSome found (λ left. Stretch store.disk end (OpensToFrontOf (value_of_store store) left.log.commands 0))
@@ -60,16 +59,10 @@ pub serves_some : (start : Disk) (store : StoreView) (found : Option HubLeftView
     → IfSome found (λ left. IsHonest end → EveryImage end.history.now (OpensToLog (value_of_store store) left.log))
     → end.is_honest ≡ file.is_honest
     → CoversImages file end
-    → ServesFile start left file end
-serves_some start store found left file end is opened alike moments since looked queued sent now same covers =
-    serves_file start store left file end opened alike
-    (subst (λ (it : Option HubLeftView). IfSome it (λ left. Stretch store.disk end (OpensToFrontOf (value_of_store store) left.log.commands 0))) is moments)
-    (subst (λ (it : Option HubLeftView). IfSome it (λ left. IsHonest store.disk → AllClaimsKept (value_of_store store) left.log end.history left.acknowledged)) is since)
-    (subst (λ (it : Option HubLeftView). IfSome it (λ left. IsHonest store.disk → AllShownKept (value_of_store store) left.log end.history left.looked)) is looked)
-    (subst (λ (it : Option HubLeftView). IfSome it (λ left. IsWithin left.log.commands (commands_of left.queued))) is queued)
-    (subst (λ (it : Option HubLeftView). IfSome it (λ left. AreAllOf left.queued left.senders)) is sent)
-    (subst (λ (it : Option HubLeftView). IfSome it (λ left. IsHonest end → EveryImage end.history.now (OpensToLog (value_of_store store) left.log))) is now)
-    same covers
+    → IfSome found (λ left. ServesFile start left file end)
+serves_if start store None file end opened alike moments since looked queued sent now same covers = tt
+serves_if start store (Some left) file end opened alike moments since looked queued sent now same covers =
+    serves_file start store left file end opened alike moments since looked queued sent now same covers
 
 -- what covers the images of a device covers those of the same device
 pub covers_same : (file same : FileState) (end last : Disk) → file ≡ same → end ≡ last → CoversImages file end → CoversImages same last

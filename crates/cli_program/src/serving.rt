@@ -1,13 +1,13 @@
 //! The command that serves sessions over TCP.
 
-ghost use Rattle.std.specs.Prelude.{◌≡◌, IfSome, IsSome, IsOk, IsErr, OnOk, OnErr};
+ghost use Rattle.std.specs.Prelude.{◌≡◌, Err, IfOk, IfErr, IfNone, IfSome, IsSome, IsOk, IsErr, OnOk, OnErr};
 ghost use Rattle.sector_dev.specs.FileDevice.{file_disk, file_state};
 ghost use Rattle.cli_program.specs.Failures.{failure_of};
-ghost use Rattle.cli_program.specs.Serving.{ServesFile};
+ghost use Rattle.cli_program.specs.Serving.{LeavesUnserved, RefusesStore, ServesFile, told_by};
 
 use crate::notices::Notices;
 use crate::server_options::options_of;
-use crate::site::Site;
+use crate::site::{Site, Unopened};
 use crate::starting::{say_addresses, say_opened, say_overfull, say_wildcards, say_without_cores};
 use crate::system::{Host, System};
 use crate::usage::UsageFiles;
@@ -74,8 +74,7 @@ fn serve_beside<'a, R: System, I: Read + Drop + Send + 'static, O: Write>(
 ) -> Result<u64, Failure<'a>> {
     thread::scope(thread::scope_env(), rt, |threads| {
         let Ok(serving) = threads.spawn(move || {
-            let (end, served) = serve_site(site, options, notices);
-            drop(end);
+            let served = count_of(serve_site(site, options, notices));
             notices.note_over();
             served
         }) else {
@@ -91,47 +90,74 @@ fn serve_beside<'a, R: System, I: Read + Drop + Send + 'static, O: Write>(
     })
 }
 
-/// Opens the store of a device and serves its sessions. Returns their number, and, where the store
-/// was served, the ended device with the log of all commands that were accepted. What a stop at any
-/// moment leaves of an honest file opens to the rows that it had at the start after a front of that
-/// log, with each acknowledged command from its commit on (`ServesFile`).
+/// How the serving of an opened store has ended.
+#[derive(Drop)]
+struct SiteEnd<'a, F: PositionedFile> {
+    /// The device.
+    device: Ended<FileDevice<F>>,
+    /// What the server left, if the store was served.
+    left: Option<HubLeft>,
+    /// The number of sessions that were served, or why not all of them were.
+    served: Result<u64, Failure<'a>>,
+}
+
+/// Opens the store of a device and serves its sessions. It ends in one of three ways:
+///
+/// - The store is refused. The device is as it was found, and the failure is that of its contents
+///   (`RefusesStore`).
+/// - The store is opened and not served: there are no listeners, or no server was made. Nothing was
+///   written since the opening, and the failure says why (`LeavesUnserved`).
+/// - The store is served, which leaves the log of all commands that were accepted. What a stop at
+///   any moment leaves of an honest file opens to the rows that it had at the start after a front
+///   of that log, with each acknowledged command from its commit on (`ServesFile`).
 fn serve_site<'a, R: Host, F: PositionedFile + Drop + Send>(
     site: Site<'a, F>,
     options: &Options,
     notices: &Notices<R>,
-) -> (
-    Option<(Ended<FileDevice<F>>, HubLeft)>,
-    Result<u64, Failure<'a>>,
-)
-    ensures served { IfSome result.0 (λ end.
-        ServesFile (file_disk site.entry.device) end.1 (file_state end.0) (file_disk end.0)) }
-    ensures made { OnOk result.1 (IsSome result.0) }
+) -> Result<SiteEnd<'a, F>, (Unopened<FileDevice<F>>, Failure<'a>)>
+    ensures served { IfOk result (λ end. IfSome end.left (λ left.
+        ServesFile (file_disk site.entry.device) left (file_state end.device) (file_disk end.device))) }
+    ensures unserved { IfOk result (λ end. IfNone end.left
+        (LeavesUnserved (file_disk site.entry.device) site.entry.listeners end.served (file_disk end.device))) }
+    ensures unopened { IfErr result (λ back. RefusesStore site.entry.path.now (file_disk site.entry.device) back.1 (file_disk back.0)) }
+    ensures made { IfOk result (λ end. OnOk end.served (IsSome end.left)) }
 {
     let rt = notices.host();
     let begun = Instant::now(rt).ok();
     let path = site.path;
-    let (store, listeners) = match site.open(rt) {
-        Ok(opened) => opened,
-        Err(failure) => return (None, Err(failure)),
-    };
+    let (store, listeners) = site.open(rt)?;
     say_opened(rt, notices, path, store.as_store(), begun);
     let listeners = match listeners {
         Ok(listeners) => listeners,
         Err(failure) => {
-            drop(store.end());
-            return (None, Err(failure));
+            return Ok(SiteEnd {
+                device: store.end(),
+                left: None,
+                served: Err(failure),
+            });
         }
     };
     say_addresses(rt.alloc(), notices, path, store.as_store(), &listeners);
     say_overfull(notices, store.as_store());
-    let (end, left, served) = serve_store(rt, rt.alloc(), listeners, store, options, notices);
-    end.device().covers_images();
-    match left {
-        Some(left) => (Some((end, left)), after_serving(notices, served)),
-        None => {
-            drop(end);
-            (None, after_serving(notices, served))
-        }
+    let (device, left, served) = serve_store(rt, rt.alloc(), listeners, store, options, notices);
+    device.device().covers_images();
+    Ok(SiteEnd {
+        device,
+        left,
+        served: after_serving(notices, served),
+    })
+}
+
+/// The number of sessions that a site has served, or why not all of them were.
+fn count_of<'a, F: PositionedFile + Drop>(
+    end: Result<SiteEnd<'a, F>, (Unopened<FileDevice<F>>, Failure<'a>)>,
+) -> Result<u64, Failure<'a>>
+    ensures opened { IfOk end.entry (λ end. result ≡ end.served) }
+    ensures unopened { IfErr end.entry (λ back. result ≡ Err back.1) }
+{
+    match end {
+        Ok(end) => end.served,
+        Err((_device, failure)) => Err(failure),
     }
 }
 
@@ -140,6 +166,7 @@ fn after_serving<'a, R: Host>(
     notices: &Notices<R>,
     served: Result<u64, RunError>,
 ) -> Result<u64, Failure<'a>>
+    ensures told { result ≡ told_by served }
     ensures served { OnOk result (IsOk served) }
     ensures failed { OnErr result (IsErr served) }
 {
