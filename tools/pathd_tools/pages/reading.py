@@ -30,13 +30,11 @@ BEGIN = "<!-- tools/pathd-tools reading --write{} -->"
 # What a file of code uses of a crate: the crate, and the names, whose list may take several lines.
 USE = re.compile(r"^use (\w+)::(?:\w+::)*(\{[^}]*\}|\w+);", re.M)
 
-# The contracts of docs/THEOREM.md: what survives, what lookups are answered from, and what survives a
-# server. The clauses that are the statement, and the files of the definitions that it quotes.
+# The contracts of docs/THEOREM.md, which quotes their clauses: what survives, what lookups are answered
+# from, and what survives a server.
 SURVIVAL = ["prefix_recovery recovery::run_traced trace", "prefix_recovery recovery::reopen_after"]
 LOOKUPS = ["prefix_recovery recovery::run_traced lookups"]
 SERVED = ["prefix_recovery servers::reopening::reopen_left recovers refused"]
-QUOTED = CRATES / "prefix_recovery" / "specs" / "Survival.antt"
-QUOTED_OF_SERVER = CRATES / "prefix_recovery" / "specs" / "servers" / "Survival.antt"
 
 # The contracts that carry each promise.
 PROMISES = [
@@ -193,22 +191,21 @@ def table() -> str:
 
 
 def statement() -> str:
-    """The clauses of the theorem and the definitions of its file, word for word."""
-    return quoted(SURVIVAL + LOOKUPS, QUOTED)
+    """The clauses of the theorem, word for word."""
+    return quoted(SURVIVAL + LOOKUPS)
 
 
 def statement_of_server() -> str:
     """The same of a server."""
-    return quoted(SERVED, QUOTED_OF_SERVER)
+    return quoted(SERVED)
 
 
-def quoted(specs: list[str], path: Path) -> str:
+def quoted(specs: list[str]) -> str:
     clauses: dict[str, list[str]] = {}
     for spec in specs:
         clauses.setdefault(spec.split("::")[-1].split(" ")[0], []).extend(text.strip("\n") for _, text in clause_texts(spec)[1:])
     said = [line for name, texts in clauses.items() for line in [name, *texts]]
-    words = [it.text for it in source.definitions(path).values()]
-    return "\n".join(["```", *said, "```", "", "```", "\n\n".join(words), "```"])
+    return "\n".join(["```", *said, "```"])
 
 
 def starts_of(name: str) -> list[tuple[Path, str]]:
