@@ -2,7 +2,6 @@
 
 ghost use Rattle.std.specs.Prelude.{◌≡◌, ◌≤◌, ◌++◌, List, ℕ, length, take, drop, IfOk, OnOk, map, false, if◌then◌else◌};
 ghost use Rattle.std.specs.Option.{option_map};
-ghost use Rattle.row_map.specs.Drops.{is_valid_beyond};
 ghost use Rattle.row_map.specs.Database.{RowView, key_of};
 ghost use Rattle.path_records.specs.Key.{key_bytes};
 ghost use Rattle.ckpt_stream.specs.Merging.{keys_named, keys_named_by, outlives, outlives_one, has_key, KeysRise};
@@ -32,18 +31,11 @@ fn with_purge(greatest: Option<u64>, command: &Command) -> Option<u64>
     ensures { (row : RowView) → is_beyond result row ≡ (if is_beyond greatest row then outlives_one command.now row else false) }
 {
     match command {
-        Command::Purge(moment) => Some(later(greatest, *moment)),
+        Command::Purge(moment) => Some(match greatest {
+            Some(old) => old.max(*moment),
+            None => *moment,
+        }),
         Command::Register(_) | Command::Remove(_, _) => greatest,
-    }
-}
-
-/// The later of two moments.
-fn later(greatest: Option<u64>, moment: u64) -> u64
-    ensures { (row : RowView) → is_valid_beyond result row ≡ (if is_beyond greatest row then is_valid_beyond moment row else false) }
-{
-    match greatest {
-        Some(old) => old.max(moment),
-        None => moment,
     }
 }
 
