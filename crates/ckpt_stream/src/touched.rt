@@ -1,12 +1,11 @@
 //! The keys that commands name, and the greatest of their purges.
 
 ghost use Rattle.std.specs.Prelude.{◌≡◌, ◌≤◌, ◌++◌, List, ℕ, length, take, drop, IfOk, OnOk, map, false, if◌then◌else◌};
-ghost use Rattle.std.specs.Option.{option_map};
 ghost use Rattle.row_map.specs.Database.{RowView, key_of};
 ghost use Rattle.path_records.specs.Key.{key_bytes};
 ghost use Rattle.ckpt_stream.specs.Merging.{keys_named, keys_named_by, outlives, outlives_one, has_key, KeysRise};
 ghost use Rattle.ckpt_stream.specs.Planning.{is_beyond};
-ghost use Rattle.ckpt_stream.specs.Touched.{IsKeyOrder, is_key_above, with_above, AreUpTo, AreAbove, IsUnion};
+ghost use Rattle.ckpt_stream.specs.Touched.{IsKeyOrder, with_above, AreUpTo, AreAbove, IsUnion};
 
 use path_db::Command;
 use path_records::Key;
@@ -95,20 +94,11 @@ fn run_up_to(keys: &[Key], key: &Key) -> usize
 fn push_above(keys: &mut Vec<Key>, key: &Key) -> Result<(), AllocError>
     ensures { OnOk result (map key_bytes keys.new.items ≡ with_above (map key_bytes keys.old.items) (key_bytes key.now)) }
 {
-    if is_above(keys.last().copied(), key) {
-        keys.push(*key)?;
+    match keys.last() {
+        Some(last) if !last.order(key).is_lt() => {}
+        _ => keys.push(*key)?,
     }
     Ok(())
-}
-
-/// Whether a key is above the last one, where there is one.
-fn is_above(last: Option<Key>, key: &Key) -> bool
-    ensures { result ≡ is_key_above (option_map key_bytes last) (key_bytes key.now) }
-{
-    match last {
-        Some(last) => last.order(key).is_lt(),
-        None => true,
-    }
 }
 
 /// Appends the keys that commands name, in the order in which the commands name them.
