@@ -1,7 +1,7 @@
 //! The keys that commands name, and the greatest of their purges.
 
 ghost use Rattle.std.specs.Prelude.{◌≡◌, ◌≤◌, ◌++◌, List, ℕ, length, take, drop, IfOk, OnOk, map, false, if◌then◌else◌};
-ghost use Rattle.row_map.specs.Database.{RowView, key_of};
+ghost use Rattle.row_map.specs.Database.{RowView};
 ghost use Rattle.path_records.specs.Key.{key_bytes};
 ghost use Rattle.ckpt_stream.specs.Merging.{keys_named, keys_named_by, outlives, outlives_one, has_key, KeysRise};
 ghost use Rattle.ckpt_stream.specs.Planning.{is_beyond};
@@ -9,7 +9,6 @@ ghost use Rattle.ckpt_stream.specs.Touched.{IsKeyOrder, with_above, AreUpTo, Are
 
 use path_db::Command;
 use path_records::Key;
-use seg_core::{SegType, Segment};
 use std::alloc::{AllocError, Global};
 
 /// The greatest one of a moment and the moments of the purges among commands, in half seconds since
@@ -116,7 +115,12 @@ fn push_named(keys: &mut Vec<Key>, command: &Command) -> Result<(), AllocError>
     ensures { OnOk result (map key_bytes keys.new.items ≡ map key_bytes keys.old.items ++ keys_named command.now) }
 {
     match command {
-        Command::Register(registration) => push_registered(keys, registration.as_slice()),
+        Command::Register(registration) => {
+            for row in registration.as_slice() {
+                keys.push(Key::of(row.0, &row.1))?;
+            }
+            Ok(())
+        }
         Command::Purge(_) => Ok(()),
         Command::Remove(kind, id) => {
             keys.push(Key {
@@ -126,14 +130,4 @@ fn push_named(keys: &mut Vec<Key>, command: &Command) -> Result<(), AllocError>
             Ok(())
         }
     }
-}
-
-/// Appends the keys of rows.
-fn push_registered(keys: &mut Vec<Key>, rows: &[(SegType, Segment)]) -> Result<(), AllocError>
-    ensures { OnOk result (map key_bytes keys.new.items ≡ map key_bytes keys.old.items ++ map key_of rows.now) }
-{
-    for row in rows {
-        keys.push(Key::of(row.0, &row.1))?;
-    }
-    Ok(())
 }
