@@ -3,7 +3,7 @@
 ghost use Rattle.std.specs.Prelude.{◌≡◌, ◌^◌, ◌-◌, length, min};
 ghost use Rattle.std.specs.Option.{option_map, option_to_list};
 ghost use Rattle.row_map.specs.Row.{row_view};
-ghost use Rattle.ckpt_stream.specs.Edits.{bytes_kept, kept_by, len_if_any};
+ghost use Rattle.ckpt_stream.specs.Edits.{bytes_kept, len_if_any};
 
 use crate::edit::Edit;
 use row_map::{ROW_HEAD, Row};
@@ -15,20 +15,11 @@ pub(crate) fn kept_bytes(edits: &[Edit]) -> u64
 {
     let mut size: u64 = 0;
     for edit in edits {
-        size = size.saturating_add(bytes_of(*edit));
+        if let Edit::Keep(count) = edit {
+            size = size.saturating_add(u64::from(*count));
+        }
     }
     size
-}
-
-/// The number of bytes that an edit keeps.
-fn bytes_of(edit: Edit) -> u64
-    ensures { result ≡ kept_by edit }
-{
-    match edit {
-        Edit::Keep(count) => u64::from(count),
-        Edit::Pass(_) => 0,
-        Edit::Put => 0,
-    }
 }
 
 /// The number of bytes of the record of a row, 0 where there is no row.
