@@ -1,9 +1,9 @@
 //! The keys that commands name, and the greatest of their purges.
 
-ghost use Rattle.std.specs.Prelude.{◌≡◌, ◌≤◌, ◌++◌, List, ℕ, length, take, drop, IfOk, OnOk, map, false, if◌then◌else◌};
+ghost use Rattle.std.specs.Prelude.{◌≡◌, ◌≤◌, ◌++◌, length, take, drop, IfOk, OnOk, map, false, if◌then◌else◌};
 ghost use Rattle.row_map.specs.Database.{RowView};
 ghost use Rattle.path_records.specs.Key.{key_bytes};
-ghost use Rattle.ckpt_stream.specs.Merging.{keys_named, keys_named_by, outlives, outlives_one, has_key, KeysRise};
+ghost use Rattle.ckpt_stream.specs.Merging.{keys_named, keys_named_by, outlives, outlives_one, KeysRise};
 ghost use Rattle.ckpt_stream.specs.Planning.{is_beyond};
 ghost use Rattle.ckpt_stream.specs.Touched.{IsKeyOrder, with_above, AreUpTo, AreAbove, IsUnion};
 
@@ -49,16 +49,8 @@ pub(crate) fn with_named(
 {
     let mut named = Vec::new(alloc);
     push_all_named(&mut named, commands)?;
-    sort_keys(&mut named)?;
+    named.sort_by(|one, other| one.order(other))?;
     merged(alloc, before, &named)
-}
-
-/// Sorts keys.
-fn sort_keys(keys: &mut Vec<Key>) -> Result<(), AllocError>
-    ensures order { OnOk result (IsKeyOrder keys.new.items) }
-    ensures same { OnOk result ((k : List ℕ) → has_key (map key_bytes keys.new.items) k ≡ has_key (map key_bytes keys.old.items) k) }
-{
-    keys.sort_by(|one, other| one.order(other))
 }
 
 /// Keys that rise and new keys in their order, each once, in their order. The keys before are
