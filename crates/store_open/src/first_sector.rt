@@ -1,19 +1,18 @@
 //! Reading the sizes of a store.
 
-ghost use Rattle.std.specs.Prelude.{◌≡◌, ◌↔◌, ℕ, ◌≤◌, List, length, IsTrue, IfOk};
+ghost use Rattle.std.specs.Prelude.{◌≡◌, ℕ, ◌≤◌, List, length, IfOk};
 ghost use Rattle.std.specs.Option.{option_map, IfSome};
 ghost use Rattle.byte_lists.specs.Content.{part};
-ghost use Rattle.byte_lists.specs.Numbers.{four_at, eight_at};
 ghost use Rattle.byte_lists.specs.Sectors.{whole_sectors};
 ghost use Rattle.byte_lists.specs.declared.format.TheConstants.{SECTOR};
 ghost use Rattle.sector_dev.specs.Disk.{IsHonest, reads_of};
 ghost use Rattle.sector_dev.specs.Calls.{Keeps, count_after};
-ghost use Rattle.store_layout.specs.FirstSector.{store_magic, layout_number, geometry_in};
+ghost use Rattle.store_layout.specs.FirstSector.{geometry_in};
 ghost use Rattle.store_layout.specs.Layout.{IsGeometry, image_sectors};
 ghost use Rattle.store_layout.specs.Geometry.{geometry_view};
 ghost use Rattle.store_open.specs.Looking.{LooksAt};
 ghost use Rattle.store_open.specs.NewStore.{DeviceHasRoomFor};
-ghost use Rattle.store_open.specs.Titles.{has_title, is_named_store, sizes_told, titled_sizes};
+ghost use Rattle.store_open.specs.Titles.{has_title, sizes_told, titled_sizes};
 
 use crate::reading::read_sector;
 use crate::title::{CHECKPOINT_AT, JOURNAL_AT, LAYOUT, LAYOUT_AT, STORE_MAGIC};
@@ -45,25 +44,11 @@ fn geometry_of(sector: &[u8], sectors: u64) -> Option<Geometry>
     ensures room { IfSome result (λ geometry. IsGeometry (geometry_view geometry) × (image_sectors (geometry_view geometry) ≤ sectors)) }
     ensures read { (image : List ℕ) → part 0 SECTOR image ≡ sector.now → whole_sectors image ≡ sectors → option_map geometry_view result ≡ geometry_in image }
 {
-    if !is_named(sector) {
-        return None;
-    }
-    let geometry = Geometry {
-        checkpoint: read_u32(sector, CHECKPOINT_AT),
-        journal: read_u32(sector, JOURNAL_AT),
-    };
-    if !geometry.is_allowed() || sectors < geometry.sectors() {
+    let geometry = sizes_of(sector)?;
+    if sectors < geometry.sectors() {
         return None;
     }
     Some(geometry)
-}
-
-/// Whether the name and the number of the layout are at the front.
-fn is_named(sector: &[u8]) -> bool
-    requires { length sector.now ≡ SECTOR }
-    ensures { IsTrue result ↔ ((eight_at 0 sector.now ≡ store_magic) × (four_at 8 sector.now ≡ layout_number)) }
-{
-    read_u64(sector, 0) == STORE_MAGIC && read_u32(sector, LAYOUT_AT) == LAYOUT
 }
 
 /// Whether sector 0 begins with the name of a store, whatever else is on the device: that of a
@@ -76,15 +61,7 @@ pub fn has_title<D: Device>(device: &mut D) -> Result<bool, DevError>
         return Ok(false);
     }
     let sector = read_sector(device, 0)?;
-    Ok(is_named_store(&sector))
-}
-
-/// Whether a sector begins with the name of a store.
-fn is_named_store(sector: &[u8]) -> bool
-    requires { length sector.now ≡ SECTOR }
-    ensures { result ≡ is_named_store sector.now }
-{
-    read_u64(sector, 0) == STORE_MAGIC
+    Ok(read_u64(&sector, 0) == STORE_MAGIC)
 }
 
 /// The sizes that sector 0 says of a store, however many sectors the device has; `None` where
@@ -105,7 +82,7 @@ fn sizes_of(sector: &[u8]) -> Option<Geometry>
     requires { length sector.now ≡ SECTOR }
     ensures { option_map geometry_view result ≡ sizes_told sector.now }
 {
-    if !is_named(sector) {
+    if read_u64(sector, 0) != STORE_MAGIC || read_u32(sector, LAYOUT_AT) != LAYOUT {
         return None;
     }
     let geometry = Geometry {
