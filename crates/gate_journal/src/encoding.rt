@@ -3,7 +3,7 @@
 ghost use Rattle.std.specs.Prelude.{◌≡◌, ◌↔◌, ◌≤◌, ◌++◌, [], length, IfOk, IsTrue, OnOk};
 ghost use Rattle.std.specs.List.{All};
 ghost use Rattle.path_records.specs.CommandRecord.{IsWithinLimits};
-ghost use Rattle.store_layout.specs.Group.{record_encoding, records_of, with_header, group_encoding, seal_encoding};
+ghost use Rattle.store_layout.specs.Group.{records_of, with_header, group_encoding, seal_encoding};
 ghost use Rattle.gate_journal.specs.Commands.{command_format};
 ghost use Rattle.gate_journal.specs.Payload.{IsWithinGroupLimits};
 
@@ -77,23 +77,15 @@ fn put_header(count: u8, size: u32, place: u64, out: &mut Vec<u8>) -> Result<(),
     out.extend_from_slice(&place.to_be_bytes())
 }
 
-/// Appends the records of commands.
+/// Appends the records of commands, each after its length in four big-endian bytes.
 fn put_records(commands: &[Command], out: &mut Vec<u8>) -> Result<(), AllocError>
     requires { All IsWithinLimits commands.now }
     ensures { OnOk result (out.new.items ≡ out.old.items ++ records_of command_format commands.now) }
 {
     for command in commands {
-        put_record(command, out)?;
+        let size = command_len(command) as u32;
+        out.extend_from_slice(&size.to_be_bytes())?;
+        write_command(command, out)?;
     }
     Ok(())
-}
-
-/// Appends the length of a command's own record in four big-endian bytes, and that record.
-fn put_record(command: &Command, out: &mut Vec<u8>) -> Result<(), AllocError>
-    requires { IsWithinLimits command.now }
-    ensures { OnOk result (out.new.items ≡ out.old.items ++ record_encoding command_format command.now) }
-{
-    let size = command_len(command) as u32;
-    out.extend_from_slice(&size.to_be_bytes())?;
-    write_command(command, out)
 }
