@@ -10,8 +10,8 @@ use Rattle.store_layout.specs.Checkpoint as laws
 use Rattle.store_layout.specs.CheckpointReading.{PairRefusal, SealedNewer}
 use Rattle.store_layout.specs.Opening.{Opening}
 use Rattle.store_layout.specs.OpeningReading.{BadPair, read_tail, behind_journal}
-use Rattle.ckpt_pair.specs.declared.head.Head.{Head}
-use Rattle.ckpt_pair.specs.declared.head.Heads.{Heads}
+use Rattle.ckpt_pair.specs.declared.choice.Head.{Head}
+use Rattle.ckpt_pair.specs.declared.choice.Heads.{Heads}
 
 -- The numbers of a head, as contracts see them.
 abbrev pub head_view : Head → laws.Head

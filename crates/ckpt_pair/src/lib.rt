@@ -9,22 +9,18 @@ mod choice;
 mod encoding;
 mod error;
 mod format;
-mod head;
 mod laws;
-mod pieces;
 mod reading;
 mod row_stream;
 
-pub use choice::{choose, openings_continue_at_the_tail, tail_half};
+pub use choice::{Head, Heads, choose, openings_continue_at_the_tail, read_head, tail_half};
 pub use encoding::{checkpoint_front, checkpoint_head, encode_checkpoint};
 pub use error::PairError;
 pub use format::{CHECKPOINT_MAGIC, COUNT_AT, SIZE_AT, area_room};
-pub use head::{Head, Heads, read_head};
 pub use laws::rows::{
     checkpoints_are_read_by_their_fronts, databases_can_be_checkpoints,
     read_checkpoints_are_databases, streams_read_halves,
 };
 pub use path_records::DatabaseReader;
-pub use pieces::{feed_rows_by, finish_rows};
-pub use reading::{Checkpoint, Front, read_front, read_half};
+pub use reading::{Checkpoint, Front, feed_rows_by, finish_rows, read_front, read_half};
 pub use row_stream::RowStream;

@@ -1,23 +1,23 @@
-//! Reading checkpoints.
+//! Reading checkpoints, whole or from pieces of their rows.
 
-ghost use Rattle.std.specs.Prelude.{◌≡◌, ◌≤◌, ◌+◌, ◌==◌, length, IfOk, IfErr};
+ghost use Rattle.std.specs.Prelude.{◌≡◌, ◌≤◌, ◌+◌, ◌==◌, length, IfOk, IfErr, ◌≢◌, ◌<◌, ◌++◌, IsOk};
 ghost use Rattle.byte_lists.specs.Content.{part};
 ghost use Rattle.row_map.specs.Database.{IsDatabase};
 ghost use Rattle.path_records.specs.RowRecord.{rows_decoding, HasOutline};
 ghost use Rattle.store_layout.specs.declared.format.TheConstants.{BEFORE_ROWS};
 ghost use Rattle.store_layout.specs.CheckpointReading.{checkpoint_in};
-ghost use Rattle.ckpt_pair.specs.declared.error.PairError.TheVariants.{NoMemory};
+ghost use Rattle.ckpt_pair.specs.declared.error.PairError.TheVariants.{NoMemory, BadCheckpoint};
 ghost use Rattle.ckpt_pair.specs.Refusals.{ReadsPair, GivesPair};
 ghost use Rattle.store_layout.specs.Limits.{latest};
 ghost use Rattle.ckpt_pair.specs.Rows.{rows_format, as_counted};
-ghost use Rattle.ckpt_pair.specs.Reading.{front_view, front_in, checkpoint_view, or_bad_checkpoint, HasRowsToRead};
+ghost use Rattle.ckpt_pair.specs.Reading.{front_view, front_in, checkpoint_view, or_bad_checkpoint, HasRowsToRead, AreNoRows};
 
+use crate::choice::{Head, open_head};
 use crate::error::PairError;
 use crate::format::{COUNT_AT, SIZE_AT};
-use crate::head::{Head, open_head};
 use byte_lists::read_u32;
 use path_db::PathDb;
-use path_records::{DbError, read_rows};
+use path_records::{DatabaseReader, DbError, RowDecoder, read_rows};
 use std::alloc::Global;
 use store_layout::BEFORE_ROWS;
 
@@ -101,4 +101,41 @@ pub(crate) fn has_count(db: &PathDb, count: u32) -> bool
     ensures { result ≡ (length db.now == count) }
 {
     db.len() == count as usize
+}
+
+/// Reads the next piece of the rows' bytes, cut anywhere, in this way. A `BadCheckpoint` does not
+/// depend on the count of rows or on the bytes after this piece. An empty piece takes no memory.
+pub fn feed_rows_by<B: RowDecoder>(
+    by: &B,
+    reader: DatabaseReader,
+    piece: &[u8],
+) -> Result<DatabaseReader, PairError>
+    requires { B.is_ready by.now }
+    ensures fed { IfOk result (λ more. more ≡ reader ++ piece.now) }
+    ensures refused { IfErr result (λ e. e ≢ NoMemory → (e ≡ BadCheckpoint) × AreNoRows (reader ++ piece.now)) }
+    ensures memory { IfErr result (λ e. 0 < length piece.now) }
+{
+    match reader.feed_by(by, piece) {
+        Ok(more) => Ok(more),
+        Err(DbError::NoMemory) => Err(PairError::NoMemory),
+        Err(_) => Err(PairError::BadCheckpoint),
+    }
+}
+
+/// The database of all bytes that were fed, which have to be the records of exactly `count` rows.
+/// The call takes memory only where the bytes are the records of some rows.
+pub fn finish_rows(reader: DatabaseReader, count: u32) -> Result<PathDb, PairError>
+    ensures decoding { GivesPair (λ rows. rows) result (or_bad_checkpoint (as_counted count (rows_decoding reader))) }
+    ensures whole { IfOk result IsDatabase }
+    ensures memory { IfErr result (λ e. e ≡ NoMemory → IsOk (rows_decoding reader) × (0 < length reader)) }
+{
+    let db = match reader.finish() {
+        Ok(db) => db,
+        Err(DbError::NoMemory) => return Err(PairError::NoMemory),
+        Err(_) => return Err(PairError::BadCheckpoint),
+    };
+    if !has_count(&db, count) {
+        return Err(PairError::BadCheckpoint);
+    }
+    Ok(db)
 }

@@ -32,9 +32,8 @@ use Rattle.ckpt_stream.specs.Rewriting.{RewriteView, untaken, untaken_len}
 use Rattle.store_open.specs.PathStores.{store_format}
 use Rattle.store_open.specs.declared.error.OpenError.{OpenError}
 use Rattle.store_open.specs.declared.error.OpenError.TheVariants.{NotAStore, Device, Pair, Journal, NoMemory}
-use Rattle.store_open.specs.declared.sealed.SealedError.{SealedError}
-use Rattle.store_open.specs.declared.sealed.SealedError.TheVariants.{Fault, Damaged}
-use Rattle.store_open.specs.declared.sealed.SealedError.TheVariants.{NoMemory as SealedNoMemory}
+use Rattle.store_open.specs.declared.error.SealedError.{SealedError}
+use Rattle.store_open.specs.declared.error.SealedError.TheVariants.{Fault, Damaged, NoMemory as SealedNoMemory}
 use Rattle.store_open.specs.Refusals.{ScansSo}
 use Rattle.store_open.specs.Sealed.{SealedHalf, folded_by, folded_behind, folded_in, sealed_half, sealed_error_of}
 use Rattle.ckpt_stream.specs.Merge.{MergeView, IsReady}

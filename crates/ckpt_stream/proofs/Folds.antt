@@ -15,8 +15,8 @@ use Rattle.row_map.specs.Left.{left_by_puts}
 use Rattle.path_records.specs.declared.key.Key.{Key}
 use Rattle.path_records.specs.Key.{key_bytes}
 use Rattle.path_records.specs.RowRecord.{rows_encoding}
-use Rattle.ckpt_stream.specs.declared.edit.Edit.{Edit}
-use Rattle.ckpt_stream.specs.declared.edit.Edit.TheVariants.{Keep, Pass, Put}
+use Rattle.ckpt_stream.specs.declared.plan.Edit.{Edit}
+use Rattle.ckpt_stream.specs.declared.plan.Edit.TheVariants.{Keep, Pass, Put}
 use Rattle.ckpt_stream.specs.declared.plan.Plan.{Plan}
 use Rattle.ckpt_stream.specs.declared.planner.Planner.{Planner}
 use Rattle.ckpt_stream.specs.declared.settling.Settling.{Settling}

@@ -12,8 +12,8 @@ use Rattle.sector_dev.specs.Calls.{Keeps, one_more}
 use Rattle.sector_dev.proofs.Stretches.{keeps_then, honest_after}
 use Rattle.store_open.specs.declared.error.OpenError.{OpenError}
 use Rattle.store_open.specs.declared.error.OpenError.TheVariants as opening
-use Rattle.store_open.specs.declared.sealed.SealedError.{SealedError}
-use Rattle.store_open.specs.declared.sealed.SealedError.TheVariants.{Fault, NoMemory, Damaged}
+use Rattle.store_open.specs.declared.error.SealedError.{SealedError}
+use Rattle.store_open.specs.declared.error.SealedError.TheVariants.{Fault, NoMemory, Damaged}
 use Rattle.store_open.specs.Looking.{LooksAt}
 use Rattle.store_open.specs.Refusals.{LooksFor}
 use Rattle.store_open.specs.Sealed.{LooksAtHalf, sealed_error_of}

@@ -23,7 +23,7 @@ use Rattle.gate_journal.specs.Commands.{command_format}
 use Rattle.gate_journal.specs.Scanning.{reading_of}
 use Rattle.ckpt_pair.specs.declared.reading.Front.{Front}
 use Rattle.ckpt_stream.specs.declared.old_rows.RowsRead.{RowsRead}
-use Rattle.ckpt_stream.specs.declared.settled.RowsSettled.{RowsSettled}
+use Rattle.ckpt_stream.specs.declared.half_read.RowsSettled.{RowsSettled}
 use Rattle.ckpt_stream.specs.Sums.{sums_in}
 use Rattle.ckpt_stream.specs.OldArea.{IsReadByFront}
 use Rattle.ckpt_stream.specs.OldRows.{AreStreamed, rows_in, RefusesRows, RowsRefused, GoesOnInRows}

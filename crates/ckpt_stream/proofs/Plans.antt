@@ -15,8 +15,8 @@ use Rattle.row_map.specs.Database.{RowView, key_of, row_len, rows_len}
 use Rattle.path_records.specs.declared.key.Key.{Key}
 use Rattle.path_records.specs.Key.{key_bytes}
 use Rattle.path_records.specs.RowRecord.{row_record, rows_encoding}
-use Rattle.ckpt_stream.specs.declared.edit.Edit.{Edit}
-use Rattle.ckpt_stream.specs.declared.edit.Edit.TheVariants.{Keep, Pass, Put}
+use Rattle.ckpt_stream.specs.declared.plan.Edit.{Edit}
+use Rattle.ckpt_stream.specs.declared.plan.Edit.TheVariants.{Keep, Pass, Put}
 use Rattle.ckpt_stream.specs.Merging.{order_of, one_if, by_order, rows_left, merged}
 use Rattle.ckpt_stream.specs.Found.{found_by_order, rows_found}
 use Rattle.ckpt_stream.specs.Edits.{record_if_any, edited, bytes_in, puts_in, count_rows}

@@ -2,8 +2,8 @@
 use Rattle.std.proofs.Common.{◌≡◌, ◌*◌, ◌≤◌, inl, inr, Err, ℕ, List, length, sym, subst}
 use Rattle.std.specs.Prelude.{Result, IfErr}
 use Rattle.byte_lists.specs.Content.{AreBytes}
-use Rattle.store_open.specs.declared.sealed.SealedError.{SealedError}
-use Rattle.store_open.specs.declared.sealed.SealedError.TheVariants.{Damaged}
+use Rattle.store_open.specs.declared.error.SealedError.{SealedError}
+use Rattle.store_open.specs.declared.error.SealedError.TheVariants.{Damaged}
 use Rattle.store_layout.specs.declared.half.Half.{Half}
 use Rattle.store_layout.specs.Layout.{Geometry, IsGeometry, image_sectors}
 use Rattle.ckpt_stream.specs.declared.half_read.HalfRead.{HalfRead}

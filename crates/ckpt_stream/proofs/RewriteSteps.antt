@@ -8,8 +8,8 @@ use Rattle.std.proofs.lemmas.List.Edits.{take-paste}
 use Rattle.seg_core.specs.Encoding.{segment_encoding}
 use Rattle.row_map.specs.Database.{RowView, row_len}
 use Rattle.path_records.specs.RowRecord.{row_record}
-use Rattle.ckpt_stream.specs.declared.edit.Edit.{Edit}
-use Rattle.ckpt_stream.specs.declared.edit.Edit.TheVariants.{Keep, Pass, Put}
+use Rattle.ckpt_stream.specs.declared.plan.Edit.{Edit}
+use Rattle.ckpt_stream.specs.declared.plan.Edit.TheVariants.{Keep, Pass, Put}
 use Rattle.ckpt_stream.specs.Edits.{record_if_any, len_if_any, edited, bytes_in, bytes_out}
 use Rattle.ckpt_stream.specs.Rewriting.{RewriteView, Rewrites, untaken_len, with_edit, with_next_row, steps_left}
 

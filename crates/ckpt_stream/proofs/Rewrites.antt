@@ -8,7 +8,7 @@ use Rattle.path_records.specs.RowRecord.{rows_encoding}
 use Rattle.store_layout.specs.Checkpoint.{checkpoint_bytes}
 use Rattle.ckpt_pair.specs.Checkpoint.{written_checkpoint}
 use Rattle.ckpt_pair.specs.Rows.{rows_format}
-use Rattle.ckpt_stream.specs.declared.edit.Edit.TheVariants.{Keep}
+use Rattle.ckpt_stream.specs.declared.plan.Edit.TheVariants.{Keep}
 use Rattle.ckpt_stream.specs.declared.plan.Plan.{Plan}
 use Rattle.ckpt_stream.specs.Edits.{views_if_any}
 use Rattle.ckpt_stream.specs.Planner.{IsPlanOf}

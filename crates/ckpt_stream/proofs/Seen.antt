@@ -9,7 +9,7 @@ use Rattle.path_records.specs.declared.key.Key.{Key}
 use Rattle.path_records.specs.Key.{key_bytes}
 use Rattle.ckpt_stream.specs.declared.planner.Planner.{Planner}
 use Rattle.ckpt_stream.specs.Merging.{order_of, keys_named, keys_named_by, has_key, KeysRise, Includes, outlives, merged}
-use Rattle.ckpt_stream.specs.declared.edit.Edit.{Edit}
+use Rattle.ckpt_stream.specs.declared.plan.Edit.{Edit}
 use Rattle.ckpt_stream.specs.Planning.{is_beyond, IsPlanned, IsAfterKeyPuts}
 use Rattle.ckpt_stream.specs.Planner.{HasSeen, PlansOn}
 use Rattle.ckpt_stream.proofs.SettledRows.{no_olds}

@@ -15,8 +15,8 @@ use Rattle.ckpt_pair.specs.Checkpoint.{written_checkpoint}
 use Rattle.store_layout.specs.Limits.{latest}
 use Rattle.ckpt_pair.specs.Rows.{rows_format}
 use Rattle.store_open.specs.Sealed.{SealedHalf, sealed_half}
-use Rattle.store_open.specs.declared.sealed.SealedError.{SealedError}
-use Rattle.store_open.specs.declared.sealed.SealedError.TheVariants.{Fault, NoMemory, Damaged}
+use Rattle.store_open.specs.declared.error.SealedError.{SealedError}
+use Rattle.store_open.specs.declared.error.SealedError.TheVariants.{Fault, NoMemory, Damaged}
 use Rattle.ckpt_stream.specs.Rewriting.{RewriteView, untaken, untaken_len, edits_end}
 use Rattle.ckpt_stream.specs.Sums.{AreSummed}
 use Rattle.ckpt_stream.specs.Merge.{MergeView, bytes_made, IsReady}

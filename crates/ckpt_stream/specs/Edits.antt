@@ -6,8 +6,8 @@ use Rattle.row_map.specs.declared.row.Row.{Row}
 use Rattle.row_map.specs.Database.{RowView, row_len}
 use Rattle.row_map.specs.Row.{row_view}
 use Rattle.path_records.specs.RowRecord.{row_record}
-use Rattle.ckpt_stream.specs.declared.edit.Edit.{Edit}
-use Rattle.ckpt_stream.specs.declared.edit.Edit.TheVariants.{Keep, Pass, Put}
+use Rattle.ckpt_stream.specs.declared.plan.Edit.{Edit}
+use Rattle.ckpt_stream.specs.declared.plan.Edit.TheVariants.{Keep, Pass, Put}
 
 -- Entries of rows as contracts see them.
 abbrev pub views_if_any : List (Option Row) → List (Option RowView)

@@ -20,14 +20,14 @@ use Rattle.ckpt_stream.specs.Settling.{steps_to_settle}
 use Rattle.ckpt_pair.specs.declared.reading.Front.{Front}
 use Rattle.ckpt_pair.specs.Rows.{as_counted}
 use Rattle.store_open.specs.Sealed.{sealed_half}
-use Rattle.store_open.specs.declared.sealed.SealedError.{SealedError}
-use Rattle.store_open.specs.declared.sealed.SealedError.TheVariants.{Fault, NoMemory, Damaged}
+use Rattle.store_open.specs.declared.error.SealedError.{SealedError}
+use Rattle.store_open.specs.declared.error.SealedError.TheVariants.{Fault, NoMemory, Damaged}
 use Rattle.ckpt_stream.specs.declared.half_read.HalfRead.{HalfRead}
 use Rattle.ckpt_stream.specs.declared.half_read.HalfRead.TheVariants.{Unread, Journal, Rows, Settled, Planned}
 use Rattle.ckpt_stream.specs.declared.old_journal.JournalRead.{JournalRead}
 use Rattle.ckpt_stream.specs.declared.old_rows.RowsRead.{RowsRead}
-use Rattle.ckpt_stream.specs.declared.settled.RowsSettled.{RowsSettled}
-use Rattle.ckpt_stream.specs.declared.settled.PlannedRows.{PlannedRows}
+use Rattle.ckpt_stream.specs.declared.half_read.RowsSettled.{RowsSettled}
+use Rattle.ckpt_stream.specs.declared.half_read.PlannedRows.{PlannedRows}
 use Rattle.ckpt_stream.specs.OldArea.{IsReadByFront}
 use Rattle.ckpt_stream.specs.OldRows.{AreRowsRead, AreStreamed, AreSummedOn, AreSettled, ArePlanned}
 use Rattle.ckpt_stream.specs.Pieces.{all_pieces}

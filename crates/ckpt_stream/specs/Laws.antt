@@ -8,7 +8,7 @@ use Rattle.path_db.specs.CommandLaws.{left_under_all}
 use Rattle.path_records.specs.declared.key.Key.{Key}
 use Rattle.path_records.specs.Key.{key_bytes}
 use Rattle.path_records.specs.RowRecord.{rows_encoding}
-use Rattle.ckpt_stream.specs.declared.edit.Edit.{Edit}
+use Rattle.ckpt_stream.specs.declared.plan.Edit.{Edit}
 use Rattle.ckpt_stream.specs.Edits.{edited}
 use Rattle.ckpt_stream.specs.Planning.{is_beyond, MakesAll}
 use Rattle.ckpt_stream.specs.Merging.{keys_named_by, has_key, KeysRise, Includes, outlives, rows_left, merged}

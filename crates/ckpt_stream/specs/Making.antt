@@ -1,6 +1,6 @@
 -- Why making stops, and how long it goes on.
 use Rattle.std.specs.Prelude.{◌≡◌, ℕ, suc, ◌+◌, ◌<◌, ◌≤◌, ◌⊎◌, [], ◌∷◌, length, if◌then◌else◌, nat_le, ◌==◌}
-use Rattle.ckpt_stream.specs.declared.edit.Edit.TheVariants.{Keep}
+use Rattle.ckpt_stream.specs.declared.plan.Edit.TheVariants.{Keep}
 use Rattle.ckpt_stream.specs.Edits.{bytes_in}
 use Rattle.ckpt_stream.specs.Rewriting.{RewriteView, left_to_keep}
 use Rattle.path_records.specs.declared.format.TheConstants.{PIECE}

@@ -12,7 +12,7 @@ use Rattle.store_layout.specs.declared.format.TheConstants.{BEFORE_ROWS}
 use Rattle.store_layout.specs.Checkpoint.{checkpoint_bytes, checkpoint_encoding}
 use Rattle.ckpt_pair.specs.Checkpoint.{written_checkpoint}
 use Rattle.ckpt_pair.specs.Rows.{rows_format}
-use Rattle.ckpt_stream.specs.declared.edit.Edit.TheVariants.{Keep}
+use Rattle.ckpt_stream.specs.declared.plan.Edit.TheVariants.{Keep}
 use Rattle.ckpt_stream.specs.Rewriting.{RewriteView, untaken, untaken_len, edits_end}
 use Rattle.path_records.specs.declared.format.TheConstants.{PIECE}
 use Rattle.ckpt_stream.specs.declared.merge.Merge.TheInside.{Inside}

@@ -17,8 +17,8 @@ use Rattle.ckpt_stream.specs.Settling.{Settles}
 use Rattle.store_layout.specs.declared.format.TheConstants.{BEFORE_ROWS}
 use Rattle.ckpt_stream.specs.Sums.{sums_in}
 use Rattle.ckpt_stream.specs.declared.old_rows.RowsRead.{RowsRead}
-use Rattle.ckpt_stream.specs.declared.settled.RowsSettled.{RowsSettled}
-use Rattle.ckpt_stream.specs.declared.settled.PlannedRows.{PlannedRows}
+use Rattle.ckpt_stream.specs.declared.half_read.RowsSettled.{RowsSettled}
+use Rattle.ckpt_stream.specs.declared.half_read.PlannedRows.{PlannedRows}
 
 -- The rows in the first sectors of an area are read and planned.
 pub record AreRowsRead (rows : RowsRead) : Type 0 where

@@ -5,7 +5,7 @@ use Rattle.row_map.specs.Drops.{is_valid_beyond}
 use Rattle.path_records.specs.declared.key.Key.{Key}
 use Rattle.path_records.specs.Key.{key_bytes}
 use Rattle.path_records.specs.RowRecord.{rows_encoding}
-use Rattle.ckpt_stream.specs.declared.edit.Edit.{Edit}
+use Rattle.ckpt_stream.specs.declared.plan.Edit.{Edit}
 use Rattle.ckpt_stream.specs.Merging.{one_if, rows_left, merged}
 use Rattle.ckpt_stream.specs.Found.{rows_found}
 use Rattle.ckpt_stream.specs.Edits.{edited, bytes_in, puts_in, count_rows}

@@ -1,8 +1,8 @@
 -- A rewrite: the bytes that are made and not taken yet, and those that are still to be made.
 use Rattle.std.specs.Prelude.{◌≡◌, ℕ, ◌+◌, ◌-◌, ◌<◌, ◌≤◌, ◌^◌, ◌⊎◌, List, [], ◌∷◌, ◌++◌, length, take, drop, Option}
 use Rattle.row_map.specs.Database.{RowView}
-use Rattle.ckpt_stream.specs.declared.edit.Edit.{Edit}
-use Rattle.ckpt_stream.specs.declared.edit.Edit.TheVariants.{Keep, Pass, Put}
+use Rattle.ckpt_stream.specs.declared.plan.Edit.{Edit}
+use Rattle.ckpt_stream.specs.declared.plan.Edit.TheVariants.{Keep, Pass, Put}
 use Rattle.ckpt_stream.specs.declared.rewrite.Rewrite.TheInside.{Inside}
 use Rattle.ckpt_stream.specs.Edits.{record_if_any, views_if_any, edited, bytes_in, bytes_out}
 use Rattle.path_records.specs.declared.format.TheConstants.{PIECE}

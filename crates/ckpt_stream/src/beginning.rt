@@ -1,6 +1,6 @@
 //! Beginning the checkpoint of a sealed half.
 
-ghost use Rattle.std.specs.Prelude.{◌≡◌, ◌+◌, ◌*◌, ◌<◌, ◌≤◌, ◌^◌, List, IfOk, OnOk};
+ghost use Rattle.std.specs.Prelude.{◌+◌, ◌*◌, ◌<◌, ◌≤◌, ◌^◌, List, IfOk, OnOk};
 ghost use Rattle.byte_lists.specs.declared.format.TheConstants.{SECTOR};
 ghost use Rattle.row_map.specs.Database.{RowView, IsDatabase, rows_len};
 ghost use Rattle.path_db.specs.declared.command.Command.{Command};
@@ -20,13 +20,12 @@ ghost use Rattle.ckpt_stream.specs.Preparation.{SealedContents, IsUnread, IsPrep
 ghost use Rattle.sector_dev.specs.Disk.{IsHonest, reads_of};
 
 use crate::error::PieceError;
-use crate::half_read::HalfRead;
+use crate::half_read::{HalfRead, PlannedRows};
 use crate::making::make_piece;
 use crate::merge::{Merge, WINDOW};
 use crate::plan::Plan;
 use crate::preparation::Preparation;
 use crate::rewrite::Rewrite;
-use crate::settled::PlannedRows;
 use byte_lists::sector_count;
 use ckpt_pair::{area_room, checkpoint_front};
 use sector_dev::Device;

@@ -15,12 +15,10 @@
 #![tactic(auto)]
 
 mod beginning;
-mod edit;
 mod error;
 mod ghosts;
 mod half_read;
 mod laws;
-mod left_rows;
 mod making;
 mod merge;
 mod old_area;
@@ -32,21 +30,16 @@ mod preparation;
 mod putting;
 mod rewrite;
 mod rewrite_buffer;
-mod sectors;
-mod settled;
 mod settling;
 mod sums;
-mod totals;
 mod touched;
-mod whole;
 
 pub use beginning::begin_prepared;
-pub use edit::Edit;
 pub use error::PieceError;
 pub use ghosts::note::{RowsNote, and_row, no_rows, rows_after};
 pub use laws::{keys_make_folds, merges_are_folds, pieces_follow, plans_make_folds};
 pub use merge::{Merge, PIECE_SECTORS};
-pub use plan::Plan;
+pub use plan::{Edit, Plan};
 pub use planner::Planner;
 pub use preparation::Preparation;
 pub use rewrite::Rewrite;

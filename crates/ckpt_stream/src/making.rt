@@ -16,8 +16,8 @@ ghost use Rattle.ckpt_stream.specs.Making.{WhyRewritten};
 
 use crate::error::PieceError;
 use crate::merge::PIECE_SECTORS;
+use crate::old_area::read_sectors;
 use crate::rewrite::Rewrite;
-use crate::sectors::read_sectors;
 use crate::sums::have_sums;
 use byte_lists::SECTOR;
 use path_records::PIECE;

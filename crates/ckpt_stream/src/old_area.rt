@@ -1,6 +1,6 @@
-//! Reading the front of a sealed half's area.
+//! Reading a sealed half's area: its front, and sectors into a buffer that exists.
 
-ghost use Rattle.std.specs.Prelude.{◌≡◌, ◌+◌, ◌-◌, ◌*◌, ◌≤◌, IfOk};
+ghost use Rattle.std.specs.Prelude.{◌≡◌, ◌+◌, ◌-◌, ◌*◌, ◌≤◌, IfOk, length, take, OnOk};
 ghost use Rattle.byte_lists.specs.declared.format.TheConstants.{SECTOR};
 ghost use Rattle.sector_dev.specs.Disk.{IsHonest, reads_of};
 ghost use Rattle.store_layout.specs.declared.format.TheConstants.{BEFORE_ROWS};
@@ -11,13 +11,15 @@ ghost use Rattle.store_open.specs.Sealed.{LooksAtHalf};
 ghost use Rattle.ckpt_stream.specs.OldArea.{FrontSo};
 ghost use Rattle.ckpt_stream.specs.HalfRead.{IsHalfRead, IsWithin, pieces_to_come, ReadsOn};
 ghost use Rattle.ckpt_stream.specs.declared.half_read.HalfRead.TheVariants.{Unread};
+ghost use Rattle.byte_lists.specs.Content.{part};
+ghost use Rattle.store_open.specs.Looking.{LooksAt};
 
 use crate::half_read::HalfRead;
 use crate::old_journal::JournalRead;
 use byte_lists::SECTOR;
 use ckpt_pair::{Front, checkpoints_are_read_by_their_fronts, read_front};
 use gate_journal::Scanner;
-use sector_dev::Device;
+use sector_dev::{DevError, Device};
 use std::alloc::Global;
 use store_layout::{Geometry, Half};
 use store_open::{OpenError, SealedError, read_sector};
@@ -63,4 +65,21 @@ fn read_old_front<D: Device>(
     checkpoints_are_read_by_their_fronts();
     let sector = read_sector(device, geometry.area_at(half))?;
     Ok(read_front(&sector, SECTOR as u64 * u64::from(geometry.checkpoint))?)
+}
+
+/// Reads this number of sectors to the front of a window.
+pub(crate) fn read_sectors<D: Device>(
+    device: &mut D,
+    at: u64,
+    count: u64,
+    window: &mut [u8],
+) -> Result<(), DevError>
+    requires inside { at + count ≤ (D.disk device.old).sectors }
+    requires window { SECTOR * count ≤ length window.old }
+    ensures looks { LooksAt result (D.disk device.old) (D.disk device.new) }
+    ensures window { length window.new ≡ length window.old }
+    ensures read { IsHonest (D.disk device.old)
+        → OnOk result (take (SECTOR * count) window.new ≡ part (SECTOR * at) (SECTOR * count) (reads_of (D.disk device.old))) }
+{
+    device.read(at, &mut window[..SECTOR * count as usize])
 }

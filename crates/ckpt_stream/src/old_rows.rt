@@ -14,7 +14,6 @@ ghost use Rattle.ckpt_pair.specs.Rows.{as_counted};
 ghost use Rattle.ckpt_pair.specs.Stream.{HasStreamed};
 ghost use Rattle.ckpt_stream.specs.Planner.{HasSeen};
 ghost use Rattle.ckpt_stream.specs.Settling.{steps_to_settle};
-ghost use Rattle.path_records.specs.declared.format.TheConstants.{PIECE};
 ghost use Rattle.store_open.specs.Refusals.{LooksFor};
 ghost use Rattle.store_open.specs.Sealed.{LooksAtHalf};
 ghost use Rattle.ckpt_stream.specs.declared.half_read.HalfRead.TheVariants.{Rows};
@@ -22,11 +21,10 @@ ghost use Rattle.ckpt_stream.specs.OldRows.{AreRowsRead, RefusesRows, GoesOnInRo
 ghost use Rattle.ckpt_stream.specs.HalfRead.{IsHalfRead, IsWithin, pieces_to_come, ReadsOn};
 
 use crate::ghosts::note::{RowsNote, and_row, no_rows, rows_after};
-use crate::half_read::HalfRead;
+use crate::half_read::{HalfRead, RowsSettled};
 use crate::making::row_part;
+use crate::old_area::read_sectors;
 use crate::planner::Planner;
-use crate::sectors::read_sectors;
-use crate::settled::RowsSettled;
 use crate::sums::push_sums;
 use byte_lists::SECTOR;
 use ckpt_pair::{Front, RowStream};

@@ -8,7 +8,7 @@ ghost use Rattle.ckpt_stream.specs.Planning.{is_beyond};
 ghost use Rattle.ckpt_stream.specs.Planner.{HasSeen, IsFresh, PlansOn};
 ghost use Rattle.ckpt_stream.specs.Settling.{SettlesSeen, steps_to_settle};
 
-use crate::edit::Edit;
+use crate::plan::Edit;
 use crate::putting::{push_edit, put_rest, put_up_to};
 use crate::settling::Settling;
 use crate::touched::{greatest_purge, with_named};

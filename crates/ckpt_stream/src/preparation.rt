@@ -5,7 +5,7 @@ ghost use Rattle.sector_dev.specs.Disk.{IsHonest, reads_of};
 ghost use Rattle.store_layout.specs.Layout.{Geometry as GeometryView, IsGeometry, image_sectors};
 ghost use Rattle.store_layout.specs.Geometry.{geometry_view};
 ghost use Rattle.store_open.specs.Sealed.{LooksAtHalf};
-ghost use Rattle.store_open.specs.declared.sealed.SealedError.TheVariants.{Damaged as IsDamaged};
+ghost use Rattle.store_open.specs.declared.error.SealedError.TheVariants.{Damaged as IsDamaged};
 ghost use Rattle.ckpt_stream.specs.Preparation.{SealedContents, HasSealed, IsUnread, is_whole, calls_left, IsPreparedFrom};
 
 use crate::half_read::HalfRead;

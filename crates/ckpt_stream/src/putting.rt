@@ -7,7 +7,7 @@ ghost use Rattle.ckpt_stream.specs.Merging.{order_of};
 ghost use Rattle.row_map.specs.Row.{row_view};
 ghost use Rattle.ckpt_stream.specs.Planning.{IsPlanned, IsBeforeRowEdit, IsAfterKeyPuts, SameEdits, MakesAll};
 
-use crate::edit::Edit;
+use crate::plan::Edit;
 use path_records::Key;
 use row_map::Row;
 use std::alloc::AllocError;

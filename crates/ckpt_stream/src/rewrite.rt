@@ -1,11 +1,11 @@
 //! The records after commands in pieces, from pieces of the records before.
 
-ghost use Rattle.std.specs.Prelude.{◌≡◌, ◌<◌, ◌≤◌, ◌∷◌, [], true, false, length, drop};
-ghost use Rattle.ckpt_stream.specs.declared.edit.Edit.TheVariants.{Keep};
+ghost use Rattle.std.specs.Prelude.{◌≡◌, ◌<◌, ◌≤◌, ◌∷◌, true, false, length, drop};
+ghost use Rattle.ckpt_stream.specs.declared.plan.Edit.TheVariants.{Keep};
 ghost use Rattle.path_records.specs.declared.format.TheConstants.{PIECE};
 ghost use Rattle.ckpt_stream.specs.declared.rewrite.TheConstants.{BUFFER};
 
-use crate::edit::Edit;
+use crate::plan::Edit;
 use crate::rewrite_buffer::{cut_front, put_if_any, put_part};
 use byte_lists::put;
 use path_records::PIECE;

@@ -2,19 +2,20 @@
 
 ghost use Rattle.std.specs.Prelude.{◌≡◌, ◌<◌, ◌≤◌, ◌^◌, List, [], length, IfOk, OnOk};
 ghost use Rattle.path_db.specs.declared.command.Command.{Command};
-ghost use Rattle.row_map.specs.Database.{RowView};
+ghost use Rattle.row_map.specs.Database.{RowView, row_under};
 ghost use Rattle.ckpt_stream.specs.Planner.{IsPlanOf};
 ghost use Rattle.ckpt_stream.specs.Settling.{Settles, SettlesOn, HasFewerSteps, steps_to_settle};
+ghost use Rattle.path_db.specs.Command.{HasWholeSegments};
+ghost use Rattle.std.specs.Option.{option_map};
+ghost use Rattle.row_map.specs.Row.{row_view};
+ghost use Rattle.path_records.specs.Key.{key_bytes};
 
-use crate::edit::Edit;
 use crate::laws::merges_are_folds;
-use crate::left_rows::row_at;
-use crate::plan::Plan;
-use crate::totals::{kept_bytes, one_if_any, record_len};
-use crate::whole::command_is_whole;
+use crate::plan::{Edit, Plan, kept_bytes, one_if_any, record_len};
 use path_db::{Command, PathDb, commands_keep_database};
 use path_records::Key;
 use row_map::Row;
+use seg_core::encoded_len;
 use std::alloc::{AllocError, Global};
 use std::mem::replace;
 
@@ -191,5 +192,30 @@ fn work_of(command: &Command) -> usize {
         Command::Register(registration) => registration.as_slice().len().saturating_add(1),
         Command::Purge(_) => WORK,
         Command::Remove(_, _) => 1,
+    }
+}
+
+/// The segments of a command are whole.
+pub(crate) fn command_is_whole(command: &Command)
+    ensures { HasWholeSegments command.now }
+{
+    match command {
+        Command::Register(registration) => {
+            for row in registration.as_slice() {
+                let _bytes = encoded_len(&row.1);
+            }
+        }
+        Command::Purge(_) => {}
+        Command::Remove(_, _) => {}
+    }
+}
+
+/// The row of a database under a key. It shares its segment.
+pub(crate) fn row_at(db: &PathDb, key: &Key) -> Result<Option<Row>, AllocError>
+    ensures { IfOk result (λ row. option_map row_view row ≡ row_under (key_bytes key.now) db.now) }
+{
+    match db.get(key.kind, &key.id) {
+        Some(segment) => Ok(Some(Row::new(key.kind, segment.try_clone()?))),
+        None => Ok(None),
     }
 }

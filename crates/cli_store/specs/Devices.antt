@@ -9,8 +9,8 @@ use Rattle.store_open.specs.PathStores.{store_format}
 use Rattle.store_open.specs.Open.{RefusesOpening, WantsMemoryToOpen}
 use Rattle.store_open.specs.declared.error.OpenError.{OpenError}
 use Rattle.store_open.specs.declared.error.OpenError.TheVariants.{Device}
-use Rattle.store_open.specs.declared.store_error.StoreError.{StoreError}
-use Rattle.store_open.specs.declared.store_error.StoreError.TheVariants as checkpoint
+use Rattle.store_open.specs.declared.error.StoreError.{StoreError}
+use Rattle.store_open.specs.declared.error.StoreError.TheVariants as checkpoint
 use Rattle.cli_store.specs.declared.error.Fault.{Fault}
 use Rattle.cli_store.specs.declared.error.Fault.TheVariants.{Open, Checkpoint}
 

@@ -5,8 +5,8 @@ use Rattle.gate_journal.specs.ErrorNumber as journal
 use Rattle.ckpt_pair.specs.ErrorNumber as pair
 use Rattle.store_open.specs.declared.error.OpenError.{OpenError}
 use Rattle.store_open.specs.declared.error.OpenError.TheVariants.{NotAStore, Device, Pair, Journal, NoMemory}
-use Rattle.store_open.specs.declared.store_error.StoreError.{StoreError}
-use Rattle.store_open.specs.declared.store_error.StoreError.TheVariants as checkpoint
+use Rattle.store_open.specs.declared.error.StoreError.{StoreError}
+use Rattle.store_open.specs.declared.error.StoreError.TheVariants as checkpoint
 use Rattle.store_open.specs.declared.new_store.FormatError.{FormatError}
 use Rattle.store_open.specs.declared.new_store.FormatError.TheVariants as format
 use Rattle.store_open.specs.declared.copying.CopyError.{CopyError}

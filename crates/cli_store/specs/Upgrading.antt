@@ -6,8 +6,8 @@ use Rattle.store_layout.specs.Limits.{latest}
 use Rattle.store_open.specs.Open.{IsOpened}
 use Rattle.store_open.specs.PathStores.{IsStoreOf}
 use Rattle.store_open.specs.Store.{StoreView, IsAtRest, Checkpoints}
-use Rattle.store_open.specs.declared.store_error.StoreError.{StoreError}
-use Rattle.store_open.specs.declared.store_error.StoreError.TheVariants as checkpoint
+use Rattle.store_open.specs.declared.error.StoreError.{StoreError}
+use Rattle.store_open.specs.declared.error.StoreError.TheVariants as checkpoint
 use Rattle.cli_store.specs.Text.{version_line}
 use Rattle.whole_writes.specs.Written.{IsWrittenInPart}
 use Rattle.cli_store.specs.Devices.{IsNotOpened, OpeningLacksMemory}

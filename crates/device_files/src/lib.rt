@@ -7,19 +7,12 @@
 //! clause states what the system does. It is proved that a `SystemFile` has no failures yet.
 #![tactic(auto)]
 
-mod cache;
 mod creating;
-mod descriptor;
 mod holder;
-mod kind;
 mod locked;
-mod longest;
 mod opening;
-mod writable;
-mod zeros;
 
-pub use creating::create;
+pub use creating::{Room, create};
 pub use holder::holder_of;
 pub use locked::LockedFile;
 pub use opening::{open, open_to_read};
-pub use zeros::Room;

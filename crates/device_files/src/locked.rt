@@ -4,12 +4,8 @@ ghost use Rattle.std.specs.Prelude.{◌≡◌, IfOk};
 ghost use Rattle.sector_dev.specs.CountedFile.{calls_of, failures_of};
 ghost use Rattle.device_files.specs.Descriptor.{IsAboveStandard};
 
-use crate::cache::forget_cached;
-use crate::descriptor::above_standard;
-use crate::kind::{DeviceKind, check_path, device_kind};
-use crate::longest::check_len;
-use crate::writable::check_writable;
-use crate::zeros::{Room, set_zeros};
+use crate::creating::{Room, check_len, forget_cached, set_zeros};
+use crate::opening::{DeviceKind, above_standard, check_path, check_writable, device_kind};
 use sector_dev::SystemFile;
 use std::alloc::Global;
 use std::fs::{File, OpenOptions};

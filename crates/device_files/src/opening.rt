@@ -1,18 +1,18 @@
-//! Opening files that exist.
+//! Opening files that exist, of the kinds that a device can have.
 
 ghost use Rattle.std.specs.Prelude.{◌≡◌, IfOk};
 ghost use Rattle.sector_dev.specs.CountedFile.{calls_of, failures_of};
 ghost use Rattle.device_files.specs.Descriptor.{IsAboveStandard};
 
-use crate::cache::forget_cached;
-use crate::descriptor::above_standard;
-use crate::kind::{DeviceKind, check_path, device_kind};
-use crate::longest::check_len;
-use crate::writable::check_writable;
+use crate::creating::{check_len, forget_cached};
+use libc::STDERR_FILENO;
 use sector_dev::SystemFile;
-use std::fs::{File, OpenOptions};
-use std::io;
+use std::fs::{File, FileType, OpenOptions};
+use std::io::{Error, ErrorKind};
+use std::os::fd::AsRawFd;
+use std::os::unix::fs::{FileExt, FileTypeExt};
 use std::rt::Files;
+use std::{fs, io};
 
 /// Opens a file or a block device, which this process alone may read and write. Where another
 /// process has it open by a function of this library, the error is `WouldBlock`. A block device
@@ -51,4 +51,67 @@ pub fn open_to_read<R: AllocGlobal + Files<File = File>>(
     device_kind(&file)?;
     forget_cached(&file);
     SystemFile::new(rt.alloc(), file)
+}
+
+/// Refuses an open block device that takes no writes. Linux opens a read-only one for writing, and
+/// refuses each write of it, also one of no bytes. That is what is written here, so nothing
+/// changes.
+pub(crate) fn check_writable(device: &File) -> io::Result<()> {
+    device.write_at(&[], 0)?;
+    Ok(())
+}
+
+/// The same open file at a descriptor above that of standard error, the last of the three that a
+/// process is started with. A process that was started with a closed standard handle is given the
+/// number of that handle for the next file, and would print into the file.
+pub(crate) fn above_standard(file: File) -> io::Result<File>
+    ensures { IfOk result (λ moved. IsAboveStandard moved) }
+{
+    if file.as_raw_fd() > STDERR_FILENO {
+        return Ok(file);
+    }
+    let moved = file.try_clone()?;
+    if moved.as_raw_fd() > STDERR_FILENO {
+        return Ok(moved);
+    }
+    Err(Error::new(ErrorKind::Other, "no descriptor above standard error"))
+}
+
+/// The files that a device can be over.
+#[derive(Clone, Copy)]
+pub(crate) enum DeviceKind {
+    /// A regular file, whose length can be set.
+    File,
+    /// A block device, whose length is given.
+    Block,
+}
+
+/// The kind of an open file. Any other kind, such as a directory, a pipe or a terminal, is refused
+/// by `InvalidInput`.
+pub(crate) fn device_kind(file: &File) -> io::Result<DeviceKind> {
+    kind_of(file.metadata()?.file_type())
+}
+
+/// Refuses a path that has neither a file nor a block device, as `device_kind` does, before it is
+/// opened: to open a pipe waits for a process that writes into it, and to open a terminal may wait
+/// too. A path of which nothing can be said is left to the call that opens it.
+pub(crate) fn check_path<R: AllocGlobal + Files<File = File>>(
+    rt: &R,
+    path: &str,
+) -> io::Result<()> {
+    if let Ok(metadata) = fs::metadata(rt, path) {
+        kind_of(metadata.file_type())?;
+    }
+    Ok(())
+}
+
+// The kind of a file of this type.
+fn kind_of(kind: FileType) -> io::Result<DeviceKind> {
+    if kind.is_file() {
+        return Ok(DeviceKind::File);
+    }
+    if kind.is_block_device() {
+        return Ok(DeviceKind::Block);
+    }
+    Err(Error::new(ErrorKind::InvalidInput, "neither a file nor a block device"))
 }

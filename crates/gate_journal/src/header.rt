@@ -7,9 +7,9 @@ ghost use Rattle.store_layout.specs.GroupReading.{is_group_header as group_heade
 ghost use Rattle.gate_journal.specs.declared.error.JournalError.TheVariants.{NoMemory};
 ghost use Rattle.gate_journal.specs.Reading.{header_reading, GivesJournal};
 
+use crate::encoding::{fits, payload_sectors};
 use crate::error::JournalError;
 use crate::format::{COUNT_AT, GROUP, HEADER, MOST_RECORD_BYTES, PLACE_AT, SEAL, SIZE_AT};
-use crate::sizes::{fits, payload_sectors};
 use byte_lists::{read_u32, read_u64};
 use store_layout::most_commands;
 

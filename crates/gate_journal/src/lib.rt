@@ -12,13 +12,11 @@ mod header;
 mod laws;
 mod records;
 mod scanner;
-mod sizes;
 mod whole;
 
-pub use encoding::{can_be_group, encode_group, encode_seal};
+pub use encoding::{can_be_group, encode_group, encode_seal, fits, payload_sectors, record_len};
 pub use error::JournalError;
 pub use format::{COUNT_AT, GROUP, HEADER, MOST_RECORD_BYTES, PLACE_AT, SEAL, SIZE_AT};
 pub use laws::command::commands_are_allowed;
 pub use scanner::{Piece, Progress, Scan, Scanner, Stage};
-pub use sizes::{fits, payload_sectors, record_len};
 pub use whole::scan;

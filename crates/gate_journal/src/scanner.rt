@@ -5,10 +5,10 @@ ghost use Rattle.byte_lists.specs.Sectors.{whole_sectors};
 ghost use Rattle.byte_lists.specs.declared.format.TheConstants.{SECTOR};
 ghost use Rattle.gate_journal.specs.Scanning.{first_wanted, count_wanted, IsReadUpTo, TakesPiece, CountsForReading};
 
+use crate::encoding::payload_sectors;
 use crate::error::JournalError;
 use crate::header::{Header, read_header};
 use crate::records::read_payload;
-use crate::sizes::payload_sectors;
 use byte_lists::is_open;
 use path_db::Command;
 use std::alloc::Global;

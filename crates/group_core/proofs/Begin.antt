@@ -28,8 +28,8 @@ use Rattle.ckpt_stream.specs.Preparation.{SealedContents, HasSealed, Preparation
 use Rattle.store_open.specs.PathStores.{store_format}
 use Rattle.store_open.specs.Behind.{SameBehind}
 use Rattle.store_open.specs.Sealed.{SealedHalf, sealed_half, folded_in, folded_behind, LooksAtHalf}
-use Rattle.store_open.specs.declared.sealed.SealedError.{SealedError}
-use Rattle.store_open.specs.declared.sealed.SealedError.TheVariants as half
+use Rattle.store_open.specs.declared.error.SealedError.{SealedError}
+use Rattle.store_open.specs.declared.error.SealedError.TheVariants as half
 use Rattle.group_phases.specs.declared.phases.Flush.TheVariants.{Durable}
 use Rattle.group_phases.specs.declared.phases.Check.{Check}
 use Rattle.group_phases.specs.declared.phases.Check.TheVariants.{Ready, Sealed, Planned}

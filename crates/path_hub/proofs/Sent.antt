@@ -48,8 +48,8 @@ use Rattle.ckpt_pair.specs.contracts.reading.Front as Front
 use Rattle.ckpt_pair.specs.contracts.row_stream.RowStream as RowStream
 use Rattle.ckpt_stream.specs.contracts.old_journal.JournalRead as JournalRead
 use Rattle.ckpt_stream.specs.contracts.old_rows.RowsRead as RowsRead
-use Rattle.ckpt_stream.specs.contracts.settled.RowsSettled as RowsSettled
-use Rattle.ckpt_stream.specs.contracts.settled.PlannedRows as PlannedRows
+use Rattle.ckpt_stream.specs.contracts.half_read.RowsSettled as RowsSettled
+use Rattle.ckpt_stream.specs.contracts.half_read.PlannedRows as PlannedRows
 use Rattle.ckpt_stream.specs.contracts.half_read.HalfRead as HalfRead
 use Rattle.ckpt_stream.specs.contracts.preparation.Preparation as Preparation
 use Rattle.group_core.specs.declared.showcase.Showcase as show

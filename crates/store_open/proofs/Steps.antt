@@ -23,8 +23,8 @@ use Rattle.gate_journal.specs.declared.scanner.Scan.{Scan}
 use Rattle.gate_journal.specs.Scanning.{reading_of}
 use Rattle.ckpt_pair.specs.declared.error.PairError.{PairError}
 use Rattle.ckpt_pair.specs.declared.error.PairError.TheVariants as pair
-use Rattle.ckpt_pair.specs.declared.head.Head.{Head}
-use Rattle.ckpt_pair.specs.declared.head.Heads.{Heads}
+use Rattle.ckpt_pair.specs.declared.choice.Head.{Head}
+use Rattle.ckpt_pair.specs.declared.choice.Heads.{Heads}
 use Rattle.ckpt_pair.specs.Heads.{head_seen, head_at, half_with_tail}
 use Rattle.ckpt_pair.specs.Refusals.{ReadsPair}
 use Rattle.store_open.specs.declared.error.OpenError.{OpenError}

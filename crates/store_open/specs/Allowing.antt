@@ -1,8 +1,8 @@
 -- Whether a store may make a checkpoint.
 use Rattle.std.specs.Prelude.{◌≡◌, ◌-◌, ◌^◌, ◌<◌, true, false, Result, Ok, Err}
 use Rattle.store_open.specs.Store.{StoreView, HasNoRoomInArea, MayCheckpoint}
-use Rattle.store_open.specs.declared.store_error.StoreError.{StoreError}
-use Rattle.store_open.specs.declared.store_error.StoreError.TheVariants.{Fault, Sealed, NoMemory, Exhausted, Unfit, Broken}
+use Rattle.store_open.specs.declared.error.StoreError.{StoreError}
+use Rattle.store_open.specs.declared.error.StoreError.TheVariants.{Fault, Sealed, NoMemory, Exhausted, Unfit, Broken}
 
 -- The store may make a checkpoint, or this is the first reason why not.
 abbrev pub AllowsCheckpoint : Result (Unit {0}) StoreError → StoreView → Type 0

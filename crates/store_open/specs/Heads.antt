@@ -7,7 +7,7 @@ use Rattle.store_layout.specs.Layout.{Geometry}
 use Rattle.store_layout.specs.OpeningReading.{head_of, choice_of}
 use Rattle.ckpt_pair.specs.Heads.{head_seen}
 use Rattle.store_layout.specs.Limits.{latest}
-use Rattle.ckpt_pair.specs.declared.head.Heads.{Heads}
+use Rattle.ckpt_pair.specs.declared.choice.Heads.{Heads}
 use Rattle.store_open.specs.declared.heads.Choice.{Choice}
 
 -- The half of a choice.

@@ -15,8 +15,8 @@ use Rattle.store_layout.specs.StoreGrowth.{last_reading}
 use Rattle.store_layout.specs.Limits.{latest}
 use Rattle.store_open.specs.Closing.{HasClosedGates}
 use Rattle.store_open.specs.PathStores.{store_format, IsStoreOf}
-use Rattle.store_open.specs.declared.store_error.StoreError.{StoreError}
-use Rattle.store_open.specs.declared.store_error.StoreError.TheVariants.{Fault, Sealed, NoMemory, Exhausted, Unfit, Broken}
+use Rattle.store_open.specs.declared.error.StoreError.{StoreError}
+use Rattle.store_open.specs.declared.error.StoreError.TheVariants.{Fault, Sealed, NoMemory, Exhausted, Unfit, Broken}
 
 -- A store as contracts see it.
 pub record StoreView : Type 0 where

@@ -6,9 +6,9 @@ ghost use Rattle.store_open.specs.Allowing.{AllowsCheckpoint};
 ghost use Rattle.store_open.specs.Behind.{SameBehind};
 ghost use Rattle.store_open.specs.Store.{Checkpoints, OpensToStore};
 
+use crate::error::StoreError;
 use crate::laying::BUFFER;
 use crate::store::Store;
-use crate::store_error::StoreError;
 use crate::taking_over::take_over;
 use ckpt_pair::{Head, area_room, checkpoint_head};
 use path_records::written_rows_are_counted;

@@ -11,7 +11,7 @@ ghost use Rattle.store_open.specs.Looking.{LooksAt};
 ghost use Rattle.store_open.specs.NewStore.{DeviceHasRoomFor};
 ghost use Rattle.store_open.specs.Closing.{IsClosing, IsClosingUnused, HasClosedGates, HasNoGateToClose, synced_by};
 
-use crate::reading::read_sector;
+use crate::scanning::read_sector;
 use byte_lists::{closed_gate, closed_gates, is_open};
 use sector_dev::{DevError, Device};
 use store_layout::{Geometry, Half};

@@ -1,8 +1,6 @@
 //! Making a store with given rows, as a copy of another store.
 
-ghost use Rattle.std.specs.Prelude.{◌≡◌, ◌≤◌, ◌+◌, ◌*◌, length, OnOk};
-ghost use Rattle.byte_lists.specs.declared.format.TheConstants.{SECTOR};
-ghost use Rattle.row_map.specs.Database.{rows_len};
+ghost use Rattle.std.specs.Prelude.{◌≡◌, length, OnOk};
 ghost use Rattle.sector_dev.specs.Disk.{IsHonest};
 ghost use Rattle.sector_dev.specs.Calls.{Keeps, count_after};
 ghost use Rattle.sector_dev.specs.Stretch.{Stretch};
@@ -10,8 +8,8 @@ ghost use Rattle.store_layout.specs.Geometry.{geometry_view};
 ghost use Rattle.store_open.specs.Copying.{IsBeingMade, HoldsStoreWith, MayHoldRows, FormatsWith};
 ghost use Rattle.store_open.specs.declared.laying.TheConstants.{BUFFER};
 
+use crate::first_sector::title_sector;
 use crate::laying::{BUFFER, lay};
-use crate::sectors::title_sector;
 use crate::taking_over::write_through;
 use byte_lists::{closed_gates, open_gate};
 use ckpt_pair::{area_room, checkpoint_head};

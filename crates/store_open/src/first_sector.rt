@@ -1,9 +1,9 @@
-//! Reading the sizes of a store.
+//! Sector 0 of a store, as it is read and made, and the first checkpoint of a new store.
 
 ghost use Rattle.std.specs.Prelude.{◌≡◌, ℕ, ◌≤◌, List, length, IfOk};
 ghost use Rattle.std.specs.Option.{option_map, IfSome};
 ghost use Rattle.byte_lists.specs.Content.{part};
-ghost use Rattle.byte_lists.specs.Sectors.{whole_sectors};
+ghost use Rattle.byte_lists.specs.Sectors.{whole_sectors, padded};
 ghost use Rattle.byte_lists.specs.declared.format.TheConstants.{SECTOR};
 ghost use Rattle.sector_dev.specs.Disk.{IsHonest, reads_of};
 ghost use Rattle.sector_dev.specs.Calls.{Keeps, count_after};
@@ -13,12 +13,25 @@ ghost use Rattle.store_layout.specs.Geometry.{geometry_view};
 ghost use Rattle.store_open.specs.Looking.{LooksAt};
 ghost use Rattle.store_open.specs.NewStore.{DeviceHasRoomFor};
 ghost use Rattle.store_open.specs.Titles.{has_title, sizes_told, titled_sizes};
+ghost use Rattle.store_layout.specs.FirstSector as laws;
+ghost use Rattle.store_open.specs.NewStore as written;
 
-use crate::reading::read_sector;
-use crate::title::{CHECKPOINT_AT, JOURNAL_AT, LAYOUT, LAYOUT_AT, STORE_MAGIC};
-use byte_lists::{read_u32, read_u64};
+use crate::scanning::read_sector;
+use byte_lists::{put, read_u32, read_u64};
+use ckpt_pair::checkpoint_front;
 use sector_dev::{DevError, Device, SECTOR};
 use store_layout::Geometry;
+
+/// The eight letters SCPATHDB as one big-endian number, at the front of sector 0.
+pub(crate) const STORE_MAGIC: u64 = 0x5343504154484442;
+/// The number of the layout.
+pub(crate) const LAYOUT: u32 = 1;
+/// The offset of the number of the layout, four bytes.
+pub(crate) const LAYOUT_AT: usize = 8;
+/// The offset of the number of sectors of a checkpoint area, four bytes.
+pub(crate) const CHECKPOINT_AT: usize = 12;
+/// The offset of the number of sectors of a journal, four bytes.
+pub(crate) const JOURNAL_AT: usize = 16;
 
 /// The sizes of the store on a device, from its sector 0; `None` where the bytes that reads return
 /// are no store. The device is unchanged.
@@ -93,4 +106,30 @@ fn sizes_of(sector: &[u8]) -> Option<Geometry>
         return None;
     }
     Some(geometry)
+}
+
+/// Sector 0: the name (8 bytes) and the number of the layout (4), and the two sizes (4 each),
+/// big-endian.
+pub(crate) fn title_sector(geometry: Geometry) -> [u8; 512]
+    ensures { result ≡ laws.first_sector (geometry_view geometry) }
+{
+    let mut sector = [0; SECTOR];
+    put(&mut sector, 0, &STORE_MAGIC.to_be_bytes());
+    put(&mut sector, LAYOUT_AT, &LAYOUT.to_be_bytes());
+    put(
+        &mut sector,
+        CHECKPOINT_AT,
+        &geometry.checkpoint.to_be_bytes(),
+    );
+    put(&mut sector, JOURNAL_AT, &geometry.journal.to_be_bytes());
+    sector
+}
+
+/// The checkpoint of a new store: epoch 1, place 0, no rows.
+pub(crate) fn first_checkpoint() -> [u8; 512]
+    ensures { result ≡ padded written.first_checkpoint_bytes }
+{
+    let mut sector = [0; SECTOR];
+    put(&mut sector, 0, &checkpoint_front(1, 0, 0, 0));
+    sector
 }

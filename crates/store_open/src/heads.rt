@@ -1,6 +1,6 @@
 //! Reading the heads of both halves.
 
-ghost use Rattle.std.specs.Prelude.{◌≡◌, ◌≢◌, ◌≤◌, IfOk, IfErr};
+ghost use Rattle.std.specs.Prelude.{◌≢◌, ◌≤◌, IfOk, IfErr};
 ghost use Rattle.sector_dev.specs.Disk.{IsHonest, reads_of};
 ghost use Rattle.store_layout.specs.Layout.{IsGeometry, image_sectors};
 ghost use Rattle.store_layout.specs.OpeningReading.{head_of};
@@ -12,7 +12,7 @@ ghost use Rattle.store_open.specs.Refusals.{LooksFor, PairSo};
 ghost use Rattle.store_open.specs.Heads.{chosen_half, choice_by_heads, HasHeads};
 
 use crate::error::OpenError;
-use crate::reading::read_sector;
+use crate::scanning::read_sector;
 use byte_lists::is_open;
 use ckpt_pair::{Head, Heads, choose, read_head};
 use sector_dev::Device;

@@ -1,16 +1,15 @@
 //! Making a store.
 
-ghost use Rattle.std.specs.Prelude.{◌≡◌, ◌≤◌, OnOk};
+ghost use Rattle.std.specs.Prelude.{◌≡◌, OnOk};
 ghost use Rattle.sector_dev.specs.Disk.{IsHonest};
 ghost use Rattle.sector_dev.specs.Calls.{Keeps, count_after};
 ghost use Rattle.sector_dev.specs.Image.{IsFromImage};
 ghost use Rattle.sector_dev.specs.Stretch.{Stretch};
-ghost use Rattle.store_layout.specs.Layout.{IsGeometry, image_sectors};
 ghost use Rattle.store_layout.specs.Geometry.{geometry_view};
 ghost use Rattle.store_open.specs.NewStore.{Formats, HoldsNewStore, DeviceHasRoomFor};
 ghost use Rattle.store_open.specs.Behind.{SameBehind};
 
-use crate::sectors::{first_checkpoint, title_sector};
+use crate::first_sector::{first_checkpoint, title_sector};
 use byte_lists::{closed_gate, open_gate};
 use sector_dev::{DevError, Device};
 use store_layout::{Geometry, Half};

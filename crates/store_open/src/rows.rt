@@ -1,6 +1,6 @@
 //! Reading the rows of a checkpoint from a device.
 
-ghost use Rattle.std.specs.Prelude.{◌≡◌, ◌+◌, ◌*◌, ◌≤◌, IfOk, IsOk};
+ghost use Rattle.std.specs.Prelude.{◌+◌, ◌*◌, ◌≤◌, IfOk, IsOk};
 ghost use Rattle.byte_lists.specs.Content.{part};
 ghost use Rattle.byte_lists.specs.declared.format.TheConstants.{SECTOR};
 ghost use Rattle.sector_dev.specs.Disk.{IsHonest, reads_of};
@@ -16,8 +16,7 @@ ghost use Rattle.store_open.specs.Refusals.{LooksFor, PairSo, OnOkOrNoMemory};
 ghost use Rattle.store_open.specs.Rows.{FeedsSo};
 
 use crate::error::OpenError;
-use crate::reading::read_sector;
-use crate::scanning::fill;
+use crate::scanning::{fill, read_sector};
 use ckpt_pair::{
     Checkpoint, checkpoints_are_read_by_their_fronts, feed_rows_by, finish_rows, read_front,
 };

@@ -1,6 +1,6 @@
-//! Reading a journal from a device.
+//! Reading sectors and a journal from a device.
 
-ghost use Rattle.std.specs.Prelude.{◌≡◌, ◌⊎◌, ◌+◌, ◌*◌, ◌%◌, ◌≤◌, length, IfOk, IfErr, OnOk};
+ghost use Rattle.std.specs.Prelude.{◌≡◌, ◌⊎◌, ◌+◌, ◌*◌, ◌%◌, ◌≤◌, length, IfOk, IfErr, OnOk, ◌<◌};
 ghost use Rattle.byte_lists.specs.Content.{part};
 ghost use Rattle.byte_lists.specs.declared.format.TheConstants.{SECTOR};
 ghost use Rattle.sector_dev.specs.Disk.{IsHonest, reads_of};
@@ -11,10 +11,12 @@ ghost use Rattle.gate_journal.specs.Commands.{command_format};
 ghost use Rattle.store_open.specs.declared.error.OpenError.TheVariants.{Device as IsDevice, NoMemory};
 ghost use Rattle.store_layout.specs.Geometry.{geometry_view};
 ghost use Rattle.store_open.specs.Refusals.{LooksFor, ScansSo};
+ghost use Rattle.byte_lists.specs.Sectors.{sector_at};
+ghost use Rattle.store_open.specs.Looking.{LooksAt};
 
 use crate::error::OpenError;
 use gate_journal::{Progress, Scan, Scanner};
-use sector_dev::{Device, SECTOR};
+use sector_dev::{DevError, Device, SECTOR};
 use std::alloc::Global;
 use store_layout::{Geometry, Half};
 
@@ -76,4 +78,15 @@ pub(crate) fn fill<D: Device>(device: &mut D, at: u64, piece: &mut [u8]) -> Resu
 {
     device.read(at, piece)?;
     Ok(())
+}
+
+/// Reads a sector, which the device has.
+pub fn read_sector<D: Device>(device: &mut D, at: u64) -> Result<[u8; 512], DevError>
+    requires { at < (D.disk device.old).sectors }
+    ensures looks { LooksAt result (D.disk device.old) (D.disk device.new) }
+    ensures read { IfOk result (λ sector. IsHonest (D.disk device.old) → sector ≡ sector_at at (reads_of (D.disk device.old))) }
+{
+    let mut sector = [0; SECTOR];
+    device.read(at, &mut sector)?;
+    Ok(sector)
 }

@@ -425,16 +425,17 @@ def git(*words: str) -> subprocess.CompletedProcess:
 
 
 def is_unchanged(edit: Edit, since: str) -> bool:
-    """Whether the edit is what it was at a commit, in the gate or beside it, but for the words of its row."""
+    """Whether the edit is what it was at a commit, in the gate or beside it, but for the words of its row and the file's name."""
     for folder in KINDS:
         known = git("show", f"{since}:crates/{edit.crate}/{folder}/{edit.path.name}")
-        if known.returncode == 0 and without_phrase(known.stdout) == without_phrase(edit.path.read_text()):
+        if known.returncode == 0 and lines_of(known.stdout) == lines_of(edit.path.read_text()):
             return True
     return False
 
 
-def without_phrase(text: str) -> str:
-    return re.sub(r"^body: .*\n", "", text, flags=re.M)
+def lines_of(text: str) -> str:
+    """The old and the new lines of an edit, and its clause."""
+    return re.sub(r"^(body|file): .*\n", "", text, flags=re.M)
 
 
 def last_try(edit: Edit) -> dict:

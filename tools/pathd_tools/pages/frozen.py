@@ -13,8 +13,8 @@ RECORDS = "crates/path_records/src/format.rt"
 # The rows of the table, each with the file and the names of its constants. A row is complete where the file has
 # no further constant of its pattern.
 ROWS: dict[str, tuple[str, str]] = {
-    "a store's magic": ("crates/store_open/src/title.rt", "STORE_MAGIC"),
-    "a layout's number": ("crates/store_open/src/title.rt", "LAYOUT"),
+    "a store's magic": ("crates/store_open/src/first_sector.rt", "STORE_MAGIC"),
+    "a layout's number": ("crates/store_open/src/first_sector.rt", "LAYOUT"),
     "a checkpoint's magic": ("crates/ckpt_pair/src/format.rt", "CHECKPOINT_MAGIC"),
     "the latest version of the format": ("crates/store_layout/src/versions.rt", "LATEST"),
     "an open gate": ("crates/byte_lists/src/format.rt", "OPEN"),

@@ -9,7 +9,7 @@ use Rattle.store_layout.specs.Layout.{area_at}
 use Rattle.store_layout.specs.Geometry.{geometry_view}
 use Rattle.ckpt_pair.specs.Heads.{head_view}
 use Rattle.ckpt_stream.specs.Rewriting.{untaken}
-use Rattle.store_open.specs.declared.sealed.SealedError.{SealedError}
+use Rattle.store_open.specs.declared.error.SealedError.{SealedError}
 use Rattle.ckpt_stream.proofs.Looks.{stays_same, stays_piece, stays_damaged, fault_piece, looks_ok, looks_damaged, looks_refused}
 use Rattle.ckpt_stream.specs.Sums.{AreSummed}
 use Rattle.ckpt_stream.proofs.Rewrites.{not_cut}

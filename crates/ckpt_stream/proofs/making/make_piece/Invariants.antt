@@ -3,7 +3,7 @@ use Rattle.std.proofs.Common.{◌≡◌, ◌+◌, ◌*◌, ◌<◌, ◌≤◌, �
 use Rattle.byte_lists.specs.Content.{part}
 use Rattle.sector_dev.specs.Disk.{IsHonest, reads_of}
 use Rattle.sector_dev.specs.Calls.{Keeps}
-use Rattle.ckpt_stream.specs.declared.edit.Edit.TheVariants.{Keep}
+use Rattle.ckpt_stream.specs.declared.plan.Edit.TheVariants.{Keep}
 use Rattle.ckpt_stream.specs.Rewriting.{untaken, untaken_len, edits_end, left_to_keep}
 use Rattle.ckpt_stream.specs.Making.{reads_left}
 use Rattle.ckpt_stream.proofs.making.make_piece.Given as goal

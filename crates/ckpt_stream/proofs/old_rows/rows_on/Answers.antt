@@ -7,7 +7,7 @@ use Rattle.sector_dev.specs.Disk.{reads_of}
 use Rattle.store_layout.specs.Layout.{area_at}
 use Rattle.store_layout.specs.Geometry.{geometry_view}
 use Rattle.ckpt_pair.specs.Heads.{head_view}
-use Rattle.store_open.specs.declared.sealed.SealedError.{SealedError}
+use Rattle.store_open.specs.declared.error.SealedError.{SealedError}
 use Rattle.ckpt_stream.specs.declared.half_read.HalfRead.{HalfRead}
 use Rattle.ckpt_stream.specs.HalfRead.{ReadsHalf}
 use Rattle.ckpt_stream.proofs.Looks.{stays_same, looks_refused_rows}

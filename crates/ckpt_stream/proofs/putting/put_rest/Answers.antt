@@ -1,7 +1,7 @@
 use Rattle.std.proofs.Common.{◌+◌, [], List, sym, subst}
 use Rattle.seg_core.specs.declared.seg_type.SegType.TheVariants.{Up}
 use Rattle.path_records.specs.declared.key.Key.{Key}
-use Rattle.ckpt_stream.specs.declared.edit.Edit.{Edit}
+use Rattle.ckpt_stream.specs.declared.plan.Edit.{Edit}
 use Rattle.ckpt_stream.specs.Planning.{IsEnding}
 use Rattle.ckpt_stream.proofs.Plans.{ending_from, put_end, all_made}
 use Rattle.ckpt_stream.proofs.putting.put_rest.Goals as goal

@@ -1,6 +1,6 @@
 use Rattle.std.proofs.Common.{true, ◌+◌, List, sym, ◌∙◌, subst}
 use Rattle.row_map.specs.Row.{row_view}
-use Rattle.ckpt_stream.specs.declared.edit.Edit.{Edit}
+use Rattle.ckpt_stream.specs.declared.plan.Edit.{Edit}
 use Rattle.ckpt_stream.specs.Planning.{IsBeforeRowEdit, IsAfterKeyPuts}
 use Rattle.ckpt_stream.proofs.Plans.{put_below, put_same, none_same, none_left, is_greater, is_equal, is_less}
 use Rattle.ckpt_stream.proofs.putting.put_up_to.Goals as goal

@@ -4,7 +4,7 @@ use Rattle.std.proofs.lemmas.Result.{err_from_is_err_and}
 use Rattle.sector_dev.specs.Disk.{History, reads_of}
 use Rattle.sector_dev.proofs.Stretches.{honest_after}
 use Rattle.store_layout.specs.OpeningReading.{head_of}
-use Rattle.ckpt_pair.specs.declared.head.Head.{Head}
+use Rattle.ckpt_pair.specs.declared.choice.Head.{Head}
 use Rattle.ckpt_pair.specs.Heads.{head_seen}
 use Rattle.store_layout.specs.Limits.{latest}
 use Rattle.ckpt_pair.specs.Refusals.{ReadsPair}

@@ -1,6 +1,6 @@
 use Rattle.std.proofs.Common.{List, subst, sym}
 use Rattle.path_records.specs.declared.key.Key.{Key}
-use Rattle.ckpt_stream.specs.declared.edit.Edit.{Edit}
+use Rattle.ckpt_stream.specs.declared.plan.Edit.{Edit}
 use Rattle.ckpt_stream.specs.Planning.{is_beyond, IsPlanned, MakesAll}
 use Rattle.ckpt_stream.proofs.Folds.{begun}
 use Rattle.ckpt_stream.proofs.planner.Planner.settle.Goals as goal

@@ -4,7 +4,7 @@ use Rattle.std.proofs.lemmas.Result.{err_from_is_err_and}
 use Rattle.sector_dev.specs.Disk.{reads_of}
 use Rattle.store_layout.specs.Layout.{image_sectors}
 use Rattle.store_layout.specs.Geometry.{geometry_view}
-use Rattle.store_open.specs.declared.sealed.SealedError.{SealedError}
+use Rattle.store_open.specs.declared.error.SealedError.{SealedError}
 use Rattle.ckpt_stream.specs.declared.half_read.HalfRead.{HalfRead}
 use Rattle.ckpt_stream.specs.HalfRead.{IsReadOn, RefusesHalf}
 use Rattle.ckpt_stream.specs.Preparation.{PreparationView, IsPreparedFrom}

@@ -1,5 +1,5 @@
 use Rattle.std.proofs.Common.{refl, sym, ap, ◌∙◌}
-use Rattle.ckpt_stream.specs.declared.edit.Edit.{Edit}
+use Rattle.ckpt_stream.specs.declared.plan.Edit.{Edit}
 use Rattle.ckpt_stream.specs.Rewriting.{untaken_len, with_edit}
 use Rattle.ckpt_stream.proofs.RewriteSteps.{put_len}
 use Rattle.ckpt_stream.proofs.rewrite.Rewrite.enter.Goals as goal

@@ -1,6 +1,6 @@
 use Rattle.std.proofs.Common.{arith, ◌≡◌, ℕ, ◌+◌, ◌-◌, ◌<◌, ◌≤◌, List, ◌∷◌, ◌++◌, length, take, drop, sym, ap, subst}
 use Rattle.std.proofs.lemmas.List.{length-take-le, with_items_is}
-use Rattle.ckpt_stream.specs.declared.edit.Edit.TheVariants.{Keep}
+use Rattle.ckpt_stream.specs.declared.plan.Edit.TheVariants.{Keep}
 use Rattle.ckpt_stream.specs.Edits.{views_if_any}
 use Rattle.ckpt_stream.specs.Rewriting.{RewriteView, Rewrites, steps_left, left_to_keep}
 use Rattle.ckpt_stream.proofs.RewriteSteps.{keeps, kept_smaller}

@@ -1,6 +1,6 @@
 use Rattle.std.proofs.Common.{arith, ◌≡◌, List, ℕ, ◌∷◌, length, take, drop, ap, ◌∙◌}
 use Rattle.std.proofs.lemmas.List.{with_items_is}
-use Rattle.ckpt_stream.specs.declared.edit.Edit.TheVariants.{Keep}
+use Rattle.ckpt_stream.specs.declared.plan.Edit.TheVariants.{Keep}
 use Rattle.ckpt_stream.specs.Edits.{views_if_any}
 use Rattle.ckpt_stream.specs.Rewriting.{RewriteView}
 use Rattle.ckpt_stream.proofs.rewrite.Rewrite.take.Goals as goal

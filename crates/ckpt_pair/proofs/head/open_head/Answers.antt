@@ -1,9 +1,0 @@
--- Goals that the search finds itself.
-use Rattle.std.proofs.Common.{rules}
-use Rattle.ckpt_pair.proofs.head.open_head.Goals as goal
-
-pub returns-then-version-gt-LATEST : goal.returns-then-version-gt-LATEST
-returns-then-version-gt-LATEST c = search rules
-
-pub returns : goal.returns
-returns c = search rules

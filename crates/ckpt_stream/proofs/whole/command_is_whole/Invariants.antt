@@ -1,6 +1,0 @@
-use Rattle.std.proofs.Common.{take}
-use Rattle.row_map.specs.Database.{AreWhole}
-use Rattle.ckpt_stream.proofs.whole.command_is_whole.Given as goal
-
-abbrev pub invariant-loop-row : goal.invariant-loop-row
-invariant-loop-row l = AreWhole (take l.row-index l.row-items)

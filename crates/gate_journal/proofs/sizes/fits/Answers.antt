@@ -1,6 +1,0 @@
--- One goal, which the search finds itself.
-use Rattle.std.proofs.Common.{rules}
-use Rattle.gate_journal.proofs.sizes.fits.Goals as goal
-
-pub returns-then-payload-journal : goal.returns-then-payload-journal
-returns-then-payload-journal c = search rules
