@@ -81,7 +81,6 @@ pub(crate) fn start_rows(alloc: Global, front: Front, journal: Scan) -> RowsRead
     ensures read { AreRowsRead result }
     ensures few { pieces_to_come (Rows result) < 2 ^ 67 }
 {
-    let _count = journal.commands.len();
     let planner = Planner::new(alloc);
     let stream = RowStream::new(alloc, front.size, front.count);
     RowsRead {

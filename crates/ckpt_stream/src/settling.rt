@@ -72,7 +72,6 @@ impl Settling {
         ensures count { result.count ≡ 0 }
         ensures few { steps_to_settle result < 2 ^ 65 }
     {
-        let _both = (commands.len(), keys.len());
         Settling {
             keys,
             edits,
