@@ -44,7 +44,7 @@ pub fn checkpoint_head(db: &PathDb, epoch: u64, place: u64) -> [u8; 32]
     ensures spelled { result ++ rows_encoding db.now ≡ checkpoint_bytes rows_format (written_checkpoint epoch place db.now) }
     ensures can { CanBeCheckpoint rows_format (written_checkpoint epoch place db.now) }
 {
-    checkpoint_front(epoch, place, db.encoded_len() as u32, row_count(db))
+    checkpoint_front(epoch, place, db.encoded_len() as u32, db.len() as u32)
 }
 
 /// The 32 bytes of `checkpoint_head` for any rows, by the length of their records in bytes and
@@ -62,13 +62,4 @@ pub fn checkpoint_front(epoch: u64, place: u64, size: u32, count: u32) -> [u8; 3
     put(&mut head, SIZE_AT, &size.to_be_bytes());
     put(&mut head, COUNT_AT, &count.to_be_bytes());
     head
-}
-
-/// The number of rows of a database whose records have less than 4 GiB.
-fn row_count(db: &PathDb) -> u32
-    requires { rows_len db.now < 2 ^ 32 }
-    ensures count { result ≡ length db.now }
-    ensures whole { IsDatabase db.now }
-{
-    db.len() as u32
 }

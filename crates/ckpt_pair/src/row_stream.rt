@@ -55,7 +55,7 @@ impl RowStream {
         ensures refused { OnErr result (self.new ≡ self.old) }
         ensures memory { OnErr result (0 < length piece.now) }
     {
-        let taken = front_of(piece, self.bytes);
+        let taken = &piece[..piece.len().min(self.bytes as usize)];
         self.cursor.push(taken)?;
         self.bytes -= taken.len() as u32;
         Ok(())
@@ -97,14 +97,6 @@ impl RowStream {
             }
         }
     }
-}
-
-/// The first bytes of a piece, at most `most`.
-fn front_of(piece: &[u8], most: u32) -> &[u8]
-    ensures front { result.now ≡ take most piece.now }
-    ensures few { length result.now ≤ most }
-{
-    &piece[..piece.len().min(most as usize)]
 }
 
 /// The next row of a cursor. Bytes that are no next row are a bad checkpoint.
