@@ -1,7 +1,7 @@
 //! A group that follows the group in flight: it is written before the gate of the group in flight
 //! is synced, so that one sync serves both.
 
-ghost use Rattle.std.specs.Prelude.{◌≡◌, ◌≢◌, MatchResult};
+ghost use Rattle.std.specs.Prelude.{◌≢◌, MatchResult};
 ghost use Rattle.group_phases.specs.declared.phases.Flush.TheVariants.{Following as following, Followed as followed, DurableFollowed as durable_followed};
 ghost use Rattle.group_core.specs.Stops.{StepLeaves};
 ghost use Rattle.group_core.specs.Steps.{FlushStep};

@@ -1,9 +1,9 @@
 //! Claims on the answers to commands that were handed in at a hub, the answers, and who waits for
 //! one.
 //!
-//! A command that is handed in has a claim of the hub's queue. `Answer::committed` and
-//! `Answer::refused` make the answer to that claim, and `Slot::put` puts it where the command's
-//! `HubClaim` finds it.
+//! A command that is handed in has a claim of the hub's queue. `Answer::committed`,
+//! `Answer::refused` and `Answer::stopped` make the answer to that claim, and `Slot::put` puts it
+//! where the command's `HubClaim` finds it.
 //!
 //! To the layer above: `HubClaim::take_answer` returns a receipt of the command of the claim, or
 //! why there is none. An answer to another claim is not taken. `HubName` names the hub, and

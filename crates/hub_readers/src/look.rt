@@ -42,8 +42,8 @@ impl<N: ReaderName> Look<N> {
     }
 }
 
-/// Looks that were handed in, of the hub of this name. Contracts see them as their commands. They are
-/// not `Drop`: they end with their showcase.
+/// Looks that were handed in, of the hub of this name. Contracts see them as their commands. They
+/// are not `Drop`: they end with their showcase.
 pub struct Looks<N: ReaderName> {
     longest: PastLog,
     fronts: FrontsNote,

@@ -146,8 +146,8 @@ module _ (opening : StoreValue (List RowView)) where
     pub some : 1 ≤ length (found_after new.groups query new.moment)
     pub refused : reply ≡ Refused memory_code
 
--- At a hub that opened with this value. Where `shut` is true, it is known that a reader's seat was not
--- let in to what is published.
+-- At a hub that opened with this value. Where `shut` is true, it is known that a reader's seat was
+-- not let in to what is published.
 module _ (opening : StoreValue (List RowView)) (shut : Bool) where
   -- The reader was shown nothing: its seat was not let in, or what is published is older than what
   -- the service has seen.

@@ -66,10 +66,11 @@ impl<L: Listener + Drop> Door<L> {
         *entrances = None;
     }
 
-    /// Waits for the next peer, with the role of its session. Its connection is sealed. None is awaited where the door is
-    /// closed. After each accept `goes_on` is asked whether peers are still awaited. After an
-    /// accept that failed `fail` gets the system's number of its error, or 0 where it has none, and
-    /// the pause in milliseconds until the next accept. No clause says which peer comes.
+    /// Waits for the next peer, with the role of its session. Its connection is sealed. None is
+    /// awaited where the door is closed. After each accept `goes_on` is asked whether peers are still
+    /// awaited. After an accept that failed `fail` gets the system's number of its error, or 0 where
+    /// it has none, and the pause in milliseconds until the next accept. No clause says which peer
+    /// comes.
     pub fn next_arrival<R: Wait + Clock, G: Fn() -> bool + Drop, F: Fn(i32, u64) + Drop>(
         &self,
         rt: &R,

@@ -4,7 +4,7 @@
 //! that gets a `Replies` and never returns can't have written an acknowledgement that it did not
 //! have.
 
-ghost use Rattle.std.specs.Prelude.{◌≡◌, [], OnOk, OnErr, IfErr};
+ghost use Rattle.std.specs.Prelude.{◌≡◌, [], OnOk, IfErr};
 ghost use Rattle.std.specs.Io.KnownBytes.{Appends, Keeps};
 ghost use Rattle.session_core.specs.Reply.{HasReplySize, Refused, reply_frame, told_as};
 ghost use Rattle.session_core.specs.ReplyViews.{reply_view};

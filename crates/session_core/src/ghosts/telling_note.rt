@@ -1,6 +1,6 @@
 //! Replies that only contracts name.
 
-ghost use Rattle.std.specs.Prelude.{◌≡◌, [], ◌∷◌, ◌++◌};
+ghost use Rattle.std.specs.Prelude.{◌≡◌, []};
 ghost use Rattle.std.specs.Borrow.{ftrue};
 ghost use Rattle.session_core.specs.Reply.{Refused};
 ghost use Rattle.session_core.specs.ReplyViews.{reply_view};
