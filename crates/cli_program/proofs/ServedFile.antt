@@ -1,68 +1,80 @@
 -- What serving leaves of the file of a store: for `serve_site`.
-use Rattle.std.proofs.Common.{◌≡◌, ℕ, List, Bool, IsTrue, Option, None, Some, IfSome, sym, subst}
+use Rattle.std.proofs.Common.{◌≡◌, refl, Bool, IsTrue, Option, Some, IfSome, sym, ap, ◌∙◌, subst}
 use Rattle.sector_dev.specs.Disk.{Disk, IsHonest, reads_of}
 use Rattle.sector_dev.specs.FileDevice.{front, CoversImages}
 use Rattle.sector_dev.specs.Image.{EveryImage, IsFromImage}
 use Rattle.sector_dev.specs.PositionedFile.{FileState}
 use Rattle.sector_dev.specs.Stretch.{Stretch}
-use Rattle.sector_dev.proofs.Stretches.{honest_after}
-use Rattle.store_layout.specs.Opening.{OpensTo}
-use Rattle.store_layout.specs.Limits.{latest}
 use Rattle.store_open.specs.Open.{IsOpened, OpensAlike}
-use Rattle.store_open.specs.PathStores.{store_format}
 use Rattle.store_open.specs.Store.{StoreView}
 use Rattle.group_core.specs.Starting.{value_of_store}
 use Rattle.logged_state.specs.Kept.{AllClaimsKept, AllShownKept}
 use Rattle.logged_state.specs.Left.{OpensToFrontOf, OpensToLog}
-use Rattle.command_queue.specs.Orders.{commands_of, IsWithin, AreAllOf}
+use Rattle.logged_state.specs.LeftView.{LeftView}
+use Rattle.command_queue.specs.Orders.{QueuedView, commands_of, IsWithin, AreAllOf}
 use Rattle.path_hub.specs.HubLeftView.{HubLeftView}
+use Rattle.prefix_recovery.specs.servers.Survival.{ServerView}
 use Rattle.cli_program.specs.Serving.{ServesFile}
 
--- the store has what its image opens with
-opens_to : (reads : List ℕ) (store : StoreView) → IsOpened reads store → OpensTo store_format latest reads (value_of_store store)
-opens_to reads store opened = record { opening = opened.rest.opening; is = opened.same; stands_for = opened.rest.tells.value }
-
-pub serves_file : (start : Disk) (store : StoreView) (left : HubLeftView) (file : FileState) (end : Disk)
+-- the clauses of a server that has ended, over its trace
+pub serves_file : (start : Disk) (store : StoreView) (left : LeftView) (queued : QueuedView) (file : FileState) (end : Disk)
     → (IsHonest start → IsOpened (reads_of start) store)
     → Stretch start store.disk (IsFromImage start.history.now OpensAlike)
     → Stretch store.disk end (OpensToFrontOf (value_of_store store) left.log.commands 0)
     → (IsHonest store.disk → AllClaimsKept (value_of_store store) left.log end.history left.acknowledged)
     → (IsHonest store.disk → AllShownKept (value_of_store store) left.log end.history left.looked)
-    → IsWithin left.log.commands (commands_of left.queued)
-    → AreAllOf left.queued left.senders
+    → IsWithin left.log.commands (commands_of queued.history)
+    → AreAllOf queued.history queued.senders
     → (IsHonest end → EveryImage end.history.now (OpensToLog (value_of_store store) left.log))
     → end.is_honest ≡ file.is_honest
     → CoversImages file end
-    → ServesFile start left file end
-serves_file start store left file end opened alike moments since looked queued sent now same covers = record {
-  opening = value_of_store store;
-  opens = λ honest. opens_to (reads_of start) store (opened honest);
-  opened = store.disk;
+    → ServesFile start (record { start = store; left = left; end = end }) queued file end
+serves_file start store left queued file end opened alike moments since looked within sent now same covers = record {
+  opens = opened;
   alike = alike;
-  moments = moments;
-  since = λ honest. since (honest_after _ _ alike.keeps honest);
-  looked = λ honest. looked (honest_after _ _ alike.keeps honest);
-  queued = queued;
+  served = record { moments = moments; since = since; looked = looked };
+  ends = refl;
+  within = within;
   sent = sent;
   leaves = λ honest content is. now (subst (λ (b : Bool). IsTrue b) (sym same) honest) (front end.sectors content) (covers honest content is);
 }
 
--- the same, if something is left
-pub serves_if : (start : Disk) (store : StoreView) (found : Option HubLeftView) (file : FileState) (end : Disk)
+-- the same of what a hub has left, if something is left: its parts, and the trace that is made of them
+pub serves_left : (start : Disk) (store begun : StoreView) (found : HubLeftView) (some : Option HubLeftView) (left : LeftView) (queued : QueuedView) (trace : ServerView)
+    (file : FileState) (end last : Disk)
+    → some ≡ Some found
+    → begun ≡ store
+    → left ≡ (record { table = found.table; log = found.log; acknowledged = found.acknowledged; looked = found.looked })
+    → queued ≡ (record { history = found.queued; senders = found.senders })
+    → trace ≡ (record { start = begun; left = left; end = last })
+    → last ≡ end
     → (IsHonest start → IsOpened (reads_of start) store)
     → Stretch start store.disk (IsFromImage start.history.now OpensAlike)
-    → IfSome found (λ left. Stretch store.disk end (OpensToFrontOf (value_of_store store) left.log.commands 0))
-    → IfSome found (λ left. IsHonest store.disk → AllClaimsKept (value_of_store store) left.log end.history left.acknowledged)
-    → IfSome found (λ left. IsHonest store.disk → AllShownKept (value_of_store store) left.log end.history left.looked)
-    → IfSome found (λ left. IsWithin left.log.commands (commands_of left.queued))
-    → IfSome found (λ left. AreAllOf left.queued left.senders)
-    → IfSome found (λ left. IsHonest end → EveryImage end.history.now (OpensToLog (value_of_store store) left.log))
+    → IfSome some (λ left. Stretch store.disk end (OpensToFrontOf (value_of_store store) left.log.commands 0))
+    → IfSome some (λ left. IsHonest store.disk → AllClaimsKept (value_of_store store) left.log end.history left.acknowledged)
+    → IfSome some (λ left. IsHonest store.disk → AllShownKept (value_of_store store) left.log end.history left.looked)
+    → IfSome some (λ left. IsWithin left.log.commands (commands_of left.queued))
+    → IfSome some (λ left. AreAllOf left.queued left.senders)
+    → IfSome some (λ left. IsHonest end → EveryImage end.history.now (OpensToLog (value_of_store store) left.log))
     → end.is_honest ≡ file.is_honest
     → CoversImages file end
-    → IfSome found (λ left. ServesFile start left file end)
-serves_if start store None file end opened alike moments since looked queued sent now same covers = tt
-serves_if start store (Some left) file end opened alike moments since looked queued sent now same covers =
-    serves_file start store left file end opened alike moments since looked queued sent now same covers
+    → ServesFile start trace queued file end
+serves_left start store begun found some left queued trace file end last is begins parts others made ends opened alike moments since looked within sent now same covers =
+    let of_found : LeftView = record { table = found.table; log = found.log; acknowledged = found.acknowledged; looked = found.looked } in
+    let of_queue : QueuedView = record { history = found.queued; senders = found.senders } in
+    let whole : trace ≡ (record { start = store; left = of_found; end = end }) =
+      made ∙ ap (λ s. record { start = s; left = left; end = last }) begins ∙ ap (λ l. record { start = store; left = l; end = last }) parts
+      ∙ ap (λ d. record { start = store; left = of_found; end = d }) ends in
+    subst (λ (t : ServerView). ServesFile start t queued file end) (sym whole)
+    (subst (λ (q : QueuedView). ServesFile start (record { start = store; left = of_found; end = end }) q file end) (sym others)
+    (serves_file start store of_found of_queue file end opened alike
+    (subst (λ o. IfSome o (λ left. Stretch store.disk end (OpensToFrontOf (value_of_store store) left.log.commands 0))) is moments)
+    (subst (λ o. IfSome o (λ left. IsHonest store.disk → AllClaimsKept (value_of_store store) left.log end.history left.acknowledged)) is since)
+    (subst (λ o. IfSome o (λ left. IsHonest store.disk → AllShownKept (value_of_store store) left.log end.history left.looked)) is looked)
+    (subst (λ o. IfSome o (λ left. IsWithin left.log.commands (commands_of left.queued))) is within)
+    (subst (λ o. IfSome o (λ left. AreAllOf left.queued left.senders)) is sent)
+    (subst (λ o. IfSome o (λ left. IsHonest end → EveryImage end.history.now (OpensToLog (value_of_store store) left.log))) is now)
+    same covers))
 
 -- what covers the images of a device covers those of the same device
 pub covers_same : (file same : FileState) (end last : Disk) → file ≡ same → end ≡ last → CoversImages file end → CoversImages same last

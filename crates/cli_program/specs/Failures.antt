@@ -21,6 +21,7 @@ abbrev pub IsFinalStatusOf : Subcommand → Found → ℕ → Type 0
 IsFinalStatusOf Run found status = IsNumberOf found (codes "final-status") 8 1 status
 IsFinalStatusOf _ found status = status ≡ 1
 
--- The status of the program by a failure, where the words have this status for one that is met again.
+-- The status of the program by a failure, where the words have this status for one that is met
+-- again.
 abbrev pub status_by : ℕ → Failure → ℕ
 status_by final_status failure = if is_lasting failure then final_status else 1

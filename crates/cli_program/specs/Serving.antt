@@ -1,21 +1,18 @@
 -- What each end of a server leaves of the file of its store.
-use Rattle.std.specs.Prelude.{◌≡◌, ◌*◌, List, ℕ, Result, Ok, Err}
-use Rattle.row_map.specs.Database.{RowView}
+use Rattle.std.specs.Prelude.{◌≡◌, List, ℕ, Result, Ok, Err}
 use Rattle.sector_dev.specs.Disk.{Disk, IsHonest, reads_of, after_sync}
 use Rattle.sector_dev.specs.FileDevice.{front}
 use Rattle.sector_dev.specs.Image.{IsImage, IsFromImage}
 use Rattle.sector_dev.specs.PositionedFile.{FileState, IsHonestFile, file_moment}
 use Rattle.sector_dev.specs.Stretch.{Stretch}
-use Rattle.store_layout.specs.Opening.{StoreValue, OpensTo}
-use Rattle.store_layout.specs.Limits.{latest}
 use Rattle.store_open.specs.Open.{ComesBack, IsNoFault, IsOpened, OpensAlike}
-use Rattle.store_open.specs.PathStores.{store_format}
 use Rattle.store_open.specs.Store.{StoreView}
 use Rattle.store_open.specs.declared.error.OpenError.{OpenError}
-use Rattle.logged_state.specs.Kept.{AllClaimsKept, AllShownKept}
-use Rattle.logged_state.specs.Left.{OpensToFrontOf, OpensToLog}
-use Rattle.command_queue.specs.Orders.{commands_of, IsWithin, AreAllOf}
-use Rattle.path_hub.specs.HubLeftView.{HubLeftView}
+use Rattle.group_core.specs.Starting.{value_of_store}
+use Rattle.logged_state.specs.Left.{OpensToLog}
+use Rattle.command_queue.specs.Orders.{QueuedView, commands_of, IsWithin, AreAllOf}
+use Rattle.prefix_recovery.specs.servers.Survival.{ServerView}
+use Rattle.prefix_recovery.specs.servers.Serving.{IsServed}
 use Rattle.path_server.specs.declared.error.RunError.{RunError}
 use Rattle.cli_store.specs.Fault.{fault_of_opening}
 use Rattle.cli_store.specs.declared.error.Fault.{Fault}
@@ -23,31 +20,25 @@ use Rattle.cli_commands.specs.declared.failure.Failure.{Failure}
 use Rattle.cli_commands.specs.declared.failure.Failure.TheVariants as failure
 use Rattle.cli_program.specs.Failures.{failure_of}
 
--- A store of a device over a file is opened and served: what the device has at the start, what the
--- server leaves, and the file and the device at the end.
-pub record ServesFile (start : Disk) (left : HubLeftView) (file : FileState) (end : Disk) : Type 0 where
-  -- The rows at the start, and their place.
-  pub opening : StoreValue (List RowView)
-  pub opens : IsHonest start → OpensTo store_format latest (reads_of start) opening
-  -- The device once the store is open. Until then each image that a stop may leave is one of the
-  -- start, or opens with what one of the start opens with.
-  pub opened : Disk
-  pub alike : Stretch start opened (IsFromImage start.history.now OpensAlike)
-  -- From then on, at every moment, each such image opens to these rows after a front of the log.
-  pub moments : Stretch opened end (OpensToFrontOf opening left.log.commands 0)
-  -- It has each acknowledged command from the moment on at which it was committed.
-  pub since : IsHonest start → AllClaimsKept opening left.log end.history left.acknowledged
-  -- What each session was shown last, if it handed that in, is committed, and each such image has
-  -- it from the moment on at which its last command was committed.
-  pub looked : IsHonest start → AllShownKept opening left.log end.history left.looked
+-- A store of a device over a file is opened and served: what the device has at the start, the
+-- server's trace and what was handed in at its queue, and the file and the device at the end.
+pub record ServesFile (start : Disk) (trace : ServerView) (queued : QueuedView) (file : FileState) (end : Disk) : Type 0 where
+  -- The store is opened. Until then each image that a stop may leave is one of the start, or opens
+  -- with what one of the start opens with.
+  pub opens : IsHonest start → IsOpened (reads_of start) trace.start
+  pub alike : Stretch start trace.start.disk (IsFromImage start.history.now OpensAlike)
+  -- From then on, at every moment, each such image opens to its rows after a front of the log, with
+  -- each acknowledged command from its commit on, and with what each session was shown last.
+  pub served : IsServed trace.start trace.left trace.end
+  pub ends : trace.end ≡ end
   -- Each command of the log was handed in by a sender, in the log's order and once.
-  pub queued : IsWithin left.log.commands (commands_of left.queued)
+  pub within : IsWithin trace.left.log.commands (commands_of queued.history)
   -- What a sender had handed in, if it was given back, is all that was handed in of it.
-  pub sent : AreAllOf left.queued left.senders
+  pub sent : AreAllOf queued.history queued.senders
   -- Each content that a stop may leave of the file at the end opens, in the device's sectors,
   -- to these rows after a front of the log with all committed commands.
   pub leaves : IsHonestFile file → (content : List ℕ) → IsImage (file_moment file) content
-      → OpensToLog opening left.log (front end.sectors content)
+      → OpensToLog (value_of_store trace.start) trace.left.log (front end.sectors content)
 
 -- The failure names the file of this path, and this fault of its store.
 abbrev pub NamesFault : List ℕ → Failure → Fault → Type 0

@@ -14,10 +14,13 @@ use crate::usage::UsageFiles;
 use clap::ArgMatches;
 use cli_commands::{Failure, make_where_none};
 use cli_words::{CORES, LOG_PRIORITY, QUIET, STOP_ON_END_OF_INPUT};
-use path_hub::{Ended, HubLeft};
+use command_queue::Queued;
+use path_hub::Ended;
 use path_server::{Options, RunError, serve_store};
+use prefix_recovery::ServerTrace;
 use sector_dev::{FileDevice, PositionedFile, SystemFile};
 use std::io::{Read, Write};
+use std::snapshot::Snapshot;
 use std::time::Instant;
 use std::{io, thread};
 
@@ -96,9 +99,18 @@ struct SiteEnd<'a, F: PositionedFile> {
     /// The device.
     device: Ended<FileDevice<F>>,
     /// What the server left, if the store was served.
-    left: Option<HubLeft>,
+    left: Option<ServerLeft<F>>,
     /// The number of sessions that were served, or why not all of them were.
     served: Result<u64, Failure<'a>>,
+}
+
+/// What a server has left.
+#[derive(Drop)]
+struct ServerLeft<F: PositionedFile> {
+    /// Its trace. `prefix_recovery::reopen_left` says what it opens to after a stop at any moment.
+    trace: ServerTrace<FileDevice<F>>,
+    /// All commands that were handed in at its queue.
+    queued: Queued,
 }
 
 /// Opens the store of a device and serves its sessions. It ends in one of three ways:
@@ -107,16 +119,17 @@ struct SiteEnd<'a, F: PositionedFile> {
 ///   (`RefusesStore`).
 /// - The store is opened and not served: there are no listeners, or no server was made. Nothing was
 ///   written since the opening, and the failure says why (`LeavesUnserved`).
-/// - The store is served, which leaves the log of all commands that were accepted. What a stop at
-///   any moment leaves of an honest file opens to the rows that it had at the start after a front
-///   of that log, with each acknowledged command from its commit on (`ServesFile`).
+/// - The store is served, which leaves the server's trace with the log of all commands that were
+///   accepted. What a stop at any moment leaves of an honest file opens to the rows that it had at
+///   the start after a front of that log, with each acknowledged command from its commit on
+///   (`ServesFile`).
 fn serve_site<'a, R: Host, F: PositionedFile + Drop + Send>(
     site: Site<'a, F>,
     options: &Options,
     notices: &Notices<R>,
 ) -> Result<SiteEnd<'a, F>, (Unopened<FileDevice<F>>, Failure<'a>)>
     ensures served { IfOk result (λ end. IfSome end.left (λ left.
-        ServesFile (file_disk site.entry.device) left (file_state end.device) (file_disk end.device))) }
+        ServesFile (file_disk site.entry.device) left.trace left.queued (file_state end.device) (file_disk end.device))) }
     ensures unserved { IfOk result (λ end. IfNone end.left
         (LeavesUnserved (file_disk site.entry.device) site.entry.listeners end.served (file_disk end.device))) }
     ensures unopened { IfErr result (λ back. RefusesStore site.entry.path.now (file_disk site.entry.device) back.1 (file_disk back.0)) }
@@ -139,8 +152,17 @@ fn serve_site<'a, R: Host, F: PositionedFile + Drop + Send>(
     };
     say_addresses(rt.alloc(), notices, path, store.as_store(), &listeners);
     say_overfull(notices, store.as_store());
+    let start = Snapshot::of(store.as_store());
     let (device, left, served) = serve_store(rt, rt.alloc(), listeners, store, options, notices);
     device.device().covers_images();
+    let left = match left {
+        Some(left) => {
+            let (left, queued) = left.into_parts();
+            let trace = ServerTrace::of(start, left, device.device());
+            Some(ServerLeft { trace, queued })
+        }
+        None => None,
+    };
     Ok(SiteEnd {
         device,
         left,

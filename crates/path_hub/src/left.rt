@@ -41,19 +41,17 @@ impl HubLeft {
         HubLeft { left, queued }
     }
 
-    /// What is left of the state alone.
-    pub fn into_left(self) -> Left
-        ensures { result ≡ record {
+    /// What is left of the state, and of the queue before it.
+    pub fn into_parts(self) -> (Left, Queued)
+        ensures left { result.0 ≡ record {
           table = self.table;
           log = self.log;
           acknowledged = self.acknowledged;
           looked = self.looked;
         } }
+        ensures queued { result.1 ≡ record { history = self.queued; senders = self.senders } }
     {
-        let HubLeft {
-            left,
-            queued: _queued,
-        } = self;
-        left
+        let HubLeft { left, queued } = self;
+        (left, queued)
     }
 }

@@ -69,7 +69,7 @@ fn receipts_are_found_in_what_is_left(rt: HostRuntime) {
     let (store, release) = Reserved::of(new_store(&host, alloc));
     match with_hub(&rt, alloc, store, 1, Registers) {
         Ok(((first, second), end, left)) => {
-            let mut left = left.into_left();
+            let (mut left, _queued) = left.into_parts();
             left.prove_committed(first);
             left.prove_committed(second);
             let device = end.into_device(release);
