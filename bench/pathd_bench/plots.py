@@ -2,12 +2,12 @@
 
     bench/pathd-bench plots CSV FOLDER
 
-FOLDER gets KIND.svg for each kind of figures: bars up to the median, with a line from the least to
-the greatest, over an axis of logarithms. The tables are Markdown, on standard output. For each
-figure and program they have the median, with the least and the greatest in brackets, and how many
-times the figure of pathd is that of each other program, as the median of the ratios of each round.
-Of percentiles they have the medians of three alone. A last line has the load of
-the machine, from the least to the greatest.
+FOLDER gets KIND.svg for each of the kinds of figures that docs/BENCHMARKS.md has a plot of: bars up to
+the median, with a line from the least to the greatest, over an axis of logarithms. The tables are
+Markdown, on standard output. For each figure and program they have the median, with the least and
+the greatest in brackets, and how many times the figure of pathd is that of each other program, as
+the median of the ratios of each round. Of percentiles they have the medians of three alone. A last
+line has the load of the machine, from the least to the greatest.
 """
 from __future__ import annotations
 
@@ -35,6 +35,10 @@ TITLES = {
     "once": "`once`",
     "growth": "Growth",
 }
+
+
+# The kinds that have a plot.
+DRAWN = ("registrations", "lookups", "latencies", "checkpoints", "opening")
 
 
 @dataclass(frozen=True)
@@ -225,8 +229,11 @@ def main(words: list[str]) -> int:
     print(*about, sep="\n\n")
     for kind in dict.fromkeys(place.kind for place in figures):
         title = TITLES.get(kind, kind)
-        draw_bars(title, panels(kind, figures)).write(options.folder / f"{kind}.svg")
-        print("", f"## {title}", "", f"![{title}]({kind}.svg)", "", *table(kind, figures), sep="\n")
+        picture = []
+        if kind in DRAWN:
+            draw_bars(title, panels(kind, figures)).write(options.folder / f"{kind}.svg")
+            picture = [f"![{title}]({kind}.svg)", ""]
+        print("", f"## {title}", "", *picture, *table(kind, figures), sep="\n")
     loads = [raw.load for raws in figures.values() for raw in raws]
     print("", f"The load was {min(loads):.0f} to {max(loads):.0f}.", sep="\n")
     return 0
