@@ -63,8 +63,8 @@ serves_left start store begun found some left queued trace file end last is begi
     let of_found : LeftView = record { table = found.table; log = found.log; acknowledged = found.acknowledged; looked = found.looked } in
     let of_queue : QueuedView = record { history = found.queued; senders = found.senders } in
     let whole : trace ≡ (record { start = store; left = of_found; end = end }) =
-      made ∙ ap (λ s. record { start = s; left = left; end = last }) begins ∙ ap (λ l. record { start = store; left = l; end = last }) parts
-      ∙ ap (λ d. record { start = store; left = of_found; end = d }) ends in
+    made ∙ ap (λ s. record { start = s; left = left; end = last }) begins ∙ ap (λ l. record { start = store; left = l; end = last }) parts
+    ∙ ap (λ d. record { start = store; left = of_found; end = d }) ends in
     subst (λ (t : ServerView). ServesFile start t queued file end) (sym whole)
     (subst (λ (q : QueuedView). ServesFile start (record { start = store; left = of_found; end = end }) q file end) (sym others)
     (serves_file start store of_found of_queue file end opened alike
